@@ -1,0 +1,80 @@
+-- What a command asks for: the status and the text that the contents of its files give.
+use Rattle.std.specs.Prelude.{◌≡◌, ℕ, true, List, Option, Some, None, codes}
+use Rattle.bv_core.specs.Value.{Bits}
+use Rattle.gen_text.specs.declared.Module.{Module}
+use Rattle.gen_text.specs.Source.{Reads}
+use Rattle.design_core.specs.Trail.{Place}
+use Rattle.design_core.specs.TrailText.{trail_text}
+use Rattle.first_form.specs.Form.{is_first_form}
+use Rattle.first_form.specs.Elaborated.{design_of}
+use Rattle.first_form.specs.Rows.{inputs_of, rows_of}
+use Rattle.first_form.specs.Runs.{GivesRows}
+use Rattle.dbg_app.specs.Command.{Row}
+
+-- a status, and the text that goes with it
+pub record Answer : Type 0 where
+  pub status : ℕ
+  pub text : List ℕ
+
+-- the lines of refusals
+abbrev pub usage_fault : List ℕ
+usage_fault = codes "usage fault\n"
+
+abbrev pub design_fault : List ℕ
+design_fault = codes "design fault 0 NotYet\n"
+
+abbrev pub stimulus_fault : List ℕ
+stimulus_fault = codes "stimulus fault 0 NotYet\n"
+
+-- the bytes of each file by its name
+abbrev pub Contents : Type 0
+Contents = List ℕ → Option (List ℕ)
+
+-- the text is a source of the first form, whose module this is
+pub record IsDesign (top source : List ℕ) (tree : Module) : Type 0 where
+  pub reads : Reads source tree
+  pub form : is_first_form top tree ≡ true
+
+-- the source is refused: its text is no source of the first form
+pub record RefusesDesign (files : Contents) (row : Row) (answer : Answer) : Type 0 where
+  pub source : List ℕ
+  pub found : files row.source ≡ Some source
+  pub none : (tree : Module) → IsDesign row.top source tree → ⊥
+  pub is : answer ≡ record { status = 3; text = design_fault }
+
+-- the source is a design, and the stimulus is refused: it has no rows for the design's inputs
+pub record RefusesStimulus (files : Contents) (row : Row) (answer : Answer) : Type 0 where
+  pub source : List ℕ
+  pub found : files row.source ≡ Some source
+  pub tree : Module
+  pub design : IsDesign row.top source tree
+  pub stimulus : List ℕ
+  pub also_found : files row.stimulus ≡ Some stimulus
+  pub none : rows_of (inputs_of tree) stimulus ≡ None
+  pub is : answer ≡ record { status = 4; text = stimulus_fault }
+
+-- both are accepted: the text is the trail of a run that has the rows
+pub record ShowsTrail (files : Contents) (row : Row) (answer : Answer) : Type 0 where
+  pub source : List ℕ
+  pub found : files row.source ≡ Some source
+  pub tree : Module
+  pub design : IsDesign row.top source tree
+  pub stimulus : List ℕ
+  pub also_found : files row.stimulus ≡ Some stimulus
+  pub rows : List (List Bits)
+  pub read : rows_of (inputs_of tree) stimulus ≡ Some rows
+  pub run : List (Place → Bits)
+  pub gives : GivesRows (inputs_of tree) rows run
+  pub is : answer ≡ record { status = 0; text = trail_text (design_of tree) run }
+
+-- what a command asks for, where these are the files: the source is judged first, then the stimulus
+pub data Asks (files : Contents) (row : Row) (answer : Answer) : Type 0 where
+  NoDesign : RefusesDesign files row answer → Asks files row answer
+  NoStimulus : RefusesStimulus files row answer → Asks files row answer
+  Trail : ShowsTrail files row answer → Asks files row answer
+
+-- a fact of the files and the command, where the files are told and the words are a command
+abbrev pub IfAsked : Option Contents → Option Row → (Contents → Row → Type 0) → Type 0
+IfAsked (Some files) (Some row) P = P files row
+IfAsked (Some files) None P = Unit {0}
+IfAsked None row P = Unit {0}

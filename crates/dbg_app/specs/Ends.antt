@@ -1,0 +1,9 @@
+-- How a trail that was not written to its end stops a run.
+use Rattle.first_form.specs.declared.TrailEnd.{TrailEnd}
+use Rattle.first_form.specs.declared.TrailEnd.TheVariants as trail
+use Rattle.dbg_app.specs.declared.stop.Stop.{Stop}
+use Rattle.dbg_app.specs.declared.stop.Stop.TheVariants.{WriteFault, NoMemory}
+
+abbrev pub stop_of : TrailEnd → Stop
+stop_of trail.Failed = WriteFault
+stop_of trail.NoMemory = NoMemory

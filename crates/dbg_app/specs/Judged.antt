@@ -1,0 +1,71 @@
+-- What was judged is what is asked for.
+use Rattle.std.specs.Prelude.{◌≡◌, ◌<◌, ◌≤◌, ℕ, List, Option, Some, None, Vec, length}
+use Rattle.std.specs.declared.alloc.Global.{Global}
+use Rattle.io_edge.specs.Taken.{Appends, AppendsFront}
+use Rattle.bv_core.specs.Value.{Bits}
+use Rattle.gen_text.specs.declared.Module.{Module}
+use Rattle.design_core.specs.Trail.{Place}
+use Rattle.design_core.specs.TrailText.{trail_text}
+use Rattle.first_form.specs.Elaborated.{design_of}
+use Rattle.first_form.specs.Rows.{inputs_of, rows_of}
+use Rattle.first_form.specs.Runs.{AllFitInputs, GivesRows, HasRun}
+use Rattle.dbg_app.specs.Command.{Row}
+use Rattle.dbg_app.specs.Answers.{Contents, Asks, IsDesign, usage_fault, design_fault, stimulus_fault}
+use Rattle.dbg_app.specs.declared.judge.Judged.{Judged}
+use Rattle.dbg_app.specs.declared.judge.Judged.TheVariants.{NoCommand, NoDesign, NoStimulus, Accepted}
+
+-- what a read of a file of at most so many bytes found: its bytes, or that there are more
+abbrev pub Finds : Option (List ℕ) → ℕ → Option (Vec ℕ Global) → Type 0
+Finds file most (Some bytes) = (file ≡ Some bytes.items) × (length bytes.items ≤ most)
+Finds file most None = (bytes : List ℕ) × (file ≡ Some bytes) × (most < length bytes)
+
+-- the text is this design, or none
+abbrev pub IsDesignOrNone : List ℕ → List ℕ → Option Module → Type 0
+IsDesignOrNone top source (Some tree) = IsDesign top source tree
+IsDesignOrNone top source None = (tree : Module) → IsDesign top source tree → ⊥
+
+-- a source was judged: it is this design, or none
+abbrev pub JudgesSource : Option (List ℕ) → List ℕ → Option Module → Type 0
+JudgesSource file top (Some tree) = (source : List ℕ) × (file ≡ Some source) × IsDesign top source tree
+JudgesSource file top None = (source : List ℕ) × (file ≡ Some source) × ((tree : Module) → IsDesign top source tree → ⊥)
+
+-- a stimulus was judged: it has these rows, or none
+abbrev pub JudgesStimulus : Option (List ℕ) → Module → Option (Vec (List Bits) Global) → Type 0
+JudgesStimulus file tree (Some rows) = (text : List ℕ) × (file ≡ Some text) × (rows_of (inputs_of tree) text ≡ Some rows.items)
+JudgesStimulus file tree None = (text : List ℕ) × (file ≡ Some text) × (rows_of (inputs_of tree) text ≡ None)
+
+-- what was accepted has a run
+abbrev pub HasRows : Judged → Type 0
+HasRows NoCommand = Unit {0}
+HasRows NoDesign = Unit {0}
+HasRows NoStimulus = Unit {0}
+HasRows (Accepted form rows) = AllFitInputs (inputs_of form) rows.items × HasRun (inputs_of form) rows.items
+
+-- a command was judged as its files ask
+abbrev pub JudgesRow : Contents → Row → Judged → Type 0
+JudgesRow files row NoCommand = ⊥
+JudgesRow files row NoDesign = Asks files row (record { status = 3; text = design_fault })
+JudgesRow files row NoStimulus = Asks files row (record { status = 4; text = stimulus_fault })
+JudgesRow files row (Accepted form rows) =
+    (run : List (Place → Bits)) → GivesRows (inputs_of form) rows.items run → Asks files row (record { status = 0; text = trail_text (design_of form) run })
+
+-- the status that goes with what was judged
+abbrev pub judged_status : Judged → ℕ
+judged_status NoCommand = 2
+judged_status NoDesign = 3
+judged_status NoStimulus = 4
+judged_status (Accepted form rows) = 0
+
+-- the text that goes with what was judged: a fault line, or the trail of a run that has the rows
+abbrev pub IsTextOf : Judged → List ℕ → Type 0
+IsTextOf NoCommand text = text ≡ usage_fault
+IsTextOf NoDesign text = text ≡ design_fault
+IsTextOf NoStimulus text = text ≡ stimulus_fault
+IsTextOf (Accepted form rows) text = (run : List (Place → Bits)) × GivesRows (inputs_of form) rows.items run × (text ≡ trail_text (design_of form) run)
+
+-- the text that goes with what was judged was taken, or a front of it
+pub record TakesText (judged : Judged) (old new : Option (List ℕ)) : Type 0 where
+  pub taken : (text : List ℕ) → IsTextOf judged text → Appends old new text
+
+pub record TakesTextFront (judged : Judged) (old new : Option (List ℕ)) : Type 0 where
+  pub taken : (text : List ℕ) → IsTextOf judged text → AppendsFront old new text

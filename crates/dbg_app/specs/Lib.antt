@@ -1,0 +1,6 @@
+pub mod Command
+pub mod Answers
+pub mod Judged
+pub mod Outcome
+pub mod Ends
+pub mod Rows

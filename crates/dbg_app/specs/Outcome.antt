@@ -1,0 +1,44 @@
+-- How a run ends.
+use Rattle.std.specs.Prelude.{◌≡◌, ℕ, List, Bool, Option, ◌||◌, ◌==◌, ◌⊎◌}
+use Rattle.io_edge.specs.Faults.{Rose}
+use Rattle.io_edge.specs.Taken.{Appends, AppendsFront}
+use Rattle.dbg_app.specs.Command.{Row}
+use Rattle.dbg_app.specs.Answers.{Contents, Asks}
+use Rattle.dbg_app.specs.declared.stop.Stop.{Stop}
+use Rattle.dbg_app.specs.declared.stop.Stop.TheVariants.{ReadFault, WriteFault, NoMemory}
+
+-- the statuses that a run ends with
+abbrev pub is_status : ℕ → Bool
+is_status status = status == 0 || status == 2 || status == 3 || status == 4 || status == 7 || status == 8 || status == 9
+
+-- the statuses of a run whose words are no command
+abbrev pub is_usage_status : ℕ → Bool
+is_usage_status status = status == 2 || status == 8 || status == 9
+
+abbrev pub stop_status : Stop → ℕ
+stop_status ReadFault = 7
+stop_status WriteFault = 8
+stop_status NoMemory = 9
+
+-- the run ended with the answer that is asked for, and the sink took its whole text
+pub record EndsAsAsked (files : Contents) (row : Row) (status : ℕ) (old new : Option (List ℕ)) : Type 0 where
+  pub text : List ℕ
+  pub asked : Asks files row (record { status = status; text = text })
+  pub taken : Appends old new text
+
+-- the sink took a front of the text that is asked for
+pub record TakesFront (files : Contents) (row : Row) (old new : Option (List ℕ)) : Type 0 where
+  pub status : ℕ
+  pub text : List ℕ
+  pub asked : Asks files row (record { status = status; text = text })
+  pub taken : AppendsFront old new text
+
+-- nothing was taken, or a front of the text that is asked for
+abbrev pub TakesSome : Contents → Row → Option (List ℕ) → Option (List ℕ) → Type 0
+TakesSome files row old new = (new ≡ old) ⊎ TakesFront files row old new
+
+-- where the files ask for this text with status 0, and neither count has risen, the whole of it was taken with status 0,
+-- or memory ran out
+abbrev pub Completes : Contents → Row → ℕ → Option (List ℕ) → Option (List ℕ) → Type 0 → Type 0 → Type 0
+Completes files row status old new read_rose write_rose =
+    (text : List ℕ) → Asks files row (record { status = 0; text = text }) → (read_rose → ⊥) → (write_rose → ⊥) → ((status ≡ 0) × Appends old new text) ⊎ (status ≡ 9)

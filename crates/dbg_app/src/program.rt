@@ -1,0 +1,145 @@
+ghost use Rattle.std.specs.Prelude.{◌≡◌, ◌≤◌, ◌<◌, ◌⊎◌, None, IsTrue, OnOk, OnErr, IfOk, IsErrOf};
+ghost use Rattle.io_edge.specs.Faults.{Rose};
+ghost use Rattle.io_edge.specs.Taken.{Appends, AppendsFront};
+ghost use Rattle.dbg_app.specs.Command.{row_of, names_of};
+ghost use Rattle.dbg_app.specs.Answers.{usage_fault, design_fault, stimulus_fault, IfAsked};
+ghost use Rattle.dbg_app.specs.Judged.{HasRows, TakesText, TakesTextFront, judged_status};
+ghost use Rattle.dbg_app.specs.Outcome.{is_status, is_usage_status, EndsAsAsked, TakesSome, Completes};
+
+use crate::Stop;
+use crate::judge::{Judged, judge};
+use io_edge::{Files, Sink, Words};
+use std::alloc::Global;
+
+/// How a run ended: its status, which is 0, 2, 3, 4, 7, 8 or 9.
+#[derive(Clone, Copy, Debug, PartialEq, Eq)]
+pub struct Ended {
+    pub status: u8,
+}
+
+/// Does what the words say.
+///
+/// The one command is `trail keep SRC STIM TOP`. The files are read in the order of the words, and each is judged before
+/// the next is read. Nothing is written before all of them were judged.
+///
+/// | Status | Where | Output |
+/// |---|---|---|
+/// | 0 | none of the rest | the whole trail |
+/// | 2 | the words are no command | `usage fault` |
+/// | 3 | SRC is no source of the forms that are accepted today, or has not the module TOP | `design fault 0 NotYet` |
+/// | 4 | STIM has no rows for the design's inputs | `stimulus fault 0 NotYet` |
+/// | 7 | a file was not read | nothing |
+/// | 8 | the output failed | a front of it |
+/// | 9 | memory ran out | a front of it |
+pub fn run<F: Files, S: Sink>(alloc: Global, words: &Words, files: &mut F, out: &mut S) -> Ended
+    ensures statuses { IsTrue (is_status result.status) }
+
+    // The words are no command exactly where the status is 2, unless the output fails or memory runs out.
+    ensures usage { result.status ≡ 2 → row_of words.now ≡ None }
+    ensures no_command { row_of words.now ≡ None → IsTrue (is_usage_status result.status) }
+
+    // Each refusal has its line.
+    ensures usage_line { result.status ≡ 2 → Appends (S.taken out.old) (S.taken out.new) usage_fault }
+    ensures design_line { result.status ≡ 3 → Appends (S.taken out.old) (S.taken out.new) design_fault }
+    ensures stimulus_line { result.status ≡ 4 → Appends (S.taken out.old) (S.taken out.new) stimulus_fault }
+
+    // Where the files are told: the status and the whole text that they ask for.
+    ensures done { result.status < 7
+        → IfAsked (F.told files.old) (row_of words.now) (λ told row. EndsAsAsked told row result.status (S.taken out.old) (S.taken out.new)) }
+
+    // Where nothing fails and the files are accepted: the whole text, or want of memory.
+    ensures complete { IfAsked (F.told files.old) (row_of words.now) (λ told row.
+        Completes told row result.status (S.taken out.old) (S.taken out.new)
+          (Rose (F.fault_count files.old) (F.fault_count files.new)) (Rose (S.fault_count out.old) (S.fault_count out.new))) }
+
+    // The files that are asked for are those of the words, in their order.
+    ensures asked { AppendsFront (F.asked files.old) (F.asked files.new) (names_of (row_of words.now)) }
+
+    // A fault of the files, before anything was written.
+    ensures read { result.status ≡ 7 → Rose (F.fault_count files.old) (F.fault_count files.new) }
+    ensures nothing { result.status ≡ 7 → S.taken out.new ≡ S.taken out.old }
+
+    // A fault of the output, or want of memory: a front of the text.
+    ensures write { result.status ≡ 8 → Rose (S.fault_count out.old) (S.fault_count out.new) }
+    ensures front { 7 < result.status
+        → IfAsked (F.told files.old) (row_of words.now) (λ told row. TakesSome told row (S.taken out.old) (S.taken out.new)) }
+    ensures usage_front { row_of words.now ≡ None → AppendsFront (S.taken out.old) (S.taken out.new) usage_fault }
+{
+    act(alloc, words, files, out)
+}
+
+/// Judges the command, and writes the text that goes with it.
+fn act<F: Files, S: Sink>(alloc: Global, words: &Words, files: &mut F, out: &mut S) -> Ended
+    ensures statuses { IsTrue (is_status result.status) }
+    ensures usage { result.status ≡ 2 → row_of words.now ≡ None }
+    ensures no_command { row_of words.now ≡ None → IsTrue (is_usage_status result.status) }
+    ensures usage_line { result.status ≡ 2 → Appends (S.taken out.old) (S.taken out.new) usage_fault }
+    ensures design_line { result.status ≡ 3 → Appends (S.taken out.old) (S.taken out.new) design_fault }
+    ensures stimulus_line { result.status ≡ 4 → Appends (S.taken out.old) (S.taken out.new) stimulus_fault }
+    ensures done { result.status < 7
+        → IfAsked (F.told files.old) (row_of words.now) (λ told row. EndsAsAsked told row result.status (S.taken out.old) (S.taken out.new)) }
+    ensures asked { AppendsFront (F.asked files.old) (F.asked files.new) (names_of (row_of words.now)) }
+    ensures read { result.status ≡ 7 → Rose (F.fault_count files.old) (F.fault_count files.new) }
+    ensures nothing { result.status ≡ 7 → S.taken out.new ≡ S.taken out.old }
+    ensures write { result.status ≡ 8 → Rose (S.fault_count out.old) (S.fault_count out.new) }
+    ensures front { 7 < result.status
+        → IfAsked (F.told files.old) (row_of words.now) (λ told row. TakesSome told row (S.taken out.old) (S.taken out.new)) }
+    ensures usage_front { row_of words.now ≡ None → AppendsFront (S.taken out.old) (S.taken out.new) usage_fault }
+{
+    match judge(alloc, words, files) {
+        Ok(judged) => end(alloc, &judged, out),
+        Err(stop) => Ended {
+            status: stop.status(),
+        },
+    }
+}
+
+/// Writes the text that goes with what was judged.
+fn end<S: Sink>(alloc: Global, judged: &Judged, out: &mut S) -> Ended
+    requires { HasRows judged.now }
+    ensures statuses { IsTrue (is_status result.status) }
+    ensures status { result.status < 7 → result.status ≡ judged_status judged.now }
+    ensures done { result.status < 7 → TakesText judged.now (S.taken out.old) (S.taken out.new) }
+    ensures no_read { result.status ≡ 7 → ⊥ }
+    ensures write { result.status ≡ 8 → Rose (S.fault_count out.old) (S.fault_count out.new) }
+    ensures front { 7 < result.status → TakesTextFront judged.now (S.taken out.old) (S.taken out.new) }
+{
+    match write(alloc, judged, out) {
+        Ok(()) => Ended {
+            status: judged.status(),
+        },
+        Err(stop) => Ended {
+            status: stop.status(),
+        },
+    }
+}
+
+/// Writes the text that goes with what was judged.
+fn write<S: Sink>(alloc: Global, judged: &Judged, out: &mut S) -> Result<(), Stop>
+    requires { HasRows judged.now }
+    ensures ok { OnOk result (TakesText judged.now (S.taken out.old) (S.taken out.new)) }
+    ensures front { OnErr result (TakesTextFront judged.now (S.taken out.old) (S.taken out.new)) }
+    ensures write { IsErrOf result Stop.WriteFault → Rose (S.fault_count out.old) (S.fault_count out.new) }
+    ensures no_read { IsErrOf result Stop.ReadFault → ⊥ }
+{
+    match judged {
+        Judged::NoCommand => write_line("usage fault\n", out),
+        Judged::NoDesign => write_line("design fault 0 NotYet\n", out),
+        Judged::NoStimulus => write_line("stimulus fault 0 NotYet\n", out),
+        Judged::Accepted(form, rows) => {
+            form.write_trail(alloc, rows, out)?;
+            Ok(())
+        }
+    }
+}
+
+/// Writes a line.
+fn write_line<S: Sink>(line: &str, out: &mut S) -> Result<(), Stop>
+    ensures ok { OnOk result (Appends (S.taken out.old) (S.taken out.new) line.now) }
+    ensures front { OnErr result (AppendsFront (S.taken out.old) (S.taken out.new) line.now) }
+    ensures write { IsErrOf result Stop.WriteFault → Rose (S.fault_count out.old) (S.fault_count out.new) }
+    ensures no_read { IsErrOf result Stop.ReadFault → ⊥ }
+{
+    out.put(line.as_bytes())?;
+    Ok(())
+}

@@ -1,0 +1,5 @@
+pub mod Block
+pub mod Exec
+pub mod Trail
+pub mod TrailText
+pub mod Sample

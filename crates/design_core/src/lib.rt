@@ -1,0 +1,12 @@
+//! The elaborated design, and what its execution statement by statement means.
+//!
+//! Blocks (`specs/Block.antt`), their execution (`specs/Exec.antt`), positions and threads (`specs/Trail.antt`) and
+//! the text of a trail (`specs/TrailText.antt`) are definitions alone; the crates above state their contracts by them.
+#![tactic(auto)]
+
+ghost use Rattle.design_core.specs.Sample.{sample_is_walked};
+
+/// The definitions give a small straight-line design, computed by hand, the trail that it has.
+pub fn walks_the_sample()
+    ensures { sample_is_walked }
+{}

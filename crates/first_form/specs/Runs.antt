@@ -1,0 +1,34 @@
+-- Rows as the values of the inputs, cycle by cycle.
+use Rattle.std.specs.Prelude.{◌≡◌, List, [], ◌∷◌}
+use Rattle.bv_core.specs.Value.{Bits}
+use Rattle.design_core.specs.Trail.{Place}
+use Rattle.first_form.specs.declared.signal.Signal.{Signal}
+
+-- a row has one value for each input, of its width
+abbrev pub FitsInputs : List Signal → List Bits → Type 0
+FitsInputs [] [] = Unit {0}
+FitsInputs [] (value ∷ values) = ⊥
+FitsInputs (input ∷ inputs) [] = ⊥
+FitsInputs (input ∷ inputs) (value ∷ values) = (value.width ≡ input.width) × FitsInputs inputs values
+
+abbrev pub AllFitInputs : List Signal → List (List Bits) → Type 0
+AllFitInputs inputs [] = Unit {0}
+AllFitInputs inputs (row ∷ rows) = FitsInputs inputs row × AllFitInputs inputs rows
+
+-- the inputs of the one instance have the values of the row
+abbrev pub GivesRow : List Signal → List Bits → (Place → Bits) → Type 0
+GivesRow [] [] settled = Unit {0}
+GivesRow [] (value ∷ values) settled = ⊥
+GivesRow (input ∷ inputs) [] settled = ⊥
+GivesRow (input ∷ inputs) (value ∷ values) settled = (settled (record { instance = 0; name = input.name }) ≡ value) × GivesRow inputs values settled
+
+-- the values of a run, whose cycles have the rows in order
+abbrev pub GivesRows : List Signal → List (List Bits) → List (Place → Bits) → Type 0
+GivesRows inputs [] [] = Unit {0}
+GivesRows inputs [] (settled ∷ run) = ⊥
+GivesRows inputs (row ∷ rows) [] = ⊥
+GivesRows inputs (row ∷ rows) (settled ∷ run) = GivesRow inputs row settled × GivesRows inputs rows run
+
+-- some run has the rows
+abbrev pub HasRun : List Signal → List (List Bits) → Type 0
+HasRun inputs rows = (run : List (Place → Bits)) × GivesRows inputs rows run

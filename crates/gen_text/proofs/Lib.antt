@@ -1,0 +1,6 @@
+pub mod Bytes
+pub mod Loops
+pub mod Only
+pub mod Readings
+pub mod Steps
+pub mod Takes

@@ -1,0 +1,9 @@
+pub mod Beginnings
+pub mod Fronts
+pub mod OneList
+pub mod ReadMark
+pub mod ReadName
+pub mod ReadNumber
+pub mod ReadToken
+pub mod Runs
+pub mod Searches

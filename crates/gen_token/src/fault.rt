@@ -1,0 +1,38 @@
+ghost use Rattle.std.specs.Prelude.{◌≡◌};
+ghost use Rattle.gen_token.specs.declared.fault.TokenFault.TheVariants as faults;
+
+use std::alloc::{AllocError, AllocFailed};
+use text_core::NoMemory;
+
+/// Why a text gave no tokens.
+#[derive(Clone, Copy, Debug, PartialEq, Eq)]
+pub enum TokenFault {
+    /// No token begins at some place of the text. This is the line of the first such place; lines count from 1.
+    BadToken { line: u32 },
+    /// Want of memory.
+    NoMemory,
+}
+
+impl From<NoMemory> for TokenFault {
+    ghost from_gives = { λ _ e. e ≡ faults.NoMemory };
+
+    fn from(_: NoMemory) -> Self {
+        TokenFault::NoMemory
+    }
+}
+
+impl From<AllocError> for TokenFault {
+    ghost from_gives = { λ _ e. e ≡ faults.NoMemory };
+
+    fn from(_: AllocError) -> Self {
+        TokenFault::NoMemory
+    }
+}
+
+impl<T: Drop> From<AllocFailed<T>> for TokenFault {
+    ghost from_gives = { λ _ e. e ≡ faults.NoMemory };
+
+    fn from(_: AllocFailed<T>) -> Self {
+        TokenFault::NoMemory
+    }
+}

@@ -1,0 +1,82 @@
+//! The program `hgdb`.
+//!
+//! It makes the words of the command line and the adapters of the system, calls `dbg_app::run`, and ends with its status.
+//! Standard output has what `run` writes; a hint after a usage fault goes to standard error.
+#![tactic(auto)]
+
+use dbg_app::run;
+use io_edge::{Sink, StdFiles, StdSink, Words};
+use std::io::ErrorKind;
+use std::process::ExitCode;
+use std::rt::Env;
+use std::{env, io};
+use text_core::NoMemory;
+
+const VERSION: &str = "hgdb 0.1.0\n";
+
+const HELP: &str = "\
+hgdb shows what a hardware design does, statement by statement of its source.
+
+Usage:
+  hgdb trail keep SRC STIM TOP   print each executed statement with the variables before it
+  hgdb --help                    print this text
+  hgdb --version                 print the version
+
+SRC is a source file, STIM a stimulus file, TOP the module to run.
+
+Exit status: 0 all was printed; 2 the words are no command; 3 the source is refused; 4 the stimulus is refused;
+7 a file was not read; 8 the output failed; 9 memory ran out.
+";
+
+/// The words of the command line without the program's name. Where a word is not UTF-8 there are none.
+fn words(rt: &(impl Env + AllocGlobal)) -> Result<Words, NoMemory> {
+    let mut words = Words::new(rt.alloc());
+    let args = match env::args(rt) {
+        Ok(args) => args,
+        Err(error) if error.kind() == ErrorKind::OutOfMemory => return Err(NoMemory),
+        Err(_) => return Ok(words),
+    };
+    for (place, arg) in args.enumerate() {
+        if place > 0 {
+            words.add(arg.as_str())?;
+        }
+    }
+    Ok(words)
+}
+
+/// The text that the first word asks for, where it is `--help` or `--version`.
+fn text_asked_for(words: &Words) -> Option<&'static str> {
+    if words.count() == 0 {
+        return None;
+    }
+    match words.word(0) {
+        "--help" => Some(HELP),
+        "--version" => Some(VERSION),
+        _ => None,
+    }
+}
+
+/// Prints a text, and gives the status.
+fn print_text(rt: &impl Print, text: &str) -> u8 {
+    match StdSink::new(rt).put(text.as_bytes()) {
+        Ok(()) => 0,
+        Err(_) => 8,
+    }
+}
+
+fn main(rt: HostRuntime) -> io::Result<ExitCode> {
+    let Ok(words) = words(&rt) else {
+        return Ok(ExitCode::from(9));
+    };
+    if let Some(text) = text_asked_for(&words) {
+        return Ok(ExitCode::from(print_text(&rt, text)));
+    }
+    let mut files = StdFiles::new(&rt);
+    let mut out = StdSink::new(&rt);
+    let ended = run(rt.alloc(), &words, &mut files, &mut out);
+    if ended.status == 2 {
+        // A standard error that fails changes nothing.
+        let _ = eprintln!(rt; "hgdb: `hgdb --help` tells the commands");
+    }
+    Ok(ExitCode::from(ended.status))
+}

@@ -1,0 +1,5 @@
+pub mod Faults
+pub mod Files
+pub mod MemoryFiles
+pub mod MemorySink
+pub mod Taken

@@ -1,0 +1,19 @@
+//! What a program works on outside of it: files to read and a sink to write to, by what they mean.
+//!
+//! The traits tell their meanings where they can: the forms in memory tell them all, and the adapters over the system
+//! tell nothing of content.
+#![tactic(auto)]
+
+mod files;
+mod memory_files;
+mod memory_sink;
+mod sink;
+mod system;
+mod words;
+
+pub use files::{FileEnd, Files};
+pub use memory_files::MemFiles;
+pub use memory_sink::MemSink;
+pub use sink::{Failed, Sink};
+pub use system::{StdFiles, StdSink};
+pub use words::Words;
