@@ -1,14 +1,11 @@
 -- How a run ends, from what was judged and written.
-use Rattle.std.proofs.Common.{◌≡◌, ◌<◌, ◌≤◌, ℕ, Bool, true, false, ◌||◌, ◌&&◌, ◌==◌, bytes_eq, nat_lt, lit<, List, [], Option, Some, None, refl, sym, ◌∙◌, ap, subst, IsTrue, ◌⊎◌, inl, inr, append-nil, arith}
+use Rattle.std.proofs.Common.{◌≡◌, ◌<◌, ℕ, Bool, true, false, ◌||◌, ◌&&◌, ◌==◌, bytes_eq, nat_lt, lit<, List, [], Option, Some, None, refl, sym, ◌∙◌, ap, subst, IsTrue, ◌⊎◌, inl, inr, append-nil, arith}
 use Rattle.std.proofs.lemmas.Bool.Decides.{nat_tests}
-use Rattle.bv_core.specs.Value.{Bits}
-use Rattle.io_edge.specs.Taken.{Appends, AppendsFront}
+use Rattle.io_edge.specs.Taken.{AppendsFront}
 use Rattle.io_edge.proofs.Growth.{front_from_whole}
 use Rattle.gen_text.specs.declared.Module.{Module}
-use Rattle.gen_text.specs.Source.{Reads}
-use Rattle.design_core.specs.Trail.{Place}
 use Rattle.design_core.specs.TrailText.{trail_text}
-use Rattle.first_form.specs.Form.{is_form, is_first_form}
+use Rattle.first_form.specs.Form.{is_form}
 use Rattle.first_form.specs.Elaborated.{design_of}
 use Rattle.first_form.specs.Rows.{inputs_of, rows_of}
 use Rattle.first_form.specs.Runs.{GivesRows}
@@ -39,28 +36,30 @@ pub late_status : (status : ℕ) → is_status status ≡ true → (status < 7) 
 late_status status e = elim (test (nat_lt status 7)) [
   | inl early ↦ inl (grind (arith, nat_tests, early))
   | inr late ↦ inr (last late (either _ (status == 9) e))
-  ]
+]
   where
     early_not : (n : ℕ) → n < 7 → nat_lt status 7 ≡ false → (status == n) ≡ true → ⊥
     early_not n h late is = let same : status ≡ n = same_number status n is in let low : nat_lt status 7 ≡ true = rw same (grind (arith, nat_tests)) in cc
+
     seven : nat_lt status 7 ≡ false → ((status == 0 || status == 2 || status == 3 || status == 4 || status == 7) ≡ true) → status ≡ 7
     seven late e = elim (either _ (status == 7) e) [
       | inl early ↦ absurd (
-        elim (either _ (status == 4) early) [
-          | inl one ↦ elim (either _ (status == 3) one) [
-            | inl two ↦ elim (either (status == 0) (status == 2) two) [ inl is ↦ early_not 0 (lit< tt) late is | inr is ↦ early_not 2 (lit< tt) late is ]
-            | inr is ↦ early_not 3 (lit< tt) late is
+          elim (either _ (status == 4) early) [
+            | inl one ↦ elim (either _ (status == 3) one) [
+              | inl two ↦ elim (either (status == 0) (status == 2) two) [ inl is ↦ early_not 0 (lit< tt) late is | inr is ↦ early_not 2 (lit< tt) late is ]
+              | inr is ↦ early_not 3 (lit< tt) late is
             ]
-          | inr is ↦ early_not 4 (lit< tt) late is
-        ])
+            | inr is ↦ early_not 4 (lit< tt) late is
+          ])
       | inr is ↦ same_number status 7 is
-      ]
+    ]
+
     last : nat_lt status 7 ≡ false → ((status == 0 || status == 2 || status == 3 || status == 4 || status == 7 || status == 8) ≡ true) ⊎ ((status == 9) ≡ true) → (status ≡ 7) ⊎ ((status ≡ 8) ⊎ (status ≡ 9))
     last late (inr is) = inr (inr (same_number status 9 is))
     last late (inl others) = elim (either _ (status == 8) others) [
       | inl more ↦ inl (seven late more)
       | inr is ↦ inr (inl (same_number status 8 is))
-      ]
+    ]
 
 -- ---- no command
 
@@ -70,7 +69,7 @@ usage_taken status judged old new known is early seven late = elim (late_status 
   | inr (inl e) ↦ absurd (seven e)
   | inr (inr (inl e)) ↦ (rw is at (late (rw e (lit< tt)))).taken usage_fault refl
   | inr (inr (inr e)) ↦ (rw is at (late (rw e (lit< tt)))).taken usage_fault refl
-  ]
+]
 
 -- ---- one answer
 
@@ -132,13 +131,13 @@ completes : (files : Contents) (row : Row) (status : ℕ) (old new : Option (Lis
 completes files row status old new read_rose write_rose known done read write = λ text asks no_read no_write.
     elim (late_status status known) [
       | inl h ↦
-        let e = done h in
-        let same : record { status = status; text = e.text } ≡ record { status = 0; text = text } = one_answer files row (record { status = status; text = e.text }) (record { status = 0; text = text }) e.asked asks in
-        inl (ap (λ (a : Answer). a.status) same, rw (← ap (λ (a : Answer). a.text) same) e.taken)
+          let e = done h in
+          let same : record { status = status; text = e.text } ≡ record { status = 0; text = text } = one_answer files row (record { status = status; text = e.text }) (record { status = 0; text = text }) e.asked asks in
+          inl (ap (λ (a : Answer). a.status) same, rw (← ap (λ (a : Answer). a.text) same) e.taken)
       | inr (inl e) ↦ absurd (no_read (read e))
       | inr (inr (inl e)) ↦ absurd (no_write (write e))
       | inr (inr (inr e)) ↦ inr e
-      ]
+    ]
 
 pub completes_if_asked : (told : Option Contents) (row : Option Row) (status : ℕ) (old new : Option (List ℕ)) (read_rose write_rose : Type 0) → IsTrue (is_status status) → (status < 7 → IfAsked told row (λ files row. EndsAsAsked files row status old new)) → (status ≡ 7 → read_rose) → (status ≡ 8 → write_rose)
     → IfAsked told row (λ files row. Completes files row status old new read_rose write_rose)

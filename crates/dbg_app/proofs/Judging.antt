@@ -1,18 +1,18 @@
 -- What was judged, file by file, is what the command asks for.
-use Rattle.std.proofs.Common.{◌≡◌, ◌<◌, ◌≤◌, ℕ, Bool, true, false, List, Option, Some, None, Vec, IfSome, refl, sym, ◌∙◌, ap, subst, length, arith, if◌then◌else◌}
+use Rattle.std.proofs.Common.{◌≡◌, ℕ, Bool, true, false, List, Option, Some, None, Vec, IfSome, refl, subst, if◌then◌else◌}
 use Rattle.std.specs.declared.alloc.Global.{Global}
 use Rattle.bv_core.specs.Value.{Bits}
 use Rattle.gen_text.specs.declared.Module.{Module}
 use Rattle.gen_text.specs.Source.{Reads}
 use Rattle.gen_text.proofs.Readings.{one}
 use Rattle.first_form.specs.Form.{is_first_form}
-use Rattle.first_form.specs.Rows.{inputs_of, rows_of}
+use Rattle.first_form.specs.Rows.{inputs_of}
 use Rattle.dbg_app.specs.Command.{Row}
 use Rattle.design_core.specs.Trail.{Place}
 use Rattle.design_core.specs.TrailText.{trail_text}
 use Rattle.first_form.specs.Elaborated.{design_of}
 use Rattle.first_form.specs.Runs.{GivesRows}
-use Rattle.dbg_app.specs.Answers.{IsDesign, Contents, Asks, Trail}
+use Rattle.dbg_app.specs.Answers.{Contents, Asks, Trail}
 use Rattle.dbg_app.specs.Judged.{IsDesignOrNone, JudgesSource, JudgesStimulus}
 
 accepted_by : (b : Bool) (top source : List ℕ) (tree : Module) (found : Option Module) → Reads source tree → is_first_form top tree ≡ b → found ≡ (if b then Some tree else None) → IsDesignOrNone top source found

@@ -1,6 +1,5 @@
 -- How a run ends.
 use Rattle.std.specs.Prelude.{◌≡◌, ℕ, List, Bool, Option, ◌||◌, ◌==◌, ◌⊎◌}
-use Rattle.io_edge.specs.Faults.{Rose}
 use Rattle.io_edge.specs.Taken.{Appends, AppendsFront}
 use Rattle.dbg_app.specs.Command.{Row}
 use Rattle.dbg_app.specs.Answers.{Contents, Asks}

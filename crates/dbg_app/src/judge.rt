@@ -112,11 +112,7 @@ fn judge_source<F: Files>(
 }
 
 /// The rows of a stimulus, where it has rows for the design's inputs.
-fn rows_of(
-    alloc: Global,
-    text: &[u8],
-    form: &FirstForm,
-) -> Result<Option<Vec<Listed<Bv>>>, Stop>
+fn rows_of(alloc: Global, text: &[u8], form: &FirstForm) -> Result<Option<Vec<Listed<Bv>>>, Stop>
     ensures rows { IfOk result (λ rows. option_map (λ rows. rows.items) rows ≡ rows_of (inputs_of form.now) text.now) }
     ensures fit { IfOk result (λ rows. IfSome rows (λ rows. AllFitInputs (inputs_of form.now) rows.items × HasRun (inputs_of form.now) rows.items)) }
     ensures no_read { IsErrOf result Stop.ReadFault → ⊥ }
