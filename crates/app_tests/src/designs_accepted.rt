@@ -2,7 +2,9 @@
 
 use crate::outcome::trail;
 use crate::worked_example::{STIMULUS, TEXT, padded_source};
+use std::alloc::Global;
 use std::test::Fail;
+use text_core::NoMemory;
 
 /// Sources that are accepted: the top module, the source, its stimulus and the text.
 static ACCEPTED: [(&str, &str, &str, &str); 8] = [
@@ -63,19 +65,32 @@ static ACCEPTED: [(&str, &str, &str, &str); 8] = [
     ),
 ];
 
-#[test]
-fn sources_that_are_accepted_have_their_lines(rt: HostRuntime) -> Result<(), Fail> {
-    for (i, (top, source, stimulus, text)) in ACCEPTED.iter().enumerate() {
-        let outcome = trail(rt.alloc(), source.as_bytes(), stimulus.as_bytes(), top)?;
-        assert!(rt; outcome.is(0, text, &["P.hg", "P.stim"])?, "case {i}");
-    }
-    Ok(())
+/// Whether a source is accepted with this top module, and has this text over the stimulus.
+fn has_text(
+    alloc: Global,
+    top: &str,
+    source: &str,
+    stimulus: &str,
+    text: &str,
+) -> Result<bool, NoMemory> {
+    let outcome = trail(alloc, source.as_bytes(), stimulus.as_bytes(), top)?;
+    outcome.is(0, text, &["P.hg", "P.stim"])
+}
+
+/// Whether the source of the worked example has its text where it has as many bytes as a source may have.
+fn has_text_where_longest(alloc: Global) -> Result<bool, NoMemory> {
+    let source = padded_source(alloc, 1_048_576)?;
+    let outcome = trail(alloc, &source, STIMULUS.as_bytes(), "P")?;
+    outcome.is(0, TEXT, &["P.hg", "P.stim"])
 }
 
 #[test]
-fn the_longest_source_is_accepted(rt: HostRuntime) -> Result<(), Fail> {
-    let source = padded_source(rt.alloc(), 1_048_576)?;
-    let outcome = trail(rt.alloc(), &source, STIMULUS.as_bytes(), "P")?;
-    assert!(rt; outcome.is(0, TEXT, &["P.hg", "P.stim"])?);
+fn sources_that_are_accepted_have_their_lines(rt: HostRuntime) -> Result<(), Fail> {
+    for (i, (top, source, stimulus, text)) in ACCEPTED.iter().enumerate() {
+        let has_its_text = has_text(rt.alloc(), top, source, stimulus, text)?;
+        assert!(rt; has_its_text, "case {i}");
+    }
+    let has_its_text = has_text_where_longest(rt.alloc())?;
+    assert!(rt; has_its_text);
     Ok(())
 }

@@ -142,8 +142,8 @@ fn is_refused(alloc: Global, source: &[u8]) -> Result<bool, NoMemory> {
     outcome.is(3, "design fault 0 NotYet\n", &["P.hg"])
 }
 
-/// Whether a source of a byte more than is accepted is refused.
-fn is_too_long_refused(alloc: Global) -> Result<bool, NoMemory> {
+/// Whether the source of the worked example is refused where it has a byte more than a source may have.
+fn is_refused_where_too_long(alloc: Global) -> Result<bool, NoMemory> {
     let source = padded_source(alloc, 1_048_577)?;
     is_refused(alloc, &source)
 }
@@ -153,8 +153,10 @@ fn sources_that_are_not_accepted_are_refused_before_the_stimulus_is_asked_for(
     rt: HostRuntime,
 ) -> Result<(), Fail> {
     for (why, source) in &REFUSED {
-        assert!(rt; is_refused(rt.alloc(), source)?, "{why}");
+        let refused = is_refused(rt.alloc(), source)?;
+        assert!(rt; refused, "{why}");
     }
-    assert!(rt; is_too_long_refused(rt.alloc())?);
+    let refused = is_refused_where_too_long(rt.alloc())?;
+    assert!(rt; refused);
     Ok(())
 }

@@ -1,8 +1,8 @@
 //! Files that are not read, and sinks that fail.
 
-use crate::outcome::{AMPLE_ROOM, Outcome, ample_sink, command_of, outcome_of};
-use crate::worked_example::{FIRST_LINE, TEXT, worked_files};
-use io_edge::{MemSink, Words};
+use crate::outcome::{ample_sink, command_of, outcome_of, words_of};
+use crate::worked_example::worked_files;
+use io_edge::MemSink;
 use std::alloc::Global;
 use std::test::Fail;
 use text_core::NoMemory;
@@ -15,16 +15,19 @@ static FAILING_FILES: [(&str, &str, &[u64], &[&str]); 4] = [
     ("P.hg", "other", &[], &["P.hg", "P.stim"]),
 ];
 
-/// Runs the command of the worked example over files of these names, some of whose reads fail.
-fn run_over(
+/// Whether the command of the worked example ends before a byte is written, and has asked for these names, where the
+/// files have other names or a read fails.
+fn ends_unread(
     alloc: Global,
     source: &str,
     stimulus: &str,
     failing: &[u64],
-) -> Result<Outcome, NoMemory> {
+    asked: &[&str],
+) -> Result<bool, NoMemory> {
     let words = command_of(alloc, "P")?;
     let files = worked_files(alloc, source, stimulus, failing)?;
-    Ok(outcome_of(alloc, &words, files, ample_sink(alloc)?))
+    let outcome = outcome_of(alloc, &words, files, ample_sink(alloc)?);
+    outcome.is(7, "", asked)
 }
 
 #[test]
@@ -32,48 +35,71 @@ fn a_file_that_is_not_read_ends_the_run_before_a_byte_is_written(
     rt: HostRuntime,
 ) -> Result<(), Fail> {
     for (i, (source, stimulus, failing, asked)) in FAILING_FILES.iter().enumerate() {
-        let outcome = run_over(rt.alloc(), source, stimulus, failing)?;
-        assert!(rt; outcome.is(7, "", asked)?, "case {i}");
+        let ends_unread = ends_unread(rt.alloc(), source, stimulus, failing, asked)?;
+        assert!(rt; ends_unread, "case {i}");
     }
     Ok(())
 }
 
-/// The number of the put that fails, the room of the sink, and how much of the text is taken at least.
-static FAILING_SINKS: [(&[u64], usize, usize); 3] =
-    [(&[0], AMPLE_ROOM, 0), (&[1], AMPLE_ROOM, 29), (&[], 10, 0)];
+/// The words, the number of the put that fails, the room of the sink, what is taken at least, and the whole text.
+static FAILING_SINKS: [(&[&str], &[u64], usize, &str, &str); 4] = [
+    (
+        &["trail", "keep", "P.hg", "P.stim", "P"],
+        &[0],
+        1000,
+        "",
+        "0 6 P a=4'hf y=unset t=unset\n0 7 P a=4'hf y=unset t=4'h0\n",
+    ),
+    (
+        &["trail", "keep", "P.hg", "P.stim", "P"],
+        &[1],
+        1000,
+        "0 6 P a=4'hf y=unset t=unset\n",
+        "0 6 P a=4'hf y=unset t=unset\n0 7 P a=4'hf y=unset t=4'h0\n",
+    ),
+    (
+        &["trail", "keep", "P.hg", "P.stim", "P"],
+        &[],
+        10,
+        "",
+        "0 6 P a=4'hf y=unset t=unset\n0 7 P a=4'hf y=unset t=4'h0\n",
+    ),
+    (&[], &[0], 1000, "", "usage fault\n"),
+];
 
-/// Runs these words over the files of the worked example and a sink that fails.
-fn run_into(
+/// Whether these words end since the sink fails, after a front of the text that is not the whole of it and begins so.
+fn ends_within(
     alloc: Global,
-    words: &Words,
-    failing: &[u64],
-    room: usize,
-) -> Result<Outcome, NoMemory> {
+    words: &[&str],
+    out: MemSink,
+    front: &str,
+    text: &str,
+) -> Result<bool, NoMemory> {
+    let words = words_of(alloc, words)?;
     let files = worked_files(alloc, "P.hg", "P.stim", &[])?;
-    let out = MemSink::new(alloc, room, failing.to_vec(alloc)?)?;
-    Ok(outcome_of(alloc, words, files, out))
-}
-
-/// Whether the run ended since the sink failed, after a front of the text that has at least so many bytes and is not the
-/// whole of it.
-fn ends_within(outcome: &Outcome, least: usize, text: &str) -> Result<bool, NoMemory> {
+    let outcome = outcome_of(alloc, &words, files, out);
     if outcome.status == 9 && outcome.takes_front(text) {
         return Err(NoMemory);
     }
-    let taken = outcome.out.bytes().len();
-    Ok(outcome.status == 8 && outcome.takes_front(text) && least <= taken && taken < text.len())
+    Ok(
+        outcome.status == 8
+            && outcome.out.bytes().starts_with(front.as_bytes())
+            && outcome.takes_front(text)
+            && outcome.out.bytes().len() < text.len(),
+    )
+}
+
+/// A sink that has so much room, and some of whose puts fail.
+fn failing_sink(alloc: Global, failing: &[u64], room: usize) -> Result<MemSink, NoMemory> {
+    MemSink::new(alloc, room, failing.to_vec(alloc)?)
 }
 
 #[test]
 fn a_sink_that_fails_ends_the_run_within_the_text(rt: HostRuntime) -> Result<(), Fail> {
-    assert_eq!(rt; FIRST_LINE.len(), 29);
-    for (i, (failing, room, least)) in FAILING_SINKS.iter().enumerate() {
-        let words = command_of(rt.alloc(), "P")?;
-        let outcome = run_into(rt.alloc(), &words, failing, *room)?;
-        assert!(rt; ends_within(&outcome, *least, TEXT)?, "case {i}");
+    for (i, (words, failing, room, front, text)) in FAILING_SINKS.iter().enumerate() {
+        let out = failing_sink(rt.alloc(), failing, *room)?;
+        let ends_within = ends_within(rt.alloc(), words, out, front, text)?;
+        assert!(rt; ends_within, "case {i}");
     }
-    let no_words = Words::new(rt.alloc());
-    let refused = run_into(rt.alloc(), &no_words, &[0], AMPLE_ROOM)?;
-    assert!(rt; ends_within(&refused, 0, "usage fault\n")?);
     Ok(())
 }

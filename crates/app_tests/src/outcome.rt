@@ -99,10 +99,12 @@ impl Outcome {
         if self.status == 9 && self.takes_front(text) && self.asks_front(asked) {
             return Err(NoMemory);
         }
-        Ok(self.status == status
-            && self.out.bytes() == text.as_bytes()
-            && self.files.asked().len() == asked.len()
-            && self.asks_front(asked))
+        Ok(
+            self.status == status
+                && self.out.bytes() == text.as_bytes()
+                && self.files.asked().len() == asked.len()
+                && self.asks_front(asked),
+        )
     }
 
     /// Whether the sink took a front of the text.
@@ -112,8 +114,11 @@ impl Outcome {
 
     /// Whether the files that were asked for are a front of these.
     fn asks_front(&self, asked: &[&str]) -> bool {
-        let mut pairs = self.files.asked().iter().zip(asked);
+        for (found, name) in self.files.asked().iter().zip(asked) {
+            if found.as_str() != *name {
+                return false;
+            }
+        }
         self.files.asked().len() <= asked.len()
-            && pairs.all(|(found, name)| found.as_str() == *name)
     }
 }

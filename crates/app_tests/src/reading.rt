@@ -1,7 +1,8 @@
 //! The tree that the source of the worked example is read as.
 
 use crate::worked_example::SOURCE;
-use gen_text::{Expr, Item, Op, Operand, Port, Statement, read_source};
+use gen_text::{Expr, Item, Op, Operand, Port, Statement, TextFault, read_source};
+use std::alloc::Global;
 use std::test::Fail;
 use text_core::Text;
 
@@ -12,10 +13,7 @@ fn is_called(text: &Text, name: &str) -> bool {
 
 /// Whether a port has this line, this direction, this name and this width.
 fn is_port(port: &Port, line: u32, output: bool, name: &str, width: u64) -> bool {
-    port.line == line
-        && port.output == output
-        && is_called(&port.name, name)
-        && port.width == width
+    port.line == line && port.output == output && is_called(&port.name, name) && port.width == width
 }
 
 /// Whether an item is a wire with this line, this name and this width.
@@ -25,14 +23,6 @@ fn is_wire(item: &Item, at: u32, called: &str, bits: u64) -> bool {
             *line == at && is_called(name, called) && *width == bits
         }
         Item::Comb { .. } => false,
-    }
-}
-
-/// The statements of an item, where it is a block with this line.
-fn statements_of(item: &Item, at: u32) -> Option<&[Statement]> {
-    match item {
-        Item::Comb { line, body } if *line == at => Some(body.items()),
-        _ => None,
     }
 }
 
@@ -60,21 +50,41 @@ fn is_second(statement: &Statement) -> bool {
         && reads(right, "a")
 }
 
+/// Whether an item is the block in line 5 of these two statements.
+fn is_block(item: &Item) -> bool {
+    match item {
+        Item::Comb { line, body } => {
+            *line == 5
+                && matches!(body.items(), [first, second] if is_first(first) && is_second(second))
+        }
+        Item::Wire { .. } => false,
+    }
+}
+
+/// Whether ports are the input in line 2 and the output in line 3.
+fn are_ports(ports: &[Port]) -> bool {
+    matches!(ports, [a, y] if is_port(a, 2, false, "a", 4) && is_port(y, 3, true, "y", 4))
+}
+
+/// Whether items are the wire in line 4 and the block.
+fn are_items(items: &[Item]) -> bool {
+    matches!(items, [t, block] if is_wire(t, 4, "t", 4) && is_block(block))
+}
+
+/// Whether the source of the worked example is read as its module in line 1.
+fn is_read_as_its_module(alloc: Global) -> Result<bool, TextFault> {
+    let tree = read_source(alloc, SOURCE.as_bytes())?;
+    Ok(
+        tree.line == 1
+            && is_called(&tree.name, "P")
+            && are_ports(tree.ports.items())
+            && are_items(tree.items.items()),
+    )
+}
+
 #[test]
 fn the_worked_source_is_read_with_its_lines(rt: HostRuntime) -> Result<(), Fail> {
-    let tree = read_source(rt.alloc(), SOURCE.as_bytes())?;
-    assert!(rt; tree.line == 1 && is_called(&tree.name, "P"));
-    let [a, y] = tree.ports.items() else {
-        return Err("other than two ports".into());
-    };
-    assert!(rt; is_port(a, 2, false, "a", 4) && is_port(y, 3, true, "y", 4));
-    let [t, block] = tree.items.items() else {
-        return Err("other than two items".into());
-    };
-    assert!(rt; is_wire(t, 4, "t", 4));
-    let Some([first, second]) = statements_of(block, 5) else {
-        return Err("other than two statements in line 5".into());
-    };
-    assert!(rt; is_first(first) && is_second(second));
+    let as_its_module = is_read_as_its_module(rt.alloc())?;
+    assert!(rt; as_its_module);
     Ok(())
 }

@@ -1,6 +1,6 @@
 //! Stimuli that the inputs of the worked example take, and the lines that they have.
 
-use crate::outcome::{Outcome, trail};
+use crate::outcome::trail;
 use crate::worked_example::{SOURCE, long_stimulus};
 use std::alloc::Global;
 use std::test::Fail;
@@ -32,33 +32,30 @@ static ACCEPTED: [(&str, &str); 7] = [
     ),
 ];
 
-/// Runs the worked example's source over a stimulus.
-fn run_over(alloc: Global, stimulus: &[u8]) -> Result<Outcome, NoMemory> {
-    trail(alloc, SOURCE.as_bytes(), stimulus, "P")
+/// Whether the source of the worked example has this text over a stimulus.
+fn has_text(alloc: Global, stimulus: &str, text: &str) -> Result<bool, NoMemory> {
+    let outcome = trail(alloc, SOURCE.as_bytes(), stimulus.as_bytes(), "P")?;
+    outcome.is(0, text, &["P.hg", "P.stim"])
+}
+
+/// Whether the source of the worked example has two lines a cycle where there are as many rows as a stimulus may have.
+fn has_all_lines_where_longest(alloc: Global) -> Result<bool, NoMemory> {
+    let stimulus = long_stimulus(alloc, 1000)?;
+    let outcome = trail(alloc, SOURCE.as_bytes(), &stimulus, "P")?;
+    if outcome.status == 9 {
+        return Err(NoMemory);
+    }
+    let line_ends = outcome.out.bytes().iter().filter(|byte| **byte == b'\n');
+    Ok(outcome.status == 0 && line_ends.count() == 2000)
 }
 
 #[test]
 fn stimuli_that_the_inputs_take_have_their_lines(rt: HostRuntime) -> Result<(), Fail> {
     for (i, (stimulus, text)) in ACCEPTED.iter().enumerate() {
-        let outcome = run_over(rt.alloc(), stimulus.as_bytes())?;
-        assert!(rt; outcome.is(0, text, &["P.hg", "P.stim"])?, "case {i}");
+        let has_its_text = has_text(rt.alloc(), stimulus, text)?;
+        assert!(rt; has_its_text, "case {i}");
     }
-    Ok(())
-}
-
-/// Whether the run ended with status 0, and the sink took so many lines.
-fn has_lines(outcome: &Outcome, lines: usize) -> Result<bool, NoMemory> {
-    if outcome.status == 9 {
-        return Err(NoMemory);
-    }
-    let line_ends = outcome.out.bytes().iter().filter(|byte| **byte == b'\n');
-    Ok(outcome.status == 0 && line_ends.count() == lines)
-}
-
-#[test]
-fn the_longest_stimulus_has_two_lines_a_cycle(rt: HostRuntime) -> Result<(), Fail> {
-    let stimulus = long_stimulus(rt.alloc(), 1000)?;
-    let outcome = run_over(rt.alloc(), &stimulus)?;
-    assert!(rt; has_lines(&outcome, 2000)?);
+    let has_all_lines = has_all_lines_where_longest(rt.alloc())?;
+    assert!(rt; has_all_lines);
     Ok(())
 }

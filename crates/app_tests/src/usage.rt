@@ -1,6 +1,6 @@
 //! Words that are no command.
 
-use crate::outcome::{Outcome, ample_sink, outcome_of, words_of};
+use crate::outcome::{ample_sink, outcome_of, words_of};
 use crate::worked_example::worked_files;
 use std::alloc::Global;
 use std::test::Fail;
@@ -22,11 +22,12 @@ static NO_COMMANDS: [&[&str]; 12] = [
     &["trail", "keep", "P.hg", "", "P"],
 ];
 
-/// Runs these words beside the files of the worked example.
-fn run_words(alloc: Global, words: &[&str]) -> Result<Outcome, NoMemory> {
+/// Whether words are refused as no command, and no file is asked for.
+fn is_refused(alloc: Global, words: &[&str]) -> Result<bool, NoMemory> {
     let words = words_of(alloc, words)?;
     let files = worked_files(alloc, "P.hg", "P.stim", &[])?;
-    Ok(outcome_of(alloc, &words, files, ample_sink(alloc)?))
+    let outcome = outcome_of(alloc, &words, files, ample_sink(alloc)?);
+    outcome.is(2, "usage fault\n", &[])
 }
 
 #[test]
@@ -34,8 +35,8 @@ fn words_that_are_no_command_are_refused_and_no_file_is_asked_for(
     rt: HostRuntime,
 ) -> Result<(), Fail> {
     for (i, words) in NO_COMMANDS.iter().enumerate() {
-        let outcome = run_words(rt.alloc(), words)?;
-        assert!(rt; outcome.is(2, "usage fault\n", &[])?, "case {i}");
+        let refused = is_refused(rt.alloc(), words)?;
+        assert!(rt; refused, "case {i}");
     }
     Ok(())
 }

@@ -21,9 +21,6 @@ module P {
 /// The stimulus: one cycle.
 pub(crate) static STIMULUS: &str = "a\n15\n";
 
-/// The first line of the text.
-pub(crate) static FIRST_LINE: &str = "0 6 P a=4'hf y=unset t=unset\n";
-
 /// The text.
 pub(crate) static TEXT: &str = "\
 0 6 P a=4'hf y=unset t=unset
