@@ -3,3 +3,4 @@ pub mod Exec
 pub mod Trail
 pub mod TrailText
 pub mod Sample
+pub mod Ports

@@ -1,0 +1,5 @@
+mod LineLemmas
+mod FieldLemmas
+mod Widths
+mod RowLemmas
+mod RowLists

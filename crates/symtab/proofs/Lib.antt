@@ -1,0 +1,7 @@
+pub mod Apart
+pub mod Grouped
+pub mod Mapped
+pub mod Positions
+pub mod Rows
+pub mod SlotLemmas
+pub mod Standing

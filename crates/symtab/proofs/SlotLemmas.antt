@@ -1,0 +1,77 @@
+-- Slots that were tested one by one.
+use Rattle.std.proofs.Common.{◌≡◌, ℕ, ◌+◌, ◌<◌, List, [], ◌∷◌, ◌++◌, Option, Some, None, Result, Ok, Err, IfOk, IfSome, IsSome, ◌↔◌, All, map, take, length, get_or, sym, ap, refl, ◌∙◌, subst}
+use Rattle.std.proofs.lemmas.List.{take_more, map-append, map-id}
+use Rattle.std.proofs.lemmas.Bool.{false≢true}
+use Rattle.std.proofs.lemmas.List.Elements.{All-push, All-same}
+use Rattle.symtab.specs.declared.parts.NodeName.{NodeName}
+use Rattle.symtab.specs.declared.parts.Slot.{Slot}
+use Rattle.symtab.specs.Apart.{AreApart}
+use Rattle.symtab.specs.Checked.{IsPlaced, AreRows}
+use Rattle.symtab.specs.Shape.{IsSlot}
+
+-- the names of these texts are the texts that they are
+own_texts : (texts own : List (List ℕ)) → texts ≡ own → map (λ text. text) texts ≡ own
+own_texts texts own are = map-id texts ∙ are
+
+-- a slot whose other rules are kept fits exactly where its names are apart
+pub fits : {E : Type 0} (nodes : List NodeName) (count : ℕ) (variants : List ℕ) (slot : Slot) (texts : List (List ℕ)) → texts ≡ slot.names → IsPlaced count slot → AreRows nodes variants slot →
+    (made : Result (Option (List (List ℕ))) E) → IfOk made (λ found. IsSome found ↔ AreApart (map (λ text. text) texts)) → IfOk made (λ found. IsSome found ↔ IsSlot nodes count variants slot)
+fits nodes count variants slot texts are placed rows (Err e) tested = tt
+fits nodes count variants slot texts are placed rows (Ok found) tested =
+    let apart : IsSome found ↔ AreApart slot.names = subst (λ (names : List (List ℕ)). IsSome found ↔ AreApart names) (own_texts texts slot.names are) tested in (
+      λ some. record { variant = placed.variant; line = placed.line; gens = placed.gens; short_names = placed.short_names; names = apart.0 some; short_rows = rows.short_rows; count = rows.count; rows = rows.rows },
+      λ slot_fits. apart.1 slot_fits.names,
+    )
+
+-- the names that were made are the slot's
+pub same_names : {E : Type 0} (slot : Slot) (texts : List (List ℕ)) → texts ≡ slot.names → (made : Result (Option (List (List ℕ))) E) →
+    IfOk made (λ found. IfSome found (λ names. names ≡ map (λ text. text) texts)) → IfOk made (λ found. IfSome found (λ names. names ≡ slot.names))
+same_names slot texts own (Err e) are = tt
+same_names slot texts own (Ok None) are = tt
+same_names slot texts own (Ok (Some names)) are = are ∙ own_texts texts slot.names own
+
+-- names that are not apart
+pub not_apart : {A : Type 0} (name_of : A → List ℕ) (items own : List A) (found : Option (List (List ℕ))) → items ≡ own → (IsSome found ↔ AreApart (map name_of items)) → found ≡ None → AreApart (map name_of own) → ⊥
+not_apart {A} name_of items own found same tested none apart =
+    let some : IsSome found = tested.1 (subst (λ (xs : List A). AreApart (map name_of xs)) (sym same) apart) in
+    false≢true (subst (λ (o : Option (List (List ℕ))). IsSome o) none some)
+
+-- names that are
+pub are_apart : {A : Type 0} (name_of : A → List ℕ) (items own : List A) (found : Option (List (List ℕ))) → items ≡ own → (IsSome found ↔ AreApart (map name_of items)) → IsSome found → AreApart (map name_of own)
+are_apart {A} name_of items own found same tested some = subst (λ (xs : List A). AreApart (map name_of xs)) same (tested.0 some)
+
+-- the slots keep the rules, and these are their names
+pub record AreChecked (nodes : List NodeName) (count : ℕ) (variants : List ℕ) (slots : List Slot) (names : List (List (List ℕ))) : Type 0 where
+  pub fit : All (IsSlot nodes count variants) slots
+  pub are : names ≡ map (λ slot. slot.names) slots
+
+-- one slot more
+pub checked_more : (nodes : List NodeName) (count : ℕ) (variants : List ℕ) (slots : List Slot) (front : ℕ) (names new : List (List (List ℕ))) (slot : Slot) (found : Option (List (List ℕ))) (own : List (List ℕ)) →
+    front < length slots → slot ≡ get_or slots front slot → AreChecked nodes count variants (take front slots) names →
+    (IsSome found ↔ IsSlot nodes count variants slot) → IfSome found (λ texts. texts ≡ slot.names) → found ≡ Some own → new ≡ names ++ own ∷ [] → AreChecked nodes count variants (take (front + 1) slots) new
+checked_more nodes count variants slots front names new slot found own within is known fits are some grown =
+    let next : take (front + 1) slots ≡ take front slots ++ slot ∷ [] = take_more slots front slot within ∙ ap (λ (s : Slot). take front slots ++ s ∷ []) (sym is) in
+    let mine : own ≡ slot.names = subst (λ (o : Option (List (List ℕ))). IfSome o (λ texts. texts ≡ slot.names)) some are in
+    let fine : IsSlot nodes count variants slot = (subst (λ (o : Option (List (List ℕ))). IsSome o ↔ IsSlot nodes count variants slot) some fits).0 refl in
+    record {
+      fit = All-same (IsSlot nodes count variants) _ _ next (All-push (IsSlot nodes count variants) (take front slots) slot known.fit fine);
+      are = grown ∙ ap (λ (all : List (List (List ℕ))). all ++ own ∷ []) known.are ∙ ap (λ (o : List (List ℕ)). map (λ s. s.names) (take front slots) ++ o ∷ []) mine
+          ∙ sym (ap (map (λ s. s.names)) next ∙ map-append (λ s. s.names) (take front slots) (slot ∷ []));
+    }
+
+-- slots that keep the rules, over what is the same
+pub all_fit : {N : Type 0} (nodes own_nodes : List NodeName) (count own_count : ℕ) (variants own_variants : List ℕ) (slots own_slots : List Slot) (found : Option N) (made : N) →
+    nodes ≡ own_nodes → count ≡ own_count → variants ≡ own_variants → slots ≡ own_slots →
+    (IsSome found ↔ All (IsSlot nodes count variants) slots) → found ≡ Some made → All (IsSlot own_nodes own_count own_variants) own_slots
+all_fit {N} nodes own_nodes count own_count variants own_variants slots own_slots found made same_nodes same_count same_variants same_slots tested some =
+    let fit : All (IsSlot nodes count variants) slots = tested.0 (subst (λ (o : Option N). IsSome o) (sym some) refl) in
+    let fit_nodes = subst (λ (n : List NodeName). All (IsSlot n count variants) slots) same_nodes fit in
+    let fit_count = subst (λ (m : ℕ). All (IsSlot own_nodes m variants) slots) same_count fit_nodes in
+    let fit_variants = subst (λ (v : List ℕ). All (IsSlot own_nodes own_count v) slots) same_variants fit_count in
+    subst (λ (s : List Slot). All (IsSlot own_nodes own_count own_variants) s) same_slots fit_variants
+
+-- the names that were made of some items
+pub made_of : {N A B : Type 0} (look : N → List B) (name_of : A → B) (items own : List A) (found : Option N) (made : N) → items ≡ own →
+    IfSome found (λ names. look names ≡ map name_of items) → found ≡ Some made → look made ≡ map name_of own
+made_of {N} {A} look name_of items own found made same are some =
+    subst (λ (o : Option N). IfSome o (λ names. look names ≡ map name_of items)) some are ∙ ap (λ (xs : List A). map name_of xs) same

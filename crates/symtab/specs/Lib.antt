@@ -1,0 +1,5 @@
+pub mod Apart
+pub mod Places
+pub mod Shape
+pub mod Checked
+pub mod Lookups

@@ -1,0 +1,13 @@
+//! The symbol table of a compiled design: what a debugger asks at each statement.
+#![tactic(auto)]
+
+mod names;
+mod parts;
+mod places;
+mod shape;
+mod table;
+
+pub use parts::{
+    GenVariable, InstanceParts, NodeName, Row, Slot, TableEnd, TableParts, VariantParts,
+};
+pub use table::Table;

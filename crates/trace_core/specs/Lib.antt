@@ -1,0 +1,3 @@
+pub mod Rows
+pub mod Samples
+pub use Rattle.bv_core.specs.Value
