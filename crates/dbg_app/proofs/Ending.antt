@@ -1,5 +1,5 @@
 -- How a run ends, from what was judged and written.
-use Rattle.std.proofs.Common.{◌≡◌, ◌<◌, ℕ, Bool, true, false, ◌||◌, ◌&&◌, ◌==◌, bytes_eq, nat_lt, lit<, List, [], Option, Some, None, refl, sym, ◌∙◌, ap, subst, IsTrue, ◌⊎◌, inl, inr, append-nil, arith}
+use Rattle.std.proofs.Common.{◌≡◌, ◌<◌, ℕ, Bool, true, false, ◌||◌, ◌&&◌, ◌==◌, bytes_eq, nat_lt, lit<, List, [], ◌∷◌, Option, Some, None, Result, Ok, Err, length, nat_le, if◌then◌else◌, refl, sym, ◌∙◌, ap, subst, IsTrue, ◌⊎◌, inl, inr, append-nil, arith}
 use Rattle.std.proofs.lemmas.Bool.Decides.{nat_tests}
 use Rattle.io_edge.specs.Taken.{AppendsFront}
 use Rattle.io_edge.proofs.Growth.{front_from_whole}
@@ -7,15 +7,23 @@ use Rattle.gen_text.specs.declared.Module.{Module}
 use Rattle.design_core.specs.TrailText.{trail_text}
 use Rattle.first_form.specs.Form.{is_form}
 use Rattle.first_form.specs.Elaborated.{design_of}
-use Rattle.first_form.specs.Rows.{inputs_of, rows_of}
+use Rattle.first_form.specs.Ports.{inputs_of, ArePortsOf}
+use Rattle.std.specs.Str.Lines.{lines}
+use Rattle.bv_core.specs.Value.{Bits}
+use Rattle.design_core.specs.declared.Ports.{Ports}
+use Rattle.stim_text.specs.Rows.{rows_after_header, rows_of}
+use Rattle.stim_text.specs.declared.StimFault.{StimFault}
+use Rattle.stim_text.specs.declared.StimFault.TheVariants.{TooLong}
 use Rattle.first_form.specs.Runs.{GivesRows}
-use Rattle.first_form.proofs.RunLemmas.{rows_fit, is_trail}
+use Rattle.first_form.proofs.RunLemmas.{is_trail}
+use Rattle.first_form.proofs.Fitting.{read_fits}
 use Rattle.dbg_app.specs.Command.{Row}
-use Rattle.dbg_app.specs.Answers.{Answer, Contents, Asks, NoDesign, NoStimulus, Trail, IsDesign, RefusesDesign, RefusesStimulus, ShowsTrail, usage_fault, IfAsked}
-use Rattle.dbg_app.specs.Judged.{TakesText, TakesTextFront}
-use Rattle.dbg_app.specs.Outcome.{is_status, EndsAsAsked, Completes}
+use Rattle.dbg_app.specs.Answers.{Answer, Contents, Asks, NoDesign, NoStimulus, Trail, IsDesign, RefusesDesign, RefusesStimulus, ShowsTrail, usage_fault, design_fault, stimulus_fault, IfAsked}
+use Rattle.dbg_app.specs.Judged.{JudgesRow, HasRows, TakesText, TakesTextFront, judged_status}
+use Rattle.dbg_app.specs.Outcome.{is_status, TakesRefusal, TakesSome, EndsAsAsked, Completes}
 use Rattle.dbg_app.specs.declared.judge.Judged.{Judged}
-use Rattle.dbg_app.specs.declared.judge.Judged.TheVariants.{NoCommand}
+use Rattle.dbg_app.specs.declared.judge.Judged.TheVariants as judged
+use Rattle.dbg_app.specs.declared.judge.Judged.TheVariants.{NoCommand, Accepted}
 use Rattle.gen_text.proofs.Readings.{one}
 
 -- ---- one test after another
@@ -71,6 +79,25 @@ usage_taken status judged old new known is early seven late = elim (late_status 
   | inr (inr (inr e)) ↦ (rw is at (late (rw e (lit< tt)))).taken usage_fault refl
 ]
 
+-- ---- a refused stimulus
+
+pub refusal_taken : (status : ℕ) (judged : Judged) (old new : Option (List ℕ)) → status ≡ 4 → status ≡ judged_status judged → TakesText judged old new → TakesRefusal old new
+refusal_taken status NoCommand old new four is t = absurd (let same : 4 ≡ 2 = sym four ∙ is in cc)
+refusal_taken status judged.NoDesign old new four is t = absurd (let same : 4 ≡ 3 = sym four ∙ is in cc)
+refusal_taken status (judged.NoStimulus fault) old new four is t = record { fault = fault; taken = t.taken (stimulus_fault fault) refl }
+refusal_taken status (Accepted form stim) old new four is t = absurd (let same : 4 ≡ 0 = sym four ∙ is in cc)
+
+-- ---- a front of the text
+
+pub front_taken : (told : Option Contents) (row : Option Row) (judged : Judged) (old new : Option (List ℕ)) → IfAsked told row (λ files row. JudgesRow files row judged) → HasRows judged → TakesTextFront judged old new → IfAsked told row (λ files row. TakesSome files row old new)
+front_taken None row judged old new j h t = tt
+front_taken (Some files) None judged old new j h t = tt
+front_taken (Some files) (Some row) NoCommand old new j h t = absurd j
+front_taken (Some files) (Some row) judged.NoDesign old new j h t = inr (record { status = 3; text = design_fault; asked = j; taken = t.taken design_fault refl })
+front_taken (Some files) (Some row) (judged.NoStimulus fault) old new j h t = inr (record { status = 4; text = stimulus_fault fault; asked = j; taken = t.taken (stimulus_fault fault) refl })
+front_taken (Some files) (Some row) (Accepted form stim) old new j h t =
+    inr (record { status = 0; text = trail_text (design_of form) h.1.0; asked = j h.1.0 h.1.1; taken = t.taken (trail_text (design_of form) h.1.0) (h.1.0, h.1.1, refl) })
+
 -- ---- one answer
 
 some_one : {A : Type 0} (o : Option A) (x y : A) → o ≡ Some x → o ≡ Some y → x ≡ y
@@ -90,26 +117,64 @@ no_source : (files : Contents) (row : Row) (a b : Answer) → (r : RefusesDesign
 no_source files row a b r source found tree design =
     r.none tree (subst (λ (s : List ℕ). IsDesign row.top s tree) (some_one (files row.source) source r.source found r.found) design)
 
+after_header : (p q : Ports) → p.inputs ≡ q.inputs → p.registers ≡ q.registers → (ls : List (List ℕ)) → rows_after_header p ls ≡ rows_after_header q ls
+after_header p q inputs registers [] = refl
+after_header p q inputs registers (header ∷ rows) = rw (inputs, registers) refl
+
+-- a module has one list of ports, as far as a stimulus is read by them
+same_rows : (tree : Module) (p q : Ports) (text : List ℕ) → ArePortsOf tree p → ArePortsOf tree q → rows_of p text ≡ rows_of q text
+same_rows tree p q text a b =
+    ap (λ (r : Result (List (List Bits)) StimFault). if nat_le (length text) 67108864 then r else Err TooLong) (after_header p q (a.inputs ∙ sym b.inputs) (a.registers ∙ sym b.registers) (lines text))
+
+-- what is said of the stimulus of a command is said once
+record Said (files : Contents) (row : Row) (said : Result (List (List Bits)) StimFault) : Type 0 where
+  source : List ℕ
+  found : files row.source ≡ Some source
+  tree : Module
+  design : IsDesign row.top source tree
+  stimulus : List ℕ
+  also_found : files row.stimulus ≡ Some stimulus
+  ports : Ports
+  are : ArePortsOf tree ports
+  is : rows_of ports stimulus ≡ said
+
+same_tree : (files : Contents) (row : Row) (x y : Result (List (List Bits)) StimFault) → (a : Said files row x) → (b : Said files row y) → a.tree ≡ b.tree
+same_tree files row x y a b =
+    let source : a.source ≡ b.source = some_one (files row.source) a.source b.source a.found b.found in
+    one_design row.top b.source a.tree b.tree (subst (λ (s : List ℕ). IsDesign row.top s a.tree) source a.design) b.design
+
+one_saying : (files : Contents) (row : Row) (x y : Result (List (List Bits)) StimFault) → Said files row x → Said files row y → x ≡ y
+one_saying files row x y a b =
+    let tree : a.tree ≡ b.tree = same_tree files row x y a b in
+    let text : a.stimulus ≡ b.stimulus = some_one (files row.stimulus) a.stimulus b.stimulus a.also_found b.also_found in
+    let ports : ArePortsOf b.tree a.ports = subst (λ (t : Module). ArePortsOf t a.ports) tree a.are in
+    sym a.is ∙ ap (rows_of a.ports) text ∙ same_rows b.tree a.ports b.ports b.stimulus ports b.are ∙ b.is
+
+abbrev refusal_said : (files : Contents) (row : Row) (a : Answer) → (r : RefusesStimulus files row a) → Said files row (Err r.fault)
+refusal_said files row a r = record { source = r.source; found = r.found; tree = r.tree; design = r.design; stimulus = r.stimulus; also_found = r.also_found; ports = r.ports; are = r.are; is = r.refused }
+
+abbrev rows_said : (files : Contents) (row : Row) (a : Answer) → (s : ShowsTrail files row a) → Said files row (Ok s.rows)
+rows_said files row a s = record { source = s.source; found = s.found; tree = s.tree; design = s.design; stimulus = s.stimulus; also_found = s.also_found; ports = s.ports; are = s.are; is = s.read }
+
 no_rows : (files : Contents) (row : Row) (a b : Answer) → RefusesStimulus files row a → ShowsTrail files row b → ⊥
-no_rows files row a b r s =
-    let source : s.source ≡ r.source = some_one (files row.source) s.source r.source s.found r.found in
-    let tree : s.tree ≡ r.tree = one_design row.top r.source s.tree r.tree (subst (λ (x : List ℕ). IsDesign row.top x s.tree) source s.design) r.design in
-    let text : s.stimulus ≡ r.stimulus = some_one (files row.stimulus) s.stimulus r.stimulus s.also_found r.also_found in
-    let some : rows_of (inputs_of r.tree) r.stimulus ≡ Some s.rows = rw (tree, text) at s.read in
-    let none : None ≡ Some s.rows = sym r.none ∙ some in
-    cc
+no_rows files row a b r s = let same : Err r.fault ≡ Ok s.rows = one_saying files row _ _ (refusal_said files row a r) (rows_said files row b s) in cc
+
+one_refusal : (files : Contents) (row : Row) (a b : Answer) → RefusesStimulus files row a → RefusesStimulus files row b → a ≡ b
+one_refusal files row a b r s =
+    let both : Err r.fault ≡ Err s.fault = one_saying files row _ _ (refusal_said files row a r) (refusal_said files row b s) in
+    let same : r.fault ≡ s.fault = cc in
+    r.is ∙ (ap (λ (f : StimFault). record { status = 4; text = stimulus_fault f }) same ∙ sym s.is)
 
 one_trail : (files : Contents) (row : Row) (a b : Answer) → ShowsTrail files row a → ShowsTrail files row b → a ≡ b
 one_trail files row a b r s =
-    let source : s.source ≡ r.source = some_one (files row.source) s.source r.source s.found r.found in
-    let tree : s.tree ≡ r.tree = one_design row.top r.source s.tree r.tree (subst (λ (x : List ℕ). IsDesign row.top x s.tree) source s.design) r.design in
-    let text : s.stimulus ≡ r.stimulus = some_one (files row.stimulus) s.stimulus r.stimulus s.also_found r.also_found in
-    let read : rows_of (inputs_of r.tree) r.stimulus ≡ Some s.rows = rw (tree, text) at s.read in
-    let rows : s.rows ≡ r.rows = some_one (rows_of (inputs_of r.tree) r.stimulus) s.rows r.rows read r.read in
+    let tree : s.tree ≡ r.tree = same_tree files row _ _ (rows_said files row b s) (rows_said files row a r) in
+    let both : Ok s.rows ≡ Ok r.rows = one_saying files row _ _ (rows_said files row b s) (rows_said files row a r) in
+    let rows : s.rows ≡ r.rows = cc in
     let gives : GivesRows (inputs_of r.tree) r.rows s.run = rw (tree, rows) at s.gives in
     let form : is_form r.tree ≡ true = form_of row.top r.source r.tree r.design in
-    let fits = rows_fit (inputs_of r.tree) r.stimulus r.rows r.read in
-    let same : trail_text (design_of r.tree) r.run ≡ trail_text (design_of r.tree) s.run = sym (is_trail r.tree r.rows r.run form fits r.gives) ∙ is_trail r.tree r.rows s.run form fits gives in
+    let fits = read_fits r.tree r.ports r.stimulus r.rows r.are r.read in
+    let same : trail_text (design_of r.tree) r.run ≡ trail_text (design_of r.tree) s.run =
+        sym (is_trail r.tree r.rows r.run form fits r.gives) ∙ is_trail r.tree r.rows s.run form fits gives in
     let other : trail_text (design_of s.tree) s.run ≡ trail_text (design_of r.tree) s.run = ap (λ (t : Module). trail_text (design_of t) s.run) tree in
     r.is ∙ (ap (λ (t : List ℕ). record { status = 0; text = t }) (same ∙ sym other) ∙ sym s.is)
 
@@ -119,7 +184,7 @@ one_answer files row a b (NoDesign r) (NoDesign s) = r.is ∙ sym s.is
 one_answer files row a b (NoDesign r) (NoStimulus s) = absurd (no_source files row a b r s.source s.found s.tree s.design)
 one_answer files row a b (NoDesign r) (Trail s) = absurd (no_source files row a b r s.source s.found s.tree s.design)
 one_answer files row a b (NoStimulus r) (NoDesign s) = absurd (no_source files row b a s r.source r.found r.tree r.design)
-one_answer files row a b (NoStimulus r) (NoStimulus s) = r.is ∙ sym s.is
+one_answer files row a b (NoStimulus r) (NoStimulus s) = one_refusal files row a b r s
 one_answer files row a b (NoStimulus r) (Trail s) = absurd (no_rows files row a b r s)
 one_answer files row a b (Trail r) (NoDesign s) = absurd (no_source files row b a s r.source r.found r.tree r.design)
 one_answer files row a b (Trail r) (NoStimulus s) = absurd (no_rows files row b a s r)

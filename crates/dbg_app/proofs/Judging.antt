@@ -1,19 +1,23 @@
 -- What was judged, file by file, is what the command asks for.
-use Rattle.std.proofs.Common.{◌≡◌, ℕ, Bool, true, false, List, Option, Some, None, Vec, IfSome, refl, subst, if◌then◌else◌}
-use Rattle.std.specs.declared.alloc.Global.{Global}
+use Rattle.std.proofs.Common.{◌≡◌, ℕ, Bool, true, false, List, Option, Some, None, Result, Ok, Err, IfSome, ◌≢◌, refl, sym, subst, if◌then◌else◌}
 use Rattle.bv_core.specs.Value.{Bits}
 use Rattle.gen_text.specs.declared.Module.{Module}
 use Rattle.gen_text.specs.Source.{Reads}
 use Rattle.gen_text.proofs.Readings.{one}
 use Rattle.first_form.specs.Form.{is_first_form}
-use Rattle.first_form.specs.Rows.{inputs_of}
+use Rattle.first_form.specs.Ports.{inputs_of, ArePortsOf}
+use Rattle.design_core.specs.declared.Ports.{Ports}
+use Rattle.stim_text.specs.Rows.{Gives}
+use Rattle.stim_text.specs.Stimulus.{Stimulus}
+use Rattle.stim_text.specs.declared.StimFault.{StimFault}
+use Rattle.stim_text.specs.declared.StimFault.TheVariants.{HeaderMismatch, BadRow, DoesNotFit, TooLong, NoMemory}
 use Rattle.dbg_app.specs.Command.{Row}
 use Rattle.design_core.specs.Trail.{Place}
 use Rattle.design_core.specs.TrailText.{trail_text}
 use Rattle.first_form.specs.Elaborated.{design_of}
-use Rattle.first_form.specs.Runs.{GivesRows}
-use Rattle.dbg_app.specs.Answers.{Contents, Asks, Trail}
-use Rattle.dbg_app.specs.Judged.{IsDesignOrNone, JudgesSource, JudgesStimulus}
+use Rattle.first_form.specs.Runs.{GivesRows, HasRun, EachRuns}
+use Rattle.dbg_app.specs.Answers.{Contents, Asks, Trail, NoStimulus, stimulus_fault}
+use Rattle.dbg_app.specs.Judged.{IsDesignOrNone, JudgesSource, JudgesStimulus, IsWhole}
 
 accepted_by : (b : Bool) (top source : List ℕ) (tree : Module) (found : Option Module) → Reads source tree → is_first_form top tree ≡ b → found ≡ (if b then Some tree else None) → IsDesignOrNone top source found
 accepted_by true top source tree found reads is e = rw e (record { reads = reads; form = is })
@@ -31,9 +35,28 @@ accepted top source tree found reads e = accepted_by (is_first_form top tree) to
 pub no_design : (top source : List ℕ) → ((tree : Module) → Reads source tree → ⊥) → IsDesignOrNone top source None
 no_design top source none = λ tree design. none tree design.reads
 
+-- what is answered for a text is what the definition says, where memory did not run out
+pub refused_for : (fault : StimFault) (said : Result (List (List Bits)) StimFault) → fault ≢ NoMemory → Gives {X = Stimulus} (λ stim. stim.rows) (Err fault) said → said ≡ Err fault
+refused_for HeaderMismatch said n e = e
+refused_for (BadRow row) said n e = e
+refused_for (DoesNotFit row column) said n e = e
+refused_for TooLong said n e = e
+refused_for NoMemory said n e = absurd (n refl)
+
+-- what was accepted has a run
+pub has_rows : (form : Module) (ports : Ports) (stim : Stimulus) → ArePortsOf form ports → EachRuns form ports → IsWhole ports (Ok stim) → ArePortsOf form stim.ports × HasRun (inputs_of form) stim.rows
+has_rows form ports stim are runs whole = (subst (λ (p : Ports). ArePortsOf form p) (sym whole.0) are, runs stim whole.1 whole.0)
+
 -- the source is this design, and the stimulus has these rows for it
-pub accepted_row : (told : Option Contents) (row : Row) (form : Module) (rows : Vec (List Bits) Global) → IfSome told (λ files. JudgesSource (files row.source) row.top (Some form)) → IfSome told (λ files. JudgesStimulus (files row.stimulus) form (Some rows))
-    → IfSome told (λ files. (run : List (Place → Bits)) → GivesRows (inputs_of form) rows.items run → Asks files row (record { status = 0; text = trail_text (design_of form) run }))
-accepted_row None row form rows s t = tt
-accepted_row (Some files) row form rows s t = λ run gives.
-    Trail (record { source = s.0; found = s.1; tree = form; design = s.2; stimulus = t.0; also_found = t.1; rows = rows.items; read = t.2; run = run; gives = gives; is = refl })
+pub accepted_row : (told : Option Contents) (row : Row) (form : Module) (ports : Ports) (stim : Stimulus) → ArePortsOf form ports → IfSome told (λ files. JudgesSource (files row.source) row.top (Some form)) → IfSome told (λ files. JudgesStimulus (files row.stimulus) ports (Ok stim))
+    → IfSome told (λ files. (run : List (Place → Bits)) → GivesRows (inputs_of form) stim.rows run → Asks files row (record { status = 0; text = trail_text (design_of form) run }))
+accepted_row None row form ports stim are s t = tt
+accepted_row (Some files) row form ports stim are s t = λ run gives.
+    Trail (record { source = s.0; found = s.1; tree = form; design = s.2; stimulus = t.0; also_found = t.1; ports = ports; are = are; rows = stim.rows; read = t.2; run = run; gives = gives; is = refl })
+
+-- the source is this design, and the stimulus is refused for it
+pub refused_row : (told : Option Contents) (row : Row) (form : Module) (ports : Ports) (fault : StimFault) → ArePortsOf form ports → IfSome told (λ files. JudgesSource (files row.source) row.top (Some form)) → IfSome told (λ files. JudgesStimulus (files row.stimulus) ports (Err fault))
+    → IfSome told (λ files. Asks files row (record { status = 4; text = stimulus_fault fault }))
+refused_row None row form ports fault are s t = tt
+refused_row (Some files) row form ports fault are s t =
+    NoStimulus (record { source = s.0; found = s.1; tree = form; design = s.2; stimulus = t.0; also_found = t.1; ports = ports; are = are; fault = fault; refused = t.2; is = refl })

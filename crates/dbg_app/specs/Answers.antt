@@ -1,13 +1,18 @@
 -- What a command asks for: the status and the text that the contents of its files give.
-use Rattle.std.specs.Prelude.{◌≡◌, ℕ, true, List, Option, Some, None, codes}
+use Rattle.std.specs.Prelude.{◌≡◌, ℕ, true, List, [], ◌++◌, Option, Some, None, Ok, Err, codes}
+use Rattle.std.specs.Fmt.{decimal}
 use Rattle.bv_core.specs.Value.{Bits}
 use Rattle.gen_text.specs.declared.Module.{Module}
 use Rattle.gen_text.specs.Source.{Reads}
+use Rattle.design_core.specs.declared.Ports.{Ports}
 use Rattle.design_core.specs.Trail.{Place}
 use Rattle.design_core.specs.TrailText.{trail_text}
+use Rattle.stim_text.specs.Rows.{rows_of}
+use Rattle.stim_text.specs.declared.StimFault.{StimFault}
+use Rattle.stim_text.specs.declared.StimFault.TheVariants.{HeaderMismatch, BadRow, DoesNotFit, TooLong, NoMemory}
 use Rattle.first_form.specs.Form.{is_first_form}
 use Rattle.first_form.specs.Elaborated.{design_of}
-use Rattle.first_form.specs.Rows.{inputs_of, rows_of}
+use Rattle.first_form.specs.Ports.{inputs_of, ArePortsOf}
 use Rattle.first_form.specs.Runs.{GivesRows}
 use Rattle.dbg_app.specs.Command.{Row}
 
@@ -23,8 +28,13 @@ usage_fault = codes "usage fault\n"
 abbrev pub design_fault : List ℕ
 design_fault = codes "design fault 0 NotYet\n"
 
-abbrev pub stimulus_fault : List ℕ
-stimulus_fault = codes "stimulus fault 0 NotYet\n"
+-- the line of a stimulus that is refused: the number and the name of the refusal, and its row and column where it has them
+abbrev pub stimulus_fault : StimFault → List ℕ
+stimulus_fault HeaderMismatch = codes "stimulus fault 1 HeaderMismatch\n"
+stimulus_fault (BadRow row) = codes "stimulus fault 2 BadRow row " ++ decimal row ++ codes "\n"
+stimulus_fault (DoesNotFit row column) = codes "stimulus fault 3 DoesNotFit row " ++ decimal row ++ codes " column " ++ decimal column ++ codes "\n"
+stimulus_fault TooLong = codes "stimulus fault 4 TooLong\n"
+stimulus_fault NoMemory = []
 
 -- the bytes of each file by its name
 abbrev pub Contents : Type 0
@@ -42,7 +52,7 @@ pub record RefusesDesign (files : Contents) (row : Row) (answer : Answer) : Type
   pub none : (tree : Module) → IsDesign row.top source tree → ⊥
   pub is : answer ≡ record { status = 3; text = design_fault }
 
--- the source is a design, and the stimulus is refused: it has no rows for the design's inputs
+-- the source is a design, and the stimulus is refused for its ports
 pub record RefusesStimulus (files : Contents) (row : Row) (answer : Answer) : Type 0 where
   pub source : List ℕ
   pub found : files row.source ≡ Some source
@@ -50,8 +60,11 @@ pub record RefusesStimulus (files : Contents) (row : Row) (answer : Answer) : Ty
   pub design : IsDesign row.top source tree
   pub stimulus : List ℕ
   pub also_found : files row.stimulus ≡ Some stimulus
-  pub none : rows_of (inputs_of tree) stimulus ≡ None
-  pub is : answer ≡ record { status = 4; text = stimulus_fault }
+  pub ports : Ports
+  pub are : ArePortsOf tree ports
+  pub fault : StimFault
+  pub refused : rows_of ports stimulus ≡ Err fault
+  pub is : answer ≡ record { status = 4; text = stimulus_fault fault }
 
 -- both are accepted: the text is the trail of a run that has the rows
 pub record ShowsTrail (files : Contents) (row : Row) (answer : Answer) : Type 0 where
@@ -61,8 +74,10 @@ pub record ShowsTrail (files : Contents) (row : Row) (answer : Answer) : Type 0 
   pub design : IsDesign row.top source tree
   pub stimulus : List ℕ
   pub also_found : files row.stimulus ≡ Some stimulus
+  pub ports : Ports
+  pub are : ArePortsOf tree ports
   pub rows : List (List Bits)
-  pub read : rows_of (inputs_of tree) stimulus ≡ Some rows
+  pub read : rows_of ports stimulus ≡ Ok rows
   pub run : List (Place → Bits)
   pub gives : GivesRows (inputs_of tree) rows run
   pub is : answer ≡ record { status = 0; text = trail_text (design_of tree) run }

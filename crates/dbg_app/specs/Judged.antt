@@ -1,14 +1,19 @@
 -- What was judged is what is asked for.
-use Rattle.std.specs.Prelude.{◌≡◌, ◌<◌, ◌≤◌, ℕ, List, Option, Some, None, Vec, length}
+use Rattle.std.specs.Prelude.{◌≡◌, ◌≢◌, ◌<◌, ◌≤◌, ℕ, List, Option, Some, None, Result, Ok, Err, Vec, length}
 use Rattle.std.specs.declared.alloc.Global.{Global}
 use Rattle.io_edge.specs.Taken.{Appends, AppendsFront}
 use Rattle.bv_core.specs.Value.{Bits}
 use Rattle.gen_text.specs.declared.Module.{Module}
+use Rattle.design_core.specs.declared.Ports.{Ports}
 use Rattle.design_core.specs.Trail.{Place}
 use Rattle.design_core.specs.TrailText.{trail_text}
 use Rattle.first_form.specs.Elaborated.{design_of}
-use Rattle.first_form.specs.Rows.{inputs_of, rows_of}
-use Rattle.first_form.specs.Runs.{AllFitInputs, GivesRows, HasRun}
+use Rattle.first_form.specs.Ports.{inputs_of, ArePortsOf}
+use Rattle.first_form.specs.Runs.{GivesRows, HasRun}
+use Rattle.stim_text.specs.Rows.{rows_of}
+use Rattle.stim_text.specs.Stimulus.{Stimulus, IsStimulus}
+use Rattle.stim_text.specs.declared.StimFault.{StimFault}
+use Rattle.stim_text.specs.declared.StimFault.TheVariants.{NoMemory}
 use Rattle.dbg_app.specs.Command.{Row}
 use Rattle.dbg_app.specs.Answers.{Contents, Asks, IsDesign, usage_fault, design_fault, stimulus_fault}
 use Rattle.dbg_app.specs.declared.judge.Judged.{Judged}
@@ -29,39 +34,48 @@ abbrev pub JudgesSource : Option (List ℕ) → List ℕ → Option Module → T
 JudgesSource file top (Some tree) = (source : List ℕ) × (file ≡ Some source) × IsDesign top source tree
 JudgesSource file top None = (source : List ℕ) × (file ≡ Some source) × ((tree : Module) → IsDesign top source tree → ⊥)
 
--- a stimulus was judged: it has these rows, or none
-abbrev pub JudgesStimulus : Option (List ℕ) → Module → Option (Vec (List Bits) Global) → Type 0
-JudgesStimulus file tree (Some rows) = (text : List ℕ) × (file ≡ Some text) × (rows_of (inputs_of tree) text ≡ Some rows.items)
-JudgesStimulus file tree None = (text : List ℕ) × (file ≡ Some text) × (rows_of (inputs_of tree) text ≡ None)
+-- a text was judged: it has these rows, or it is refused
+abbrev pub JudgesText : List ℕ → Ports → Result Stimulus StimFault → Type 0
+JudgesText text ports (Ok stim) = rows_of ports text ≡ Ok stim.rows
+JudgesText text ports (Err fault) = rows_of ports text ≡ Err fault
 
--- what was accepted has a run
+-- a stimulus of these ports, each of whose rows has their widths; or a refusal that is not want of memory
+abbrev pub IsWhole : Ports → Result Stimulus StimFault → Type 0
+IsWhole ports (Ok stim) = (stim.ports ≡ ports) × IsStimulus stim
+IsWhole ports (Err fault) = fault ≢ NoMemory
+
+-- a stimulus was judged
+abbrev pub JudgesStimulus : Option (List ℕ) → Ports → Result Stimulus StimFault → Type 0
+JudgesStimulus file ports found = (text : List ℕ) × (file ≡ Some text) × JudgesText text ports found
+
+-- what was accepted has a run, and what was refused has a line
 abbrev pub HasRows : Judged → Type 0
 HasRows NoCommand = Unit {0}
 HasRows NoDesign = Unit {0}
-HasRows NoStimulus = Unit {0}
-HasRows (Accepted form rows) = AllFitInputs (inputs_of form) rows.items × HasRun (inputs_of form) rows.items
+HasRows (NoStimulus fault) = fault ≢ NoMemory
+HasRows (Accepted form stim) = ArePortsOf form stim.ports × HasRun (inputs_of form) stim.rows
 
 -- a command was judged as its files ask
 abbrev pub JudgesRow : Contents → Row → Judged → Type 0
 JudgesRow files row NoCommand = ⊥
 JudgesRow files row NoDesign = Asks files row (record { status = 3; text = design_fault })
-JudgesRow files row NoStimulus = Asks files row (record { status = 4; text = stimulus_fault })
-JudgesRow files row (Accepted form rows) =
-    (run : List (Place → Bits)) → GivesRows (inputs_of form) rows.items run → Asks files row (record { status = 0; text = trail_text (design_of form) run })
+JudgesRow files row (NoStimulus fault) = Asks files row (record { status = 4; text = stimulus_fault fault })
+JudgesRow files row (Accepted form stim) =
+    (run : List (Place → Bits)) → GivesRows (inputs_of form) stim.rows run → Asks files row (record { status = 0; text = trail_text (design_of form) run })
 
 -- the status that goes with what was judged
 abbrev pub judged_status : Judged → ℕ
 judged_status NoCommand = 2
 judged_status NoDesign = 3
-judged_status NoStimulus = 4
-judged_status (Accepted form rows) = 0
+judged_status (NoStimulus fault) = 4
+judged_status (Accepted form stim) = 0
 
 -- the text that goes with what was judged: a fault line, or the trail of a run that has the rows
 abbrev pub IsTextOf : Judged → List ℕ → Type 0
 IsTextOf NoCommand text = text ≡ usage_fault
 IsTextOf NoDesign text = text ≡ design_fault
-IsTextOf NoStimulus text = text ≡ stimulus_fault
-IsTextOf (Accepted form rows) text = (run : List (Place → Bits)) × GivesRows (inputs_of form) rows.items run × (text ≡ trail_text (design_of form) run)
+IsTextOf (NoStimulus fault) text = text ≡ stimulus_fault fault
+IsTextOf (Accepted form stim) text = (run : List (Place → Bits)) × GivesRows (inputs_of form) stim.rows run × (text ≡ trail_text (design_of form) run)
 
 -- the text that goes with what was judged was taken, or a front of it
 pub record TakesText (judged : Judged) (old new : Option (List ℕ)) : Type 0 where

@@ -2,7 +2,8 @@
 use Rattle.std.specs.Prelude.{◌≡◌, ℕ, List, Bool, Option, ◌||◌, ◌==◌, ◌⊎◌}
 use Rattle.io_edge.specs.Taken.{Appends, AppendsFront}
 use Rattle.dbg_app.specs.Command.{Row}
-use Rattle.dbg_app.specs.Answers.{Contents, Asks}
+use Rattle.stim_text.specs.declared.StimFault.{StimFault}
+use Rattle.dbg_app.specs.Answers.{Contents, Asks, stimulus_fault}
 use Rattle.dbg_app.specs.declared.stop.Stop.{Stop}
 use Rattle.dbg_app.specs.declared.stop.Stop.TheVariants.{ReadFault, WriteFault, NoMemory}
 
@@ -18,6 +19,11 @@ abbrev pub stop_status : Stop → ℕ
 stop_status ReadFault = 7
 stop_status WriteFault = 8
 stop_status NoMemory = 9
+
+-- the line of a refused stimulus was taken
+pub record TakesRefusal (old new : Option (List ℕ)) : Type 0 where
+  pub fault : StimFault
+  pub taken : Appends old new (stimulus_fault fault)
 
 -- the run ended with the answer that is asked for, and the sink took its whole text
 pub record EndsAsAsked (files : Contents) (row : Row) (status : ℕ) (old new : Option (List ℕ)) : Type 0 where

@@ -3,31 +3,28 @@
 ghost use Rattle.std.specs.Prelude.{◌≡◌, ◌<◌, ◌≤◌, ◌↔◌, IsTrue, [], ◌∷◌, Some, None, IfOk, IfSome, OnOk, OnErr, IsErrOf};
 ghost use Rattle.io_edge.specs.Faults.{Rose};
 ghost use Rattle.io_edge.specs.Taken.{Appends, AppendsFront};
-ghost use Rattle.std.specs.Option.{option_map};
-ghost use Rattle.first_form.specs.Rows.{inputs_of, rows_of};
-ghost use Rattle.first_form.specs.Runs.{AllFitInputs, HasRun};
 ghost use Rattle.dbg_app.specs.Command.{row_of, names_of};
 ghost use Rattle.dbg_app.specs.Answers.{IfAsked};
 ghost use Rattle.dbg_app.specs.Rows.{row_as};
-ghost use Rattle.dbg_app.specs.Judged.{IsDesignOrNone, Finds, JudgesSource, JudgesStimulus, HasRows, JudgesRow, judged_status};
+ghost use Rattle.dbg_app.specs.Judged.{IsDesignOrNone, Finds, JudgesSource, JudgesText, IsWhole, JudgesStimulus, HasRows, JudgesRow, judged_status};
 ghost use Rattle.dbg_app.specs.Outcome.{is_status};
 
 use crate::Stop;
 use crate::row::{Row, read_row};
-use bv_core::Bv;
-use first_form::{FirstForm, StimulusFault};
+use design_core::Ports;
+use first_form::FirstForm;
 use gen_text::{TextFault, read_source};
 use io_edge::{FileEnd, Files, Words};
 use std::alloc::Global;
-use text_core::Listed;
+use stim_text::{Stim, StimFault, read_stim};
 
 /// A command, judged: the words are none, the source or the stimulus is refused, or both are accepted.
 #[derive(Drop)]
 pub(crate) enum Judged {
     NoCommand,
     NoDesign,
-    NoStimulus,
-    Accepted(FirstForm, Vec<Listed<Bv>>),
+    NoStimulus(StimFault),
+    Accepted(FirstForm, Stim),
 }
 
 impl Judged {
@@ -40,7 +37,7 @@ impl Judged {
         match self {
             Judged::NoCommand => 2,
             Judged::NoDesign => 3,
-            Judged::NoStimulus => 4,
+            Judged::NoStimulus(_) => 4,
             Judged::Accepted(_, _) => 0,
         }
     }
@@ -111,17 +108,22 @@ fn judge_source<F: Files>(
     }
 }
 
-/// The rows of a stimulus, where it has rows for the design's inputs.
-fn rows_of(alloc: Global, text: &[u8], form: &FirstForm) -> Result<Option<Vec<Listed<Bv>>>, Stop>
-    ensures rows { IfOk result (λ rows. option_map (λ rows. rows.items) rows ≡ rows_of (inputs_of form.now) text.now) }
-    ensures fit { IfOk result (λ rows. IfSome rows (λ rows. AllFitInputs (inputs_of form.now) rows.items × HasRun (inputs_of form.now) rows.items)) }
+/// The stimulus that a text is for these ports, or why it is refused.
+#[tactic(auto, using(crate::proofs::Judging::refused_for))]
+fn stimulus_of(
+    alloc: Global,
+    text: &[u8],
+    ports: &Ports,
+) -> Result<Result<Stim, StimFault>, Stop>
+    ensures rows { IfOk result (JudgesText text.now ports.now) }
+    ensures whole { IfOk result (IsWhole ports.now) }
     ensures no_read { IsErrOf result Stop.ReadFault → ⊥ }
     ensures no_write { IsErrOf result Stop.WriteFault → ⊥ }
 {
-    match form.read_rows(alloc, text) {
-        Ok(rows) => Ok(Some(rows)),
-        Err(StimulusFault::NotYet) => Ok(None),
-        Err(StimulusFault::NoMemory) => Err(Stop::NoMemory),
+    match read_stim(alloc, text, ports) {
+        Ok(stim) => Ok(Ok(stim)),
+        Err(StimFault::NoMemory) => Err(Stop::NoMemory),
+        Err(fault) => Ok(Err(fault)),
     }
 }
 
@@ -129,23 +131,24 @@ fn rows_of(alloc: Global, text: &[u8], form: &FirstForm) -> Result<Option<Vec<Li
 fn judge_stimulus<F: Files>(
     alloc: Global,
     name: &str,
-    form: &FirstForm,
+    ports: &Ports,
     files: &mut F,
-) -> Result<Option<Vec<Listed<Bv>>>, Stop>
-    ensures judged { IfOk result (λ rows. IfSome (F.told files.old) (λ told. JudgesStimulus (told name.now) form.now rows)) }
-    ensures fit { IfOk result (λ rows. IfSome rows (λ rows. AllFitInputs (inputs_of form.now) rows.items × HasRun (inputs_of form.now) rows.items)) }
+) -> Result<Result<Stim, StimFault>, Stop>
+    ensures judged { IfOk result (λ found. IfSome (F.told files.old) (λ told. JudgesStimulus (told name.now) ports.now found)) }
+    ensures whole { IfOk result (IsWhole ports.now) }
     ensures front { AppendsFront (F.asked files.old) (F.asked files.new) (name.now ∷ []) }
     ensures read { IsErrOf result Stop.ReadFault → Rose (F.fault_count files.old) (F.fault_count files.new) }
     ensures no_write { IsErrOf result Stop.WriteFault → ⊥ }
     ensures later { F.fault_count files.old ≤ F.fault_count files.new }
 {
     match read(alloc, files, name, MOST_STIMULUS)? {
-        Some(text) => rows_of(alloc, &text, form),
-        None => Ok(None),
+        Some(text) => stimulus_of(alloc, &text, ports),
+        None => Ok(Err(StimFault::TooLong)),
     }
 }
 
 /// Reads the files of a command in the order of its words, and judges each.
+#[tactic(auto, using(crate::proofs::Judging::has_rows))]
 fn judge_row<F: Files>(alloc: Global, row: &Row<'_>, files: &mut F) -> Result<Judged, Stop>
     ensures judged { IfOk result (λ judged. IfSome (F.told files.old) (λ told. JudgesRow told (row_as row.now) judged)) }
     ensures rows { IfOk result HasRows }
@@ -158,10 +161,11 @@ fn judge_row<F: Files>(alloc: Global, row: &Row<'_>, files: &mut F) -> Result<Ju
     let Some(form) = judge_source(alloc, row, files)? else {
         return Ok(Judged::NoDesign);
     };
-    let Some(rows) = judge_stimulus(alloc, row.stimulus, &form, files)? else {
-        return Ok(Judged::NoStimulus);
-    };
-    Ok(Judged::Accepted(form, rows))
+    let ports = form.ports(alloc)?;
+    match judge_stimulus(alloc, row.stimulus, &ports, files)? {
+        Ok(stim) => Ok(Judged::Accepted(form, stim)),
+        Err(fault) => Ok(Judged::NoStimulus(fault)),
+    }
 }
 
 /// Judges the words, and the files that they name.

@@ -1,15 +1,17 @@
-ghost use Rattle.std.specs.Prelude.{◌≡◌, ◌≤◌, ◌<◌, ◌⊎◌, None, IsTrue, OnOk, OnErr, IfOk, IsErrOf};
+ghost use Rattle.std.specs.Prelude.{◌≡◌, ◌≤◌, ◌<◌, ◌⊎◌, None, IsTrue, OnOk, OnErr, IfOk, IsErrOf, string_bytes};
 ghost use Rattle.io_edge.specs.Faults.{Rose};
 ghost use Rattle.io_edge.specs.Taken.{Appends, AppendsFront};
 ghost use Rattle.dbg_app.specs.Command.{row_of, names_of};
 ghost use Rattle.dbg_app.specs.Answers.{usage_fault, design_fault, stimulus_fault, IfAsked};
 ghost use Rattle.dbg_app.specs.Judged.{HasRows, TakesText, TakesTextFront, judged_status};
-ghost use Rattle.dbg_app.specs.Outcome.{is_status, is_usage_status, EndsAsAsked, TakesSome, Completes};
+ghost use Rattle.dbg_app.specs.Outcome.{is_status, is_usage_status, TakesRefusal, EndsAsAsked, TakesSome, Completes};
 
 use crate::Stop;
 use crate::judge::{Judged, judge};
 use io_edge::{Files, Sink, Words};
 use std::alloc::Global;
+use stim_text::StimFault;
+use text_core::NoMemory;
 
 /// How a run ended: its status, which is 0, 2, 3, 4, 7, 8 or 9.
 #[derive(Clone, Copy, Debug, PartialEq, Eq)]
@@ -27,7 +29,7 @@ pub struct Ended {
 /// | 0 | none of the rest | the whole trail |
 /// | 2 | the words are no command | `usage fault` |
 /// | 3 | SRC is no source of the forms that are accepted today, or has not the module TOP | `design fault 0 NotYet` |
-/// | 4 | STIM has no rows for the design's inputs | `stimulus fault 0 NotYet` |
+/// | 4 | STIM is refused for the design's ports | `stimulus fault`, with the number and name of the refusal, and its row and column |
 /// | 7 | a file was not read | nothing |
 /// | 8 | the output failed | a front of it |
 /// | 9 | memory ran out | a front of it |
@@ -41,7 +43,7 @@ pub fn run<F: Files, S: Sink>(alloc: Global, words: &Words, files: &mut F, out: 
     // Each refusal has its line.
     ensures usage_line { result.status ≡ 2 → Appends (S.taken out.old) (S.taken out.new) usage_fault }
     ensures design_line { result.status ≡ 3 → Appends (S.taken out.old) (S.taken out.new) design_fault }
-    ensures stimulus_line { result.status ≡ 4 → Appends (S.taken out.old) (S.taken out.new) stimulus_fault }
+    ensures stimulus_line { result.status ≡ 4 → TakesRefusal (S.taken out.old) (S.taken out.new) }
 
     // Where the files are told: the status and the whole text that they ask for.
     ensures done { result.status < 7
@@ -75,7 +77,7 @@ fn act<F: Files, S: Sink>(alloc: Global, words: &Words, files: &mut F, out: &mut
     ensures no_command { row_of words.now ≡ None → IsTrue (is_usage_status result.status) }
     ensures usage_line { result.status ≡ 2 → Appends (S.taken out.old) (S.taken out.new) usage_fault }
     ensures design_line { result.status ≡ 3 → Appends (S.taken out.old) (S.taken out.new) design_fault }
-    ensures stimulus_line { result.status ≡ 4 → Appends (S.taken out.old) (S.taken out.new) stimulus_fault }
+    ensures stimulus_line { result.status ≡ 4 → TakesRefusal (S.taken out.old) (S.taken out.new) }
     ensures done { result.status < 7
         → IfAsked (F.told files.old) (row_of words.now) (λ told row. EndsAsAsked told row result.status (S.taken out.old) (S.taken out.new)) }
     ensures asked { AppendsFront (F.asked files.old) (F.asked files.new) (names_of (row_of words.now)) }
@@ -125,11 +127,26 @@ fn write<S: Sink>(alloc: Global, judged: &Judged, out: &mut S) -> Result<(), Sto
     match judged {
         Judged::NoCommand => write_line("usage fault\n", out),
         Judged::NoDesign => write_line("design fault 0 NotYet\n", out),
-        Judged::NoStimulus => write_line("stimulus fault 0 NotYet\n", out),
-        Judged::Accepted(form, rows) => {
-            form.write_trail(alloc, rows, out)?;
+        Judged::NoStimulus(fault) => write_line(&fault_line(alloc, *fault)?, out),
+        Judged::Accepted(form, stim) => {
+            form.write_trail(alloc, stim, out)?;
             Ok(())
         }
+    }
+}
+
+/// The line of a stimulus that is refused. Want of memory has none.
+fn fault_line(alloc: Global, fault: StimFault) -> Result<String, NoMemory>
+    ensures { IfOk result (λ line. string_bytes line ≡ stimulus_fault fault) }
+{
+    match fault {
+        StimFault::HeaderMismatch => Ok(format!(in alloc; "stimulus fault 1 HeaderMismatch\n")?),
+        StimFault::BadRow { row } => Ok(format!(in alloc; "stimulus fault 2 BadRow row {row}\n")?),
+        StimFault::DoesNotFit { row, column } => Ok(
+            format!(in alloc; "stimulus fault 3 DoesNotFit row {row} column {column}\n")?,
+        ),
+        StimFault::TooLong => Ok(format!(in alloc; "stimulus fault 4 TooLong\n")?),
+        StimFault::NoMemory => Err(NoMemory),
     }
 }
 

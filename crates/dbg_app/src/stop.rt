@@ -54,6 +54,14 @@ impl From<TrailEnd> for Stop {
     }
 }
 
+impl From<text_core::NoMemory> for Stop {
+    ghost from_gives = { λ _ e. e ≡ NoMemory };
+
+    fn from(_: text_core::NoMemory) -> Self {
+        Stop::NoMemory
+    }
+}
+
 impl From<AllocError> for Stop {
     ghost from_gives = { λ _ e. e ≡ NoMemory };
 

@@ -1,11 +1,11 @@
 mod Blocks
-mod Fields
 mod LineLemmas
 mod Names
-mod RowLemmas
 pub mod RunLemmas
 mod Starting
 mod Shown
 mod Tests
 mod Values
 mod Walk
+mod Widths
+pub mod Fitting

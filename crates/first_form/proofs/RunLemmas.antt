@@ -1,6 +1,6 @@
 -- Rows that were read fit the inputs, and some run has them.
 use Rattle.std.proofs.Common.{◌≡◌, ℕ, ◌^◌, Bool, true, false, ◌&&◌, not, List, [], ◌∷◌, length, Option, Some, None, Result, Ok, Err, Vec, IfOk, refl, sym, ◌∙◌, ap, subst, nat_lt, nat_le, if◌then◌else◌}
-use Rattle.std.specs.Prelude.{filter}
+use Rattle.std.specs.Prelude.{filter, map}
 use Rattle.std.specs.List.{list_all}
 use Rattle.std.specs.Str.{bytes_eq}
 use Rattle.std.specs.Str.Lines.{lines}
@@ -10,73 +10,36 @@ use Rattle.text_core.specs.Digits.{is_digit, number_of}
 use Rattle.bv_core.specs.Value.{Bits}
 use Rattle.gen_text.specs.declared.Module.{Module}
 use Rattle.gen_text.specs.declared.Statement.{Statement}
+use Rattle.design_core.specs.declared.Ports.{Ports}
 use Rattle.design_core.specs.Trail.{Place}
 use Rattle.design_core.specs.TrailText.{trail_text}
 use Rattle.first_form.specs.declared.signal.Signal.{Signal}
 use Rattle.first_form.specs.Form.{signals_of, block_of, statements_of, is_width, is_named, are_different, literal_of, are_fitting, are_driven, is_form_of, is_form}
-use Rattle.first_form.specs.Rows.{inputs_of, fields, field_value, with_first, row_values, all_rows, are_names, rows_in, rows_of, most_rows, most_bytes, Gives}
-use Rattle.first_form.specs.declared.stimulus.StimulusFault.{StimulusFault}
-use Rattle.first_form.specs.declared.stimulus.StimulusFault.TheVariants.{NotYet, NoMemory}
+use Rattle.first_form.specs.Ports.{inputs_of, named_input, ArePortsOf}
+use Rattle.stim_text.specs.Stimulus.{Stimulus, IsStimulus}
+use Rattle.std.specs.List.{AllByRecursion}
+use Rattle.std.proofs.lemmas.List.Elements.{recursion_from_All}
 use Rattle.first_form.specs.Elaborated.{design_of}
 use Rattle.first_form.specs.CellText.{form_text}
-use Rattle.first_form.specs.Runs.{FitsInputs, AllFitInputs, GivesRow, GivesRows, HasRun}
+use Rattle.first_form.specs.Runs.{FitsInputs, AllFitInputs, GivesRow, GivesRows, HasRun, EachRuns}
 use Rattle.first_form.proofs.Tests.{and_true, or_false, not_true, if_some, itself, flipped}
 use Rattle.first_form.proofs.Names.{are_found, are_assigned}
 use Rattle.first_form.proofs.Walk.{Accepted, rows_walk}
 
--- ---- what was read fits
+-- ---- rows of the ports' widths fit the inputs
 
-pub first_some : {A : Type 0} (o : Option A) (more : Option (List A)) (all : List A) → with_first o more ≡ Some all → (x : A) × (xs : List A) × (o ≡ Some x) × (more ≡ Some xs) × (x ∷ xs ≡ all)
-first_some (Some x) (Some xs) all e = (x, xs, refl, refl, cc)
-first_some (Some x) None all e = absurd cc
-first_some None more all e = absurd cc
+row_fits : (inputs : List Signal) (row : List Bits) → map (λ value. value.width) row ≡ map (λ (input : List ℕ × ℕ). input.1) (map named_input inputs) → FitsInputs inputs row
+row_fits [] [] e = tt
+row_fits [] (value ∷ values) e = absurd cc
+row_fits (input ∷ inputs) [] e = absurd cc
+row_fits (input ∷ inputs) (value ∷ values) e = (let same : value.width ≡ input.width = cc in same, row_fits inputs values cc)
 
-field_width : (input : Signal) (field : List ℕ) (value : Bits) → field_value input field ≡ Some value → value.width ≡ input.width
-field_width input field value e = by (list_all is_digit field) refl
-  where
-    literal : literal_of input.width (number_of 10 field) ≡ Some value → value.width ≡ input.width
-    literal h =
-        let t = if_some (is_width input.width && nat_lt (number_of 10 field) (2 ^ input.width)) (record { width = input.width; value = number_of 10 field }) value h in
-        sym (ap (λ (b : Bits). b.width) t.1)
+all_fit : (inputs : List Signal) (rows : List (List Bits)) → AllByRecursion (λ row. map (λ value. value.width) row ≡ map (λ (input : List ℕ × ℕ). input.1) (map named_input inputs)) rows → AllFitInputs inputs rows
+all_fit inputs [] e = tt
+all_fit inputs (row ∷ rows) e = (row_fits inputs row e.0, all_fit inputs rows e.1)
 
-    by : (b : Bool) → list_all is_digit field ≡ b → value.width ≡ input.width
-    by true d = literal (rw d at e)
-    by false d = absurd (let none : None ≡ Some value = rw d at e in cc)
-
-row_fits : (inputs : List Signal) (row : List (List ℕ)) (values : List Bits) → row_values inputs row ≡ Some values → FitsInputs inputs values
-row_fits [] [] [] e = tt
-row_fits [] [] (value ∷ values) e = absurd cc
-row_fits [] (field ∷ others) values e = absurd cc
-row_fits (input ∷ inputs) [] values e = absurd cc
-row_fits (input ∷ inputs) (field ∷ others) [] e =
-    let f = first_some (field_value input field) (row_values inputs others) [] e in absurd cc
-row_fits (input ∷ inputs) (field ∷ others) (value ∷ values) e =
-    let f = first_some (field_value input field) (row_values inputs others) (value ∷ values) e in
-    let here : field_value input field ≡ Some value = f.2 ∙ (let same : f.0 ≡ value = cc in ap Some same) in
-    let more : row_values inputs others ≡ Some values = f.3 ∙ (let same : f.1 ≡ values = cc in ap Some same) in
-    (field_width input field value here, row_fits inputs others values more)
-
-all_fit : (inputs : List Signal) (texts : List (List ℕ)) (rows : List (List Bits)) → all_rows inputs texts ≡ Some rows → AllFitInputs inputs rows
-all_fit inputs [] [] e = tt
-all_fit inputs [] (row ∷ rows) e = absurd cc
-all_fit inputs (line ∷ others) [] e =
-    let f = first_some (row_values inputs (fields line)) (all_rows inputs others) [] e in absurd cc
-all_fit inputs (line ∷ others) (row ∷ rows) e =
-    let f = first_some (row_values inputs (fields line)) (all_rows inputs others) (row ∷ rows) e in
-    let here : row_values inputs (fields line) ≡ Some row = f.2 ∙ (let same : f.0 ≡ row = cc in ap Some same) in
-    let more : all_rows inputs others ≡ Some rows = f.3 ∙ (let same : f.1 ≡ rows = cc in ap Some same) in
-    (row_fits inputs (fields line) row here, all_fit inputs others rows more)
-
-lets_through : {A : Type 0} (b : Bool) (o : Option A) (x : A) → (if b then o else None) ≡ Some x → o ≡ Some x
-lets_through true o x e = e
-lets_through false o x e = absurd cc
-
-in_fits : (inputs : List Signal) (texts : List (List ℕ)) (rows : List (List Bits)) → rows_in inputs texts ≡ Some rows → AllFitInputs inputs rows
-in_fits inputs [] rows e = absurd cc
-in_fits inputs (header ∷ others) rows e = all_fit inputs others rows (lets_through (are_names inputs (fields header) && nat_le (length others) most_rows) (all_rows inputs others) rows e)
-
-pub rows_fit : (inputs : List Signal) (text : List ℕ) (rows : List (List Bits)) → rows_of inputs text ≡ Some rows → AllFitInputs inputs rows
-rows_fit inputs text rows e = in_fits inputs (lines text) rows (lets_through (nat_le (length text) most_bytes) (rows_in inputs (lines text)) rows e)
+pub rows_fit : (tree : Module) (s : Stimulus) → IsStimulus s → ArePortsOf tree s.ports → AllFitInputs (inputs_of tree) s.rows
+rows_fit tree s is ports = all_fit (inputs_of tree) s.rows (recursion_from_All _ s.rows (rw ports.inputs at is.each))
 
 -- ---- a run
 
@@ -132,6 +95,7 @@ fewer_different (signal ∷ signals) e =
 -- ---- the conditions
 
 pub record Conditions (signals : List Signal) (statements : List Statement) : Type 0 where
+  pub wide : list_all (λ signal. is_width signal.width) signals ≡ true
   pub different : are_different signals ≡ true
   pub fitting : are_fitting signals [] statements ≡ true
   pub driven : are_driven signals statements ≡ true
@@ -141,7 +105,8 @@ conditions signals statements e =
     let all = and_true _ (are_driven signals statements) e in
     let some = and_true _ (are_fitting signals [] statements) all.0 in
     let fewer = and_true _ (are_different signals) some.0 in
-    record { different = fewer.1; fitting = some.1; driven = all.1 }
+    let few = and_true _ (list_all (λ signal. is_width signal.width) signals) fewer.0 in
+    record { wide = few.1; different = fewer.1; fitting = some.1; driven = all.1 }
 
 meets : (tree : Module) → is_form tree ≡ true → Conditions (signals_of tree) (statements_of tree)
 meets tree e = by (block_of tree) refl
@@ -153,6 +118,9 @@ meets tree e = by (block_of tree) refl
         rw here (conditions (signals_of tree) statements is)
     by None h = absurd (let none : false ≡ true = rw h at e in cc)
 
+pub signals_wide : (tree : Module) → is_form tree ≡ true → list_all (λ signal. is_width signal.width) (signals_of tree) ≡ true
+signals_wide tree e = (meets tree e).wide
+
 pub inputs_different : (tree : Module) → is_form tree ≡ true → are_different (inputs_of tree) ≡ true
 inputs_different tree e = fewer_different (signals_of tree) (meets tree e).different
 
@@ -163,22 +131,17 @@ accepted tree e =
 
 -- ---- what the calls ensure
 
-given_rows : (inputs : List Signal) (text : List ℕ) (result : Result (Vec (List Bits) Global) StimulusFault) → Gives (λ rows. rows.items) result (rows_of inputs text) → IfOk result (λ rows. rows_of inputs text ≡ Some rows.items)
-given_rows inputs text (Ok rows) g = g
-given_rows inputs text (Err NotYet) g = tt
-given_rows inputs text (Err NoMemory) g = tt
+-- some run has the rows
+pub stimulus_has_run : (tree : Module) (s : Stimulus) → is_form tree ≡ true → IsStimulus s → ArePortsOf tree s.ports → HasRun (inputs_of tree) s.rows
+stimulus_has_run tree s form is ports = has_run (inputs_of tree) s.rows (inputs_different tree form) (rows_fit tree s is ports)
 
-pub rows_that_fit : (inputs : List Signal) (text : List ℕ) (result : Result (Vec (List Bits) Global) StimulusFault) → Gives (λ rows. rows.items) result (rows_of inputs text) → IfOk result (λ rows. AllFitInputs inputs rows.items)
-rows_that_fit inputs text result g = IfOk-weaker result _ _ (λ rows h. rows_fit inputs text rows.items h) (given_rows inputs text result g)
-
-pub rows_with_run : (tree : Module) (text : List ℕ) (result : Result (Vec (List Bits) Global) StimulusFault) → is_form tree ≡ true → Gives (λ rows. rows.items) result (rows_of (inputs_of tree) text) → IfOk result (λ rows. HasRun (inputs_of tree) rows.items)
-rows_with_run tree text result f g =
-    IfOk-weaker result _ _ (λ rows h. has_run (inputs_of tree) rows.items (inputs_different tree f) (rows_fit (inputs_of tree) text rows.items h)) (given_rows (inputs_of tree) text result g)
+pub each_runs : (tree : Module) (ports : Ports) → is_form tree ≡ true → ArePortsOf tree ports → EachRuns tree ports
+each_runs tree ports form are = λ stim is same. stimulus_has_run tree stim form is (subst (λ (p : Ports). ArePortsOf tree p) (sym same) are)
 
 -- the text of the rows is the trail of each run that has them
 pub is_trail : (tree : Module) (rows : List (List Bits)) (run : List (Place → Bits)) → is_form tree ≡ true → AllFitInputs (inputs_of tree) rows → GivesRows (inputs_of tree) rows run → form_text tree rows ≡ trail_text (design_of tree) run
 is_trail tree rows run f fits gives = rows_walk 0 tree rows run (λ key. None) (accepted tree f) fits gives
 
 -- what holds of an answer for the program's text holds for the trail of each run
-pub each_run : (tree : Module) (rows : List (List Bits)) → (P : List ℕ → Type 0) → is_form tree ≡ true → AllFitInputs (inputs_of tree) rows → P (form_text tree rows) → (run : List (Place → Bits)) → GivesRows (inputs_of tree) rows run → P (trail_text (design_of tree) run)
-each_run tree rows P f fits p run gives = subst P (is_trail tree rows run f fits gives) p
+pub each_run : (tree : Module) (s : Stimulus) → (P : List ℕ → Type 0) → is_form tree ≡ true → IsStimulus s → ArePortsOf tree s.ports → P (form_text tree s.rows) → (run : List (Place → Bits)) → GivesRows (inputs_of tree) s.rows run → P (trail_text (design_of tree) run)
+each_run tree s P f is ports p run gives = subst P (is_trail tree s.rows run f (rows_fit tree s is ports) gives) p

@@ -12,7 +12,7 @@ use Rattle.design_core.specs.Trail.{Place, before_slot, within}
 use Rattle.first_form.specs.declared.signal.Signal.{Signal}
 use Rattle.first_form.specs.Form.{signals_of, statements_of, signal_named, is_assigned, readable_width, is_fitting, are_fitting}
 use Rattle.first_form.specs.Elaborated.{body_from}
-use Rattle.first_form.specs.Rows.{inputs_of}
+use Rattle.first_form.specs.Ports.{inputs_of}
 use Rattle.first_form.specs.Runs.{FitsInputs, GivesRow}
 use Rattle.first_form.specs.Laws.{Shows}
 use Rattle.first_form.proofs.Tests.{and_true}

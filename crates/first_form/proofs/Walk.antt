@@ -18,7 +18,7 @@ use Rattle.first_form.specs.Elaborated.{body_from, design_of}
 use Rattle.first_form.specs.Cells.{started, after}
 use Rattle.first_form.specs.CellText.{cell_line, block_text, rows_text}
 use Rattle.first_form.specs.Runs.{FitsInputs, AllFitInputs, GivesRow, GivesRows}
-use Rattle.first_form.specs.Rows.{inputs_of}
+use Rattle.first_form.specs.Ports.{inputs_of}
 use Rattle.first_form.proofs.Tests.{and_true}
 use Rattle.first_form.proofs.Names.{AreAssigned, fitting}
 use Rattle.first_form.proofs.Values.{cells_with, Holds, expr_has, set-cells_with, holds_after, all_after-cells_with}

@@ -10,7 +10,7 @@ use Rattle.design_core.specs.TrailText.{trail_text}
 use Rattle.first_form.specs.declared.signal.Signal.{Signal}
 use Rattle.first_form.specs.Form.{signals_of, statements_of, signal_named, is_assigned, is_form}
 use Rattle.first_form.specs.Elaborated.{body_from, design_of}
-use Rattle.first_form.specs.Rows.{inputs_of}
+use Rattle.first_form.specs.Ports.{inputs_of}
 use Rattle.first_form.specs.Runs.{FitsInputs, AllFitInputs, GivesRow, GivesRows}
 
 -- two runs that have the same rows have one trail

@@ -1,6 +1,6 @@
 pub mod Form
 pub mod Elaborated
-pub mod Rows
+pub mod Ports
 pub mod Cells
 pub mod CellText
 pub mod Runs

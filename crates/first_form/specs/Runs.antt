@@ -2,7 +2,11 @@
 use Rattle.std.specs.Prelude.{◌≡◌, List, [], ◌∷◌}
 use Rattle.bv_core.specs.Value.{Bits}
 use Rattle.design_core.specs.Trail.{Place}
+use Rattle.design_core.specs.declared.Ports.{Ports}
+use Rattle.stim_text.specs.Stimulus.{Stimulus, IsStimulus}
+use Rattle.gen_text.specs.declared.Module.{Module}
 use Rattle.first_form.specs.declared.signal.Signal.{Signal}
+use Rattle.first_form.specs.Ports.{inputs_of}
 
 -- a row has one value for each input, of its width
 abbrev pub FitsInputs : List Signal → List Bits → Type 0
@@ -32,3 +36,7 @@ GivesRows inputs (row ∷ rows) (settled ∷ run) = GivesRow inputs row settled 
 -- some run has the rows
 abbrev pub HasRun : List Signal → List (List Bits) → Type 0
 HasRun inputs rows = (run : List (Place → Bits)) × GivesRows inputs rows run
+
+-- each stimulus that was read by these ports has a run
+abbrev pub EachRuns : Module → Ports → Type 0
+EachRuns tree ports = (stim : Stimulus) → IsStimulus stim → stim.ports ≡ ports → HasRun (inputs_of tree) stim.rows

@@ -1,4 +1,4 @@
-ghost use Rattle.std.specs.Prelude.{◌≡◌, ◌≤◌, List, [], true, IfOk, OnOk, OnErr, IsErrOf, Some, None, map, filter, unwrap_or, if◌then◌else◌};
+ghost use Rattle.std.specs.Prelude.{◌≡◌, ◌≤◌, List, [], true, IfOk, OnOk, OnErr, IsErrOf, Some, None, unwrap_or, if◌then◌else◌};
 ghost use Rattle.std.specs.Option.{option_map};
 ghost use Rattle.std.specs.List.{flat_map};
 ghost use Rattle.io_edge.specs.Faults.{Rose};
@@ -6,24 +6,26 @@ ghost use Rattle.io_edge.specs.Taken.{Appends, AppendsFront};
 ghost use Rattle.bv_core.specs.Value.{Bits};
 ghost use Rattle.design_core.specs.Trail.{Place};
 ghost use Rattle.design_core.specs.TrailText.{trail_text};
+ghost use Rattle.stim_text.specs.Stimulus.{IsStimulus};
 ghost use Rattle.first_form.specs.Form.{only, item_blocks, signals_of, is_form, is_first_form};
 ghost use Rattle.first_form.specs.Elaborated.{design_of};
-ghost use Rattle.first_form.specs.Rows.{inputs_of, rows_of, Gives};
+ghost use Rattle.first_form.specs.Ports.{inputs_of, ArePortsOf};
 ghost use Rattle.first_form.specs.CellText.{form_text};
-ghost use Rattle.first_form.specs.Runs.{AllFitInputs, GivesRows, HasRun};
+ghost use Rattle.first_form.specs.Runs.{GivesRows, EachRuns};
 
 use crate::cells::cells_of;
 use crate::check::is_form_of;
 use crate::signal::signals_of;
-use crate::stimulus::rows_of;
 use crate::trail::write_rows;
-use crate::{Signal, StimulusFault, TrailEnd};
-use bv_core::Bv;
+use crate::ports::{inputs_of, outputs_of};
+use crate::{Signal, TrailEnd};
+use design_core::Ports;
 use gen_text::{Item, Module, Statement};
 use io_edge::Sink;
-use std::alloc::{AllocError, Global};
+use std::alloc::Global;
 use std::marker::Model;
-use text_core::{Listed, NoMemory};
+use stim_text::Stim;
+use text_core::{NoMemory, Text};
 
 /// A module of the first form. Contracts see the module.
 #[derive(Debug, Drop)]
@@ -61,17 +63,19 @@ impl FirstForm {
         })
     }
 
-    /// The rows of a stimulus: the values of the inputs, cycle by cycle.
-    ///
-    /// `NotYet` where the text is no stimulus for these inputs, of at most 1,000 rows of decimal fields and 64 MiB.
-    pub fn read_rows(&self, alloc: Global, text: &[u8]) -> Result<Vec<Listed<Bv>>, StimulusFault>
-        ensures rows { Gives (λ rows. rows.items) result (rows_of (inputs_of self.now) text.now) }
-        ensures fit { IfOk result (λ rows. AllFitInputs (inputs_of self.now) rows.items) }
-        ensures run { IfOk result (λ rows. HasRun (inputs_of self.now) rows.items) }
+    /// The module's ports. It has no registers.
+    #[tactic(auto, using(crate::proofs::Widths::ports_wide, crate::proofs::Widths::named_wide, crate::proofs::RunLemmas::signals_wide))]
+    pub fn ports(&self, alloc: Global) -> Result<Ports, NoMemory>
+        ensures ports { IfOk result (ArePortsOf self.now) }
+        ensures runs { IfOk result (EachRuns self.now) }
     {
-        let (_, signals) = self.parts();
-        let inputs = inputs_of(alloc, signals)?;
-        rows_of(alloc, &inputs, text)
+        let (tree, signals) = self.parts();
+        Ok(Ports {
+            module: Text::new(alloc, tree.name.bytes())?,
+            inputs: inputs_of(alloc, signals)?,
+            outputs: outputs_of(alloc, tree.ports.items())?,
+            registers: 0,
+        })
     }
 
     /// The module and its signals.
@@ -83,49 +87,46 @@ impl FirstForm {
         (&self.tree, &self.signals)
     }
 
-    /// Writes the trail of a run over these rows.
+    /// Writes the trail of a run over the rows of a stimulus that was read by the module's ports.
     pub fn write_trail<S: Sink>(
         &self,
         alloc: Global,
-        rows: &[Listed<Bv>],
+        stim: &Stim,
         out: &mut S,
     ) -> Result<(), TrailEnd>
-        requires { AllFitInputs (inputs_of self.now) rows.now }
-        ensures ok { OnOk result ((run : List (Place → Bits)) → GivesRows (inputs_of self.now) rows.now run
+        requires { ArePortsOf self.now stim.now.ports }
+        ensures ok { OnOk result ((run : List (Place → Bits)) → GivesRows (inputs_of self.now) stim.now.rows run
             → Appends (S.taken out.old) (S.taken out.new) (trail_text (design_of self.now) run)) }
-        ensures front { OnErr result ((run : List (Place → Bits)) → GivesRows (inputs_of self.now) rows.now run
+        ensures front { OnErr result ((run : List (Place → Bits)) → GivesRows (inputs_of self.now) stim.now.rows run
             → AppendsFront (S.taken out.old) (S.taken out.new) (trail_text (design_of self.now) run)) }
         ensures failed { IsErrOf result TrailEnd.Failed → Rose (S.fault_count out.old) (S.fault_count out.new) }
         ensures later { S.fault_count out.old ≤ S.fault_count out.new }
     {
-        self.write_cells(alloc, rows, out)
+        self.write_cells(alloc, stim, out)
     }
 
     /// Writes the lines of the program's cells over these rows.
     fn write_cells<S: Sink>(
         &self,
         alloc: Global,
-        rows: &[Listed<Bv>],
+        stim: &Stim,
         out: &mut S,
     ) -> Result<(), TrailEnd>
         ensures form { is_form self.now ≡ true }
-        ensures ok { OnOk result (Appends (S.taken out.old) (S.taken out.new) (form_text self.now rows.now)) }
-        ensures front { OnErr result (AppendsFront (S.taken out.old) (S.taken out.new) (form_text self.now rows.now)) }
+        ensures kept { IsStimulus stim.now }
+        ensures ok { OnOk result (Appends (S.taken out.old) (S.taken out.new) (form_text self.now stim.now.rows)) }
+        ensures front { OnErr result (AppendsFront (S.taken out.old) (S.taken out.new) (form_text self.now stim.now.rows)) }
         ensures failed { IsErrOf result TrailEnd.Failed → Rose (S.fault_count out.old) (S.fault_count out.new) }
         ensures later { S.fault_count out.old ≤ S.fault_count out.new }
     {
         let (tree, signals) = self.parts();
+        if stim.rows() == 0 {
+            return Ok(());
+        }
         let mut cells = cells_of(alloc, signals)?;
         let statements = statements_of(tree.items.items());
-        write_rows(alloc, tree.name.bytes(), &mut cells, statements, rows, out)
+        write_rows(alloc, tree.name.bytes(), &mut cells, statements, stim, out)
     }
-}
-
-/// The inputs among the signals, in order.
-fn inputs_of(alloc: Global, signals: &[Signal]) -> Result<Vec<&Signal>, AllocError>
-    ensures { IfOk result (λ inputs. map (λ input. input.now) inputs.items ≡ filter (λ signal. signal.input) signals.now) }
-{
-    signals.iter().filter(|signal| signal.input).collect(alloc)
 }
 
 /// The statements of the block, where there is one block, and otherwise none.

@@ -1,17 +1,16 @@
-//! The forms of source and stimulus that are accepted today, and their execution.
+//! The form of source that is accepted today, and its execution.
 #![tactic(auto)]
 
 mod cells;
 mod check;
 mod form;
 mod laws;
+mod ports;
 mod signal;
-mod stimulus;
 mod stop;
 mod trail;
 
 pub use form::FirstForm;
 pub use laws::{one_trail, status};
 pub use signal::Signal;
-pub use stimulus::StimulusFault;
 pub use stop::TrailEnd;

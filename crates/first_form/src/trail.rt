@@ -5,16 +5,18 @@ ghost use Rattle.std.specs.List.{flat_map};
 ghost use Rattle.io_edge.specs.Faults.{Rose};
 ghost use Rattle.io_edge.specs.Taken.{Appends, AppendsFront};
 ghost use Rattle.design_core.specs.TrailText.{named_value};
+ghost use Rattle.stim_text.specs.Stimulus.{IsStimulus};
 ghost use Rattle.first_form.specs.Cells.{all_after};
 ghost use Rattle.first_form.specs.CellText.{cell_line, block_text, rows_text};
 
 use crate::TrailEnd;
 use crate::cells::{Cell, assign, start};
-use bv_core::{Bv, text_of};
+use bv_core::text_of;
 use gen_text::Statement;
 use io_edge::Sink;
 use std::alloc::Global;
-use text_core::{Listed, NoMemory};
+use stim_text::Stim;
+use text_core::NoMemory;
 
 /// Adds a blank, and the name with its value.
 fn push_cell(alloc: Global, text: &mut Vec<u8>, cell: &Cell) -> Result<(), NoMemory>
@@ -100,23 +102,24 @@ fn write_block<S: Sink>(
     Ok(())
 }
 
-/// Executes the block once for each row, and writes the lines.
+/// Executes the block once for each row of a stimulus, and writes the lines.
 pub(crate) fn write_rows<S: Sink>(
     alloc: Global,
     path: &[u8],
     cells: &mut [Cell],
     statements: &[Statement],
-    rows: &[Listed<Bv>],
+    stim: &Stim,
     out: &mut S,
 ) -> Result<(), TrailEnd>
-    ensures ok { OnOk result (Appends (S.taken out.old) (S.taken out.new) (rows_text 0 path.now cells.old statements.now rows.now)) }
-    ensures front { OnErr result (AppendsFront (S.taken out.old) (S.taken out.new) (rows_text 0 path.now cells.old statements.now rows.now)) }
+    ensures kept { IsStimulus stim.now }
+    ensures ok { OnOk result (Appends (S.taken out.old) (S.taken out.new) (rows_text 0 path.now cells.old statements.now stim.now.rows)) }
+    ensures front { OnErr result (AppendsFront (S.taken out.old) (S.taken out.new) (rows_text 0 path.now cells.old statements.now stim.now.rows)) }
     ensures failed { IsErrOf result TrailEnd.Failed → Rose (S.fault_count out.old) (S.fault_count out.new) }
     ensures later { S.fault_count out.old ≤ S.fault_count out.new }
 {
-    for (cycle, row) in rows.iter().enumerate() {
-        start(cells, row.items());
-        write_block(alloc, cycle as u64, path, cells, statements, out)?;
+    for cycle in 0..stim.rows() {
+        start(cells, stim.row(cycle));
+        write_block(alloc, cycle, path, cells, statements, out)?;
     }
     Ok(())
 }

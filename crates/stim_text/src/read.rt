@@ -1,5 +1,6 @@
 ghost use Rattle.std.specs.Prelude.{◌≡◌, ◌+◌, ◌*◌, ◌/◌, min, length, IfOk};
 ghost use Rattle.stim_text.specs.Rows.{Gives, are_few, rows_of};
+ghost use Rattle.stim_text.specs.Stimulus.{IsStimulus};
 
 use crate::lines::{count_lines, next_line};
 use crate::rows::{is_header, read_rows};
@@ -42,6 +43,7 @@ fn room_for(ports: &Ports, rows: u64, text: &[u8]) -> usize
 pub fn read_stim(alloc: Global, text: &[u8], ports: &Ports) -> Result<Stim, StimFault>
     ensures rows { Gives (λ stim. stim.rows) result (rows_of ports.now text.now) }
     ensures ports { IfOk result (λ stim. stim.ports ≡ ports.now) }
+    ensures kept { IfOk result IsStimulus }
 {
     if text.len() > MOST_BYTES {
         return Err(StimFault::TooLong);

@@ -30,7 +30,8 @@ impl Stim {
     pub(crate) fn new(ports: Ports, count: u64, values: Vec<Bv>) -> Stim
         requires kept { IsStimulus (record { ports = ports; rows = rows_in (length ports.inputs) count values.items }) }
         requires len { length values.items ≡ count * length ports.inputs }
-        ensures { result ≡ record { ports = ports; rows = rows_in (length ports.inputs) count values.items } }
+        ensures made { result ≡ record { ports = ports; rows = rows_in (length ports.inputs) count values.items } }
+        ensures kept { IsStimulus result }
     {
         Stim {
             ports,

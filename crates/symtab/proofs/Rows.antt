@@ -6,7 +6,8 @@ use Rattle.std.proofs.lemmas.Option.{slice_get_within, slice_get-get_or, get_or_
 use Rattle.symtab.specs.declared.parts.Row.{Row}
 use Rattle.symtab.specs.declared.parts.Slot.{Slot}
 use Rattle.symtab.specs.declared.parts.TableParts.{TableParts}
-use Rattle.symtab.specs.Places.{places, rank}
+use Rattle.symtab.specs.Places.{places}
+use Rattle.symtab.specs.Tables.{rank}
 use Rattle.symtab.specs.Shape.{IsTable, IsSlot, IsRow, variants_of}
 use Rattle.symtab.specs.Lookups.{instances_of, row_of}
 use Rattle.symtab.proofs.Grouped.{rank_from}

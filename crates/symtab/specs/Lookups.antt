@@ -1,12 +1,12 @@
 -- What is found in the parts of a symbol table.
-use Rattle.std.specs.Prelude.{◌≡◌, ℕ, ◌==◌, List, [], Option, map, slice_get, option_and_then, option_map, position, bytes_eq, Contains, IsSomeAnd}
+use Rattle.std.specs.Prelude.{ℕ, ◌==◌, List, [], Option, slice_get, option_and_then, option_map, position, bytes_eq, Contains, IsSomeAnd}
 use Rattle.std.specs.Option.{option_map_or}
 use Rattle.bv_core.specs.declared.Ref.{Ref}
 use Rattle.bv_core.specs.declared.Binding.{Binding}
 use Rattle.symtab.specs.declared.parts.Row.{Row}
 use Rattle.symtab.specs.declared.parts.TableParts.{TableParts}
 use Rattle.symtab.specs.Places.{places}
-use Rattle.symtab.specs.Shape.{IsTable, variants_of, lines_of, paths_of}
+use Rattle.symtab.specs.Shape.{variants_of}
 
 -- the instances of a slot's variant, in order
 abbrev pub instances_of : TableParts → ℕ → List ℕ
@@ -33,11 +33,3 @@ enable_of parts k instance = option_map (λ row. row.on) (row_of parts k instanc
 abbrev pub binding_of : TableParts → ℕ → ℕ → List ℕ → Option Binding
 binding_of parts k instance name =
     option_and_then (λ row. option_and_then (slice_get row.cells) (name_place parts k name)) (row_of parts k instance)
-
--- the parts are a table's, and the tables made of them are theirs
-pub record IsIndexed (parts : TableParts) (lines variants : List ℕ) (paths : List (List ℕ)) (names : List (List (List ℕ))) : Type 0 where
-  pub table : IsTable parts
-  pub of_lines : lines ≡ lines_of parts.slots
-  pub of_variants : variants ≡ variants_of parts.instances
-  pub of_paths : paths ≡ paths_of parts.instances
-  pub of_names : names ≡ map (λ slot. slot.names) parts.slots

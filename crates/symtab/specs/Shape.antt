@@ -17,17 +17,17 @@ use Rattle.symtab.specs.Places.{places}
 abbrev pub IsShort : {A : Type 0} → List A → Type 0
 IsShort xs = length xs < 2 ^ 32
 
--- a width in bits
+-- a width in bits: from 1 to 128
 pub record IsWidth (width : ℕ) : Type 0 where
   pub some : 1 ≤ width
   pub most : width ≤ 128
 
--- the number of a generator variable
+-- the number of a generator variable: from -2^62 to 2^62
 pub record IsGenNumber (number : ℤ) : Type 0 where
   pub least : neg_ℤ (pos (2 ^ 62)) ≤ℤ number
   pub most : number ≤ℤ pos (2 ^ 62)
 
--- generator variables
+-- generator variables: few enough, with numbers in range
 pub record AreGens (gens : List GenVariable) : Type 0 where
   pub short : IsShort gens
   pub numbers : All (λ gen. IsGenNumber gen.value) gens
@@ -60,7 +60,7 @@ IsCell nodes (Value at) = IsFound nodes at
 IsCell nodes Unset = Unit {0}
 IsCell nodes Removed = Unit {0}
 
--- a row over these nodes, for these names
+-- a row over these nodes, for these names: its enable has width 1, and it has a cell for each name
 pub record IsRow (nodes : List NodeName) (names : List (List ℕ)) (row : Row) : Type 0 where
   pub on : IsFound nodes row.on
   pub on_width : width_of row.on ≡ 1
@@ -68,7 +68,8 @@ pub record IsRow (nodes : List NodeName) (names : List (List ℕ)) (row : Row) :
   pub count : length row.cells ≡ length names
   pub cells : All (IsCell nodes) row.cells
 
--- a slot over these nodes, this many variants, and the variants of the instances
+-- a slot over these nodes, this many variants, and the variants of the instances: its names differ, and it has a row
+-- for each instance of its variant
 pub record IsSlot (nodes : List NodeName) (variants : ℕ) (of_instances : List ℕ) (slot : Slot) : Type 0 where
   pub variant : slot.variant < variants
   pub line : slot.line < 2 ^ 30
@@ -79,7 +80,8 @@ pub record IsSlot (nodes : List NodeName) (variants : ℕ) (of_instances : List 
   pub count : length slot.rows ≡ length (places slot.variant of_instances)
   pub rows : All (IsRow nodes slot.names) slot.rows
 
--- the parts of a table
+-- the parts of a table: widths are 1 to 128, the names of nodes differ, the paths differ, the first of them is `top`,
+-- and every variant, instance and slot keeps its rules
 pub record IsTable (parts : TableParts) : Type 0 where
   pub widths : All (λ node. IsWidth node.width) parts.nodes
   pub node_names : AreApart (map (λ node. node.name) parts.nodes)

@@ -37,8 +37,8 @@ pub struct Row {
     pub cells: Listed<Binding>,
 }
 
-/// A statement of a variant: its line, from 1, its generator variables, the names in scope, and a row for each
-/// instance of the variant, in order.
+/// A statement of a variant: its line, its generator variables, the names in scope, and a row for each instance of the
+/// variant, in order. In a table the line is below 2^30, and a row has a cell for each name, in order.
 #[derive(Debug, Drop)]
 pub struct Slot {
     pub variant: u32,

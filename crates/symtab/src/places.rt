@@ -1,5 +1,6 @@
 ghost use Rattle.std.specs.Prelude.{◌≡◌, ◌<◌, ◌≤◌, ◌^◌, ℕ, IfOk, All, length, slice_index};
-ghost use Rattle.symtab.specs.Places.{places, group_of, rank};
+ghost use Rattle.symtab.specs.Places.{places};
+ghost use Rattle.symtab.specs.Tables.{group_of, rank};
 
 use std::alloc::Global;
 use std::collections::HashMap;
@@ -16,7 +17,7 @@ pub struct Places {
 
 impl Model for Places {
     ghost use Rattle.std.specs.Prelude.{List, ℕ};
-    ghost use Rattle.symtab.specs.Places.{AreTables};
+    ghost use Rattle.symtab.specs.Tables.{AreTables};
 
     ghost Value = { List ℕ };
 

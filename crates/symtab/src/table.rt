@@ -28,7 +28,7 @@ impl Model for Table {
 
     ghost Value = { TableParts };
 
-    ghost use Rattle.symtab.specs.Lookups.{IsIndexed};
+    ghost use Rattle.symtab.specs.Indexed.{IsIndexed};
 
     ghost view = { λ t. t.parts };
 

@@ -1,7 +1,18 @@
-use Rattle.dbg_app.proofs.Ending.{usage_taken}
+use Rattle.std.proofs.Common.{◌<◌, lit<}
+use Rattle.dbg_app.proofs.Ending.{usage_taken, refusal_taken, front_taken}
 use Rattle.dbg_app.proofs.program.act.Goals as goal
 
 pub returns-in-Ok-clause-usage_front : goal.returns-in-Ok-clause-usage_front
 returns-in-Ok-clause-usage_front g c = λ none.
     let e = c.end.ensures in
     usage_taken c.end.result.status c.in-Ok.judged _ _ e.statuses (c.in-Ok.ensures.command.1 none) e.done e.no_read e.front
+
+pub returns-in-Ok-clause-stimulus_line : goal.returns-in-Ok-clause-stimulus_line
+returns-in-Ok-clause-stimulus_line g c = λ four.
+    let e = c.end.ensures in
+    let early : c.end.result.status < 7 = rw four (lit< tt) in
+    refusal_taken c.end.result.status c.in-Ok.judged _ _ four (e.status early) (e.done early)
+
+pub returns-in-Ok-clause-front : goal.returns-in-Ok-clause-front
+returns-in-Ok-clause-front g c = λ late.
+    front_taken (g.F.Files.told c.args.files.now) _ c.in-Ok.judged _ _ c.in-Ok.ensures.judged c.in-Ok.ensures.rows (c.end.ensures.front late)

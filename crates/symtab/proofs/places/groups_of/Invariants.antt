@@ -1,5 +1,6 @@
 use Rattle.std.proofs.Common.{◌≡◌, ℕ, take}
-use Rattle.symtab.specs.Places.{places, group_of}
+use Rattle.symtab.specs.Places.{places}
+use Rattle.symtab.specs.Tables.{group_of}
 use Rattle.symtab.proofs.places.groups_of.Given as goal
 
 -- each number has the places where it stands in the front

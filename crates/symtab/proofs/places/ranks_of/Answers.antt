@@ -1,6 +1,7 @@
 use Rattle.std.proofs.Common.{◌≡◌, take, length, slice_index, arith}
 use Rattle.std.proofs.lemmas.Grind.{common_steps}
-use Rattle.symtab.specs.Places.{places, rank}
+use Rattle.symtab.specs.Places.{places}
+use Rattle.symtab.specs.Tables.{rank}
 use Rattle.symtab.proofs.Grouped.{places_more, length-places}
 use Rattle.symtab.proofs.places.ranks_of.Goals as goal
 

@@ -1,6 +1,7 @@
 use Rattle.std.proofs.Common.{◌≡◌, ◌<◌, ℕ, List, take, length, slice_index, unwrap_or, nat_eq}
 use Rattle.std.specs.HashMap.{get}
-use Rattle.symtab.specs.Places.{places, rank, Counts}
+use Rattle.symtab.specs.Places.{places}
+use Rattle.symtab.specs.Tables.{rank, Counts}
 use Rattle.symtab.proofs.places.ranks_of.Given as goal
 
 -- each number was counted in the front, and the ranks of the front are there

@@ -7,9 +7,9 @@ use Rattle.first_form.proofs.form.FirstForm.write_trail.Goals as goal
 pub returns-clause-ok : goal.returns-clause-ok
 returns-clause-ok g c =
     let P : List ℕ → Type 0 = λ text. Appends (g.S.Sink.taken c.args.out.now) (g.S.Sink.taken c.write_cells.new.out) text in
-    on_ok_weaker c.write_cells.result (each_run c.args.self.now c.args.rows.now P c.write_cells.ensures.form c.requires) c.write_cells.ensures.ok
+    on_ok_weaker c.write_cells.result (each_run c.args.self.now c.args.stim.now P c.write_cells.ensures.form c.write_cells.ensures.kept c.requires) c.write_cells.ensures.ok
 
 pub returns-clause-front : goal.returns-clause-front
 returns-clause-front g c =
     let P : List ℕ → Type 0 = λ text. AppendsFront (g.S.Sink.taken c.args.out.now) (g.S.Sink.taken c.write_cells.new.out) text in
-    on_err_weaker c.write_cells.result (each_run c.args.self.now c.args.rows.now P c.write_cells.ensures.form c.requires) c.write_cells.ensures.front
+    on_err_weaker c.write_cells.result (each_run c.args.self.now c.args.stim.now P c.write_cells.ensures.form c.write_cells.ensures.kept c.requires) c.write_cells.ensures.front
