@@ -1,4 +1,2 @@
-pub mod Faults
-pub mod Grammar
+pub mod Forms
 pub mod Reading
-pub mod Source

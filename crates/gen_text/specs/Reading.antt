@@ -1,280 +1,546 @@
--- Reading of trees from lists of tokens, from left to right with one token ahead. None: nothing is read.
-use Rattle.std.specs.Prelude.{ℕ, zero, suc, Bool, true, false, List, [], ◌∷◌, length, Option, Some, None, is_some, option_and_then, if◌then◌else◌, ◌||◌}
-use Rattle.std.specs.Option.{option_map}
-use denote.Enum.Bare.{sameb}
-use Rattle.gen_token.specs.contracts.Keyword as keyword_enum
-use Rattle.gen_token.specs.contracts.Mark as mark_enum
+-- Reading from left to right with one token ahead. A fault is the number of tokens from the bad one on. `room` is how many
+-- brackets may still be opened.
+use Rattle.std.specs.Prelude.{ℕ, zero, suc, ◌-◌, List, [], ◌∷◌, length, Bool, true, false, cond, Option, Some, None, Result, Ok, Err, is_some}
 use Rattle.gen_token.specs.declared.Keyword.{Keyword}
 use Rattle.gen_token.specs.declared.Keyword.TheVariants as keyword
 use Rattle.gen_token.specs.declared.Mark.{Mark}
 use Rattle.gen_token.specs.declared.Mark.TheVariants as mark
-use Rattle.gen_token.specs.Words.{Word, Name, Number, Literal, Reserved, Sign, Tok}
-use Rattle.gen_text.specs.declared.tree.Op.{Op}
-use Rattle.gen_text.specs.declared.tree.Op.TheVariants as op
-use Rattle.gen_text.specs.declared.tree.Operand.{Operand}
-use Rattle.gen_text.specs.declared.tree.Operand.TheVariants as operand
-use Rattle.gen_text.specs.declared.tree.Expr.{Expr}
-use Rattle.gen_text.specs.declared.tree.Expr.TheVariants as expr
-use Rattle.gen_text.specs.declared.tree.Statement.{Statement}
-use Rattle.gen_text.specs.declared.tree.Item.{Item}
-use Rattle.gen_text.specs.declared.tree.Item.TheVariants as item
-use Rattle.gen_text.specs.declared.tree.Port.{Port}
-use Rattle.gen_text.specs.declared.tree.Module.{Module}
+use Rattle.gen_token.specs.Words.{Word, Tok}
+use Rattle.gen_tree.specs.declared.IntOp.{IntOp}
+use Rattle.gen_tree.specs.declared.Cmp.{Cmp}
+use Rattle.gen_tree.specs.declared.UnOp.{UnOp}
+use Rattle.gen_tree.specs.declared.Op.{Op}
+use Rattle.gen_tree.specs.declared.Op.TheVariants as op
+use Rattle.gen_tree.specs.declared.Mode.{Mode}
+use Rattle.gen_tree.specs.declared.Mode.TheVariants as mode
+use Rattle.gen_tree.specs.Grammar.{assign_mark}
+use Rattle.gen_tree.specs.Tree.{Int, num, var, bin, Fam, Lit, plain, bits, Expr, read, out, value, unary, binary, mux, zext, slice, Stmt, assign, bind, choose, repeat, given, Stmts, stmts, Else, no_else, otherwise, Param, Conn, Item, wire, reg, inst, comb, ff, repeat_items, given_items, Items, items, ElseItems, no_else_items, otherwise_items, Port, Module}
+use Rattle.gen_text.specs.Forms.{is_mark, is_keyword, name_form, IntForm, a_number, a_variable, a_group, no_int, int_form, int_op_form, cmp_form, LitForm, a_plain, a_bits, no_lit, lit_form, op_form, PrimForm, a_name, a_lit, a_bracket, a_unary, a_cat, a_mux, a_zext, prim_form, StmtForm, an_assign, a_let, an_if, a_for, a_gen, no_stmt_form, stmt_form, ItemForm, a_wire, a_reg, an_inst, a_block, a_for_item, a_gen_item, no_item_form, item_form, port_form}
 
--- a value that is read, and the tokens behind it
 abbrev pub Read : Type 0 → Type 0
-Read A = Option (A × List Tok)
+Read A = Result (A × List Tok) ℕ
 
 infixl 10 ◌>>=◌
--- one step after another, unless nothing is read
-abbrev pub ◌>>=◌ : {A B : Type 0} → Option A → (A → Option B) → Option B
-o >>= f = option_and_then f o
+abbrev pub ◌>>=◌ : {A B : Type 0} → Result A ℕ → (A → Result B ℕ) → Result B ℕ
+(Ok x) >>= f = f x
+(Err e) >>= f = Err e
+
+-- what was read, seen otherwise
+abbrev pub seen : {A B : Type 0} → (A → B) → Read A → Read B
+seen f o = o >>= λ x. Ok (f x.0, x.1)
 
 -- ---- one token
 
--- the line of the first token
-abbrev pub line_at : List Tok → Option ℕ
-line_at [] = None
-line_at (t ∷ ts) = Some t.line
+-- what follows a token that passes the test
+abbrev pub behind : (Word → Bool) → List Tok → Result (List Tok) ℕ
+behind test [] = Err 0
+behind test (t ∷ ts) = cond (test t.word) (Ok ts) (Err (suc (length ts)))
 
--- what the first token is read as, and the tokens behind it
-abbrev pub first_as : {A : Type 0} → (Word → Option A) → List Tok → Read A
-first_as of [] = None
-first_as of (t ∷ ts) = option_map (λ x. (x, ts)) (of t.word)
+abbrev pub mark_at : Mark → List Tok → Result (List Tok) ℕ
+mark_at m ts = behind (is_mark m) ts
 
--- the first token is read as something
-abbrev pub begins_as : {A : Type 0} → (Word → Option A) → List Tok → Bool
-begins_as of [] = false
-begins_as of (t ∷ ts) = is_some (of t.word)
+abbrev pub keyword_at : Keyword → List Tok → Result (List Tok) ℕ
+keyword_at k ts = behind (is_keyword k) ts
 
--- whether a word is this mark
-abbrev pub is_mark : Mark → Word → Bool
-is_mark mark (Name name) = false
-is_mark mark (Number number) = false
-is_mark mark (Literal width value) = false
-is_mark mark (Reserved found) = false
-is_mark mark (Sign found) = sameb mark_enum.the_type found mark
-
--- whether a word is this keyword
-abbrev pub is_keyword : Keyword → Word → Bool
-is_keyword keyword (Name name) = false
-is_keyword keyword (Number number) = false
-is_keyword keyword (Literal width value) = false
-is_keyword keyword (Reserved found) = sameb keyword_enum.the_type found keyword
-is_keyword keyword (Sign found) = false
-
--- the tokens behind a token that passes the test
-abbrev pub behind : (Word → Bool) → List Tok → Option (List Tok)
-behind test [] = None
-behind test (t ∷ ts) = if test t.word then Some ts else None
-
--- the tokens behind this mark
-abbrev pub mark_at : Mark → List Tok → Option (List Tok)
-mark_at mark ts = behind (is_mark mark) ts
-
--- the tokens behind this keyword
-abbrev pub keyword_at : Keyword → List Tok → Option (List Tok)
-keyword_at keyword ts = behind (is_keyword keyword) ts
-
--- the first token passes the test
+-- a token that passes the test stands in front
 abbrev pub begins : (Word → Bool) → List Tok → Bool
 begins test [] = false
 begins test (t ∷ ts) = test t.word
 
--- a name's bytes
-abbrev pub name_of : Word → Option (List ℕ)
-name_of (Name name) = Some name
-name_of (Number number) = None
-name_of (Literal width value) = None
-name_of (Reserved found) = None
-name_of (Sign found) = None
+abbrev pub rest_of : List Tok → List Tok
+rest_of [] = []
+rest_of (t ∷ ts) = ts
 
--- a number
-abbrev pub number_of : Word → Option ℕ
-number_of (Name name) = None
-number_of (Number number) = Some number
-number_of (Literal width value) = None
-number_of (Reserved found) = None
-number_of (Sign found) = None
+abbrev pub some_at : {A : Type 0} → Option A → List Tok → Read A
+some_at None ts = Err (suc (length ts))
+some_at (Some x) ts = Ok (x, ts)
 
--- a name or a literal
-abbrev pub operand_of : Word → Option Operand
-operand_of (Name name) = Some (operand.Read name)
-operand_of (Number number) = None
-operand_of (Literal width value) = Some (operand.Value width value)
-operand_of (Reserved found) = None
-operand_of (Sign found) = None
+-- what the first token is read as
+abbrev pub first_as : {A : Type 0} → (Word → Option A) → List Tok → Read A
+first_as form [] = Err 0
+first_as form (t ∷ ts) = some_at (form t.word) ts
 
--- the operator that a mark is
-abbrev pub op_of : Word → Option Op
-op_of (Name name) = None
-op_of (Number number) = None
-op_of (Literal width value) = None
-op_of (Reserved found) = None
-op_of (Sign mark.Plus) = Some op.Add
-op_of (Sign mark.Caret) = Some op.Xor
-op_of (Sign _) = None
-
--- the keyword of a port: whether it is an output
-abbrev pub direction_of : Word → Option Bool
-direction_of (Name name) = None
-direction_of (Number number) = None
-direction_of (Literal width value) = None
-direction_of (Reserved keyword.Output) = Some true
-direction_of (Reserved keyword.Input) = Some false
-direction_of (Reserved _) = None
-direction_of (Sign found) = None
-
--- a name in front
 abbrev pub name_at : List Tok → Read (List ℕ)
-name_at ts = first_as name_of ts
+name_at ts = first_as name_form ts
 
--- a number in front
-abbrev pub number_at : List Tok → Read ℕ
-number_at ts = first_as number_of ts
+-- a bracket opens only where there is room
+abbrev pub within : {A : Type 0} → ℕ → ℕ → Result A ℕ → Result A ℕ
+within zero left inner = Err left
+within (suc room) left inner = inner
 
--- ---- expressions and statements
+abbrev pub open_at : Mark → ℕ → List Tok → Result (List Tok) ℕ
+open_at m room ts = within room (length ts) (mark_at m ts)
 
--- an operand in front
-abbrev pub operand_at : List Tok → Read Operand
-operand_at ts = first_as operand_of ts
+-- ---- integers
 
--- an operator in front
-abbrev pub op_at : List Tok → Read Op
-op_at ts = first_as op_of ts
+abbrev pub int_op_at : List Tok → Read IntOp
+int_op_at ts = first_as int_op_form ts
 
--- two operands with an operator between them, in brackets
-unfoldable pub bracket_at : List Tok → Read Expr
-bracket_at ts = do
-  t1 ← mark_at mark.LeftParen ts
-  a ← operand_at t1
-  op ← op_at a.1
-  b ← operand_at op.1
+abbrev pub cmp_at : List Tok → Read Cmp
+cmp_at ts = first_as cmp_form ts
+
+-- behind the bracket of an integer
+abbrev pub group_at : (List Tok → Read Int) → List Tok → Read Int
+group_at inner ts = do
+  a ← inner ts
+  o ← int_op_at a.1
+  b ← inner o.1
   rest ← mark_at mark.RightParen b.1
-  Some (expr.Bin op.0 a.0 b.0, rest)
+  Ok (bin o.0 a.0 b.0, rest)
 
--- an expression
-unfoldable pub expr_at : List Tok → Read Expr
-expr_at ts =
-    if begins (is_mark mark.LeftParen) ts then bracket_at ts
-    else option_map (λ found. (expr.One found.0, found.1)) (operand_at ts)
+abbrev pub int_by : ℕ → (List Tok → Read Int) → IntForm → List Tok → Read Int
+int_by room inner (a_number n) ts = Ok (num n, ts)
+int_by room inner (a_variable x) ts = Ok (var x, ts)
+int_by room inner a_group ts = within room (suc (length ts)) (group_at inner ts)
+int_by room inner no_int ts = Err (suc (length ts))
 
--- a statement
-unfoldable pub statement_at : List Tok → Read Statement
-statement_at ts = do
-  line ← line_at ts
-  target ← name_at ts
-  t1 ← mark_at mark.Equals target.1
-  value ← expr_at t1
-  rest ← mark_at mark.Semicolon value.1
-  Some (record { line = line; target = target.0; value = value.0 }, rest)
+abbrev pub int_step : Mode → ℕ → (List Tok → Read Int) → List Tok → Read Int
+int_step m room inner [] = Err 0
+int_step m room inner (t ∷ ts) = int_by room inner (int_form m t.word) ts
+
+unfoldable pub int_at : Mode → ℕ → List Tok → Read Int
+int_at m zero ts = int_step m zero (λ ts. Err 0) ts
+int_at m (suc room) ts = int_step m (suc room) (int_at m room) ts
+
+-- behind a bracket
+abbrev pub inner_int : Mode → ℕ → List Tok → Read Int
+inner_int m zero ts = Err 0
+inner_int m (suc room) ts = int_at m room ts
+
+-- ---- names with an index
+
+abbrev pub index_at : Mode → ℕ → List Tok → Read (Option Int)
+index_at m room ts = cond (begins (is_mark mark.Hash) ts) (seen (λ i. Some i) (int_at m room (rest_of ts))) (Ok (None, ts))
+
+abbrev pub fam_of_name : List ℕ → Option Int → Fam
+fam_of_name x i = record { name = x; index = i }
+
+-- behind the name
+abbrev pub fam_rest_at : Mode → ℕ → List ℕ → List Tok → Read Fam
+fam_rest_at m room x ts = seen (fam_of_name x) (index_at m room ts)
+
+abbrev pub fam_at : ℕ → List Tok → Read Fam
+fam_at room ts = name_at ts >>= λ x. fam_rest_at mode.Source room x.0 x.1
+
+-- ---- expressions
+
+-- behind `bits`
+abbrev pub bits_at : Mode → ℕ → List Tok → Read Lit
+bits_at m room ts = do
+  t1 ← open_at mark.LeftParen room ts
+  w ← int_at m (room - 1) t1
+  t2 ← mark_at mark.Comma w.1
+  v ← int_at m (room - 1) t2
+  rest ← mark_at mark.RightParen v.1
+  Ok (bits w.0 v.0, rest)
+
+abbrev pub lit_by : Mode → ℕ → LitForm → List Tok → Read Lit
+lit_by m room (a_plain w v) ts = Ok (plain w v, ts)
+lit_by m room a_bits ts = bits_at m room ts
+lit_by m room no_lit ts = Err (suc (length ts))
+
+abbrev pub lit_at : Mode → ℕ → List Tok → Read Lit
+lit_at m room [] = Err 0
+lit_at m room (t ∷ ts) = lit_by m room (lit_form m t.word) ts
+
+abbrev pub dot_at : List Tok → Read (Option (List ℕ))
+dot_at ts = cond (begins (is_mark mark.Dot) ts) (seen (λ q. Some q) (name_at (rest_of ts))) (Ok (None, ts))
+
+abbrev pub read_of : Fam → Option (List ℕ) → Expr
+read_of f None = read f
+read_of f (Some q) = out f q
+
+-- behind the name that is read
+abbrev pub read_at : Mode → ℕ → List ℕ → List Tok → Read Expr
+read_at m room x ts = fam_rest_at m room x ts >>= λ f. seen (read_of f.0) (dot_at f.1)
+
+abbrev pub op_at : List Tok → Read Op
+op_at ts = first_as op_form ts
+
+-- behind the bracket of an operator
+abbrev pub bracket_at : (List Tok → Read Expr) → List Tok → Read Expr
+bracket_at inner ts = do
+  a ← inner ts
+  o ← op_at a.1
+  b ← inner o.1
+  rest ← mark_at mark.RightParen b.1
+  Ok (binary o.0 a.0 b.0, rest)
+
+-- behind the operator
+abbrev pub unary_at : ℕ → (List Tok → Read Expr) → UnOp → List Tok → Read Expr
+unary_at room inner o ts = do
+  t1 ← open_at mark.LeftParen room ts
+  e ← inner t1
+  rest ← mark_at mark.RightParen e.1
+  Ok (unary o e.0, rest)
+
+-- behind `cat`
+abbrev pub cat_at : ℕ → (List Tok → Read Expr) → List Tok → Read Expr
+cat_at room inner ts = do
+  t1 ← open_at mark.LeftParen room ts
+  a ← inner t1
+  t2 ← mark_at mark.Comma a.1
+  b ← inner t2
+  rest ← mark_at mark.RightParen b.1
+  Ok (binary op.Cat a.0 b.0, rest)
+
+-- behind `zext`
+abbrev pub zext_at : Mode → ℕ → (List Tok → Read Expr) → List Tok → Read Expr
+zext_at m room inner ts = do
+  t1 ← open_at mark.LeftParen room ts
+  e ← inner t1
+  t2 ← mark_at mark.Comma e.1
+  w ← int_at m (room - 1) t2
+  rest ← mark_at mark.RightParen w.1
+  Ok (zext e.0 w.0, rest)
+
+-- behind `mux`
+abbrev pub mux_at : ℕ → (List Tok → Read Expr) → List Tok → Read Expr
+mux_at room inner ts = do
+  t1 ← open_at mark.LeftParen room ts
+  c ← inner t1
+  t2 ← mark_at mark.Comma c.1
+  a ← inner t2
+  t3 ← mark_at mark.Comma a.1
+  b ← inner t3
+  rest ← mark_at mark.RightParen b.1
+  Ok (mux c.0 a.0 b.0, rest)
+
+abbrev pub prim_by : Mode → ℕ → (List Tok → Read Expr) → PrimForm → List Tok → Read Expr
+prim_by m room inner (a_name x) ts = read_at m room x ts
+prim_by m room inner (a_lit l) ts = seen (λ l. value l) (lit_by m room l ts)
+prim_by m room inner a_bracket ts = within room (suc (length ts)) (bracket_at inner ts)
+prim_by m room inner (a_unary o) ts = unary_at room inner o ts
+prim_by m room inner a_cat ts = cat_at room inner ts
+prim_by m room inner a_mux ts = mux_at room inner ts
+prim_by m room inner a_zext ts = zext_at m room inner ts
+
+abbrev pub prim_step : Mode → ℕ → (List Tok → Read Expr) → List Tok → Read Expr
+prim_step m room inner [] = Err 0
+prim_step m room inner (t ∷ ts) = prim_by m room inner (prim_form m t.word) ts
+
+-- behind the bracket of a slice
+abbrev pub bounds_at : Mode → ℕ → Expr → List Tok → Read Expr
+bounds_at m room e ts = do
+  t1 ← open_at mark.LeftBracket room ts
+  h ← int_at m (room - 1) t1
+  t2 ← mark_at mark.Colon h.1
+  l ← int_at m (room - 1) t2
+  rest ← mark_at mark.RightBracket l.1
+  Ok (slice e h.0 l.0, rest)
+
+-- a slice behind an expression, or none
+abbrev pub slice_at : Mode → ℕ → Expr → List Tok → Read Expr
+slice_at m room e ts = cond (begins (is_mark mark.LeftBracket) ts) (bounds_at m room e ts) (Ok (e, ts))
+
+abbrev pub expr_step : Mode → ℕ → (List Tok → Read Expr) → List Tok → Read Expr
+expr_step m room inner ts = prim_step m room inner ts >>= λ p. slice_at m room p.0 p.1
+
+unfoldable pub expr_at : Mode → ℕ → List Tok → Read Expr
+expr_at m zero ts = expr_step m zero (λ ts. Err 0) ts
+expr_at m (suc room) ts = expr_step m (suc room) (expr_at m room) ts
+
+-- behind a bracket
+abbrev pub inner_expr : Mode → ℕ → List Tok → Read Expr
+inner_expr m zero = λ ts. Err 0
+inner_expr m (suc room) = expr_at m room
+
+-- in a source
+abbrev pub source_int_at : ℕ → List Tok → Read Int
+source_int_at room ts = int_at mode.Source room ts
+
+abbrev pub source_expr_at : ℕ → List Tok → Read Expr
+source_expr_at room ts = expr_at mode.Source room ts
 
 -- ---- lists
 
+-- members up to a closing brace, and what follows it; the number bounds the turns
+unfoldable pub until_by : {A : Type 0} → (List Tok → Read A) → ℕ → List Tok → Read (List A)
+until_by one zero ts = Err 0
+until_by one (suc n) ts =
+    cond (begins (is_mark mark.RightBrace) ts) (Ok ([], rest_of ts))
+    (one ts >>= λ x. until_by one n x.1 >>= λ more. Ok (x.0 ∷ more.0, more.1))
+
+abbrev pub until_at : {A : Type 0} → (List Tok → Read A) → List Tok → Read (List A)
+until_at one ts = until_by one (suc (length ts)) ts
+
 -- members as long as one begins; the number bounds the turns
 unfoldable pub each_by : {A : Type 0} → (List Tok → Bool) → (List Tok → Read A) → ℕ → List Tok → Read (List A)
-each_by goes one zero ts = None
+each_by goes one zero ts = Err 0
 each_by goes one (suc n) ts =
-    if goes ts then (one ts >>= λ x. each_by goes one n x.1 >>= λ more. Some (x.0 ∷ more.0, more.1)) else Some ([], ts)
+    cond (goes ts) (one ts >>= λ x. each_by goes one n x.1 >>= λ more. Ok (x.0 ∷ more.0, more.1)) (Ok ([], ts))
 
--- members as long as one begins
 abbrev pub each_at : {A : Type 0} → (List Tok → Bool) → (List Tok → Read A) → List Tok → Read (List A)
 each_at goes one ts = each_by goes one (suc (length ts)) ts
 
--- a statement begins with a name
-abbrev pub begins_statement : List Tok → Bool
-begins_statement ts = begins_as name_of ts
+-- ---- what statements and items share
 
--- any number of statements
-abbrev pub statements_at : List Tok → Read (List Statement)
-statements_at ts = each_at begins_statement statement_at ts
+-- behind `for`
+abbrev pub turns_at : ℕ → List Tok → Read (List ℕ × Int × Int)
+turns_at room ts = do
+  x ← name_at ts
+  t1 ← keyword_at keyword.In x.1
+  a ← source_int_at room t1
+  t2 ← mark_at mark.DotDot a.1
+  b ← source_int_at room t2
+  Ok ((x.0, a.0, b.0), b.1)
 
--- statements in braces
-unfoldable pub block_at : List Tok → Read (List Statement)
-block_at ts = do
-  t1 ← mark_at mark.LeftBrace ts
-  statements ← statements_at t1
-  rest ← mark_at mark.RightBrace statements.1
-  Some (statements.0, rest)
+-- behind `gen`
+abbrev pub given_at : ℕ → List Tok → Read (Int × Cmp × Int)
+given_at room ts = do
+  t1 ← keyword_at keyword.If ts
+  t2 ← open_at mark.LeftParen room t1
+  a ← source_int_at (room - 1) t2
+  c ← cmp_at a.1
+  b ← source_int_at (room - 1) c.1
+  rest ← mark_at mark.RightParen b.1
+  Ok ((a.0, c.0, b.0), rest)
+
+-- members in braces
+abbrev pub body_by : {A : Type 0} → ℕ → (List Tok → Read A) → List Tok → Read A
+body_by room inner ts = open_at mark.LeftBrace room ts >>= λ t. inner t
+
+-- a body behind `else`, or none
+abbrev pub else_by : {A B : Type 0} → B → (A → B) → ℕ → (List Tok → Read A) → List Tok → Read B
+else_by none some room inner ts = cond (begins (is_keyword keyword.Else) ts) (seen some (body_by room inner (rest_of ts))) (Ok (none, ts))
+
+-- ---- statements
+
+abbrev pub else_at : ℕ → (List Tok → Read Stmts) → List Tok → Read Else
+else_at room inner ts = else_by no_else otherwise room inner ts
+
+-- behind the target's name
+abbrev pub assign_at : Bool → ℕ → ℕ → List ℕ → List Tok → Read Stmt
+assign_at clocked room line x ts = do
+  f ← fam_rest_at mode.Source room x ts
+  t1 ← mark_at (assign_mark clocked) f.1
+  e ← source_expr_at room t1
+  rest ← mark_at mark.Semicolon e.1
+  Ok (assign line f.0 e.0, rest)
+
+-- behind `let`
+abbrev pub let_at : ℕ → ℕ → List Tok → Read Stmt
+let_at room line ts = do
+  f ← fam_at room ts
+  t1 ← mark_at mark.Equals f.1
+  e ← source_expr_at room t1
+  rest ← mark_at mark.Semicolon e.1
+  Ok (bind line f.0 e.0, rest)
+
+-- behind `if`
+abbrev pub if_at : ℕ → (List Tok → Read Stmts) → ℕ → List Tok → Read Stmt
+if_at room inner line ts = do
+  c ← source_expr_at room ts
+  first ← body_by room inner c.1
+  second ← else_at room inner first.1
+  Ok (choose line c.0 first.0 second.0, second.1)
+
+-- behind `for`
+abbrev pub for_at : ℕ → (List Tok → Read Stmts) → ℕ → List Tok → Read Stmt
+for_at room inner line ts = do
+  h ← turns_at room ts
+  b ← body_by room inner h.1
+  Ok (repeat line h.0.0 h.0.1 h.0.2 b.0, b.1)
+
+-- behind `gen`
+abbrev pub gen_at : ℕ → (List Tok → Read Stmts) → ℕ → List Tok → Read Stmt
+gen_at room inner line ts = do
+  h ← given_at room ts
+  first ← body_by room inner h.1
+  second ← else_at room inner first.1
+  Ok (given line h.0.0 h.0.1 h.0.2 first.0 second.0, second.1)
+
+abbrev pub stmt_by : Bool → ℕ → (List Tok → Read Stmts) → StmtForm → ℕ → List Tok → Read Stmt
+stmt_by clocked room inner (an_assign x) line ts = assign_at clocked room line x ts
+stmt_by clocked room inner a_let line ts = let_at room line ts
+stmt_by clocked room inner an_if line ts = if_at room inner line ts
+stmt_by clocked room inner a_for line ts = for_at room inner line ts
+stmt_by clocked room inner a_gen line ts = gen_at room inner line ts
+stmt_by clocked room inner no_stmt_form line ts = Err (suc (length ts))
+
+abbrev pub stmt_step : Bool → ℕ → (List Tok → Read Stmts) → List Tok → Read Stmt
+stmt_step clocked room inner [] = Err 0
+stmt_step clocked room inner (t ∷ ts) = stmt_by clocked room inner (stmt_form t.word) t.line ts
+
+-- up to a closing brace
+abbrev pub stmts_until : (List Tok → Read Stmt) → List Tok → Read Stmts
+stmts_until one ts = seen stmts (until_at one ts)
+
+unfoldable pub stmt_at : Bool → ℕ → List Tok → Read Stmt
+stmt_at clocked zero ts = stmt_step clocked zero (λ ts. Err 0) ts
+stmt_at clocked (suc room) ts = stmt_step clocked (suc room) (stmts_until (stmt_at clocked room)) ts
+
+-- behind a brace
+abbrev pub inner_stmts : Bool → ℕ → List Tok → Read Stmts
+inner_stmts clocked zero = λ ts. Err 0
+inner_stmts clocked (suc room) = stmts_until (stmt_at clocked room)
+
+-- ---- items
+
+abbrev pub param_at : ℕ → List Tok → Read Param
+param_at room ts = do
+  x ← name_at ts
+  t1 ← mark_at mark.Equals x.1
+  i ← source_int_at room t1
+  Ok (record { name = x.0; value = i.0 }, i.1)
+
+abbrev pub more_param_at : ℕ → List Tok → Read Param
+more_param_at room ts = mark_at mark.Comma ts >>= λ t. param_at room t
+
+abbrev pub begins_param : List Tok → Bool
+begins_param ts = begins (is_mark mark.Comma) ts
+
+abbrev pub params_in_at : ℕ → List Tok → Read (List Param)
+params_in_at room ts = do
+  t1 ← open_at mark.LeftParen room ts
+  p ← param_at (room - 1) t1
+  more ← each_at begins_param (more_param_at (room - 1)) p.1
+  rest ← mark_at mark.RightParen more.1
+  Ok (p.0 ∷ more.0, rest)
+
+abbrev pub params_at : ℕ → List Tok → Read (List Param)
+params_at room ts = cond (begins (is_mark mark.LeftParen) ts) (params_in_at room ts) (Ok ([], ts))
+
+abbrev pub conn_rest_at : ℕ → ℕ → List ℕ → List Tok → Read Conn
+conn_rest_at room line x ts = do
+  t1 ← mark_at mark.Equals ts
+  e ← source_expr_at room t1
+  rest ← mark_at mark.Semicolon e.1
+  Ok (record { line = line; port = x; value = e.0 }, rest)
+
+abbrev pub conn_by : ℕ → Option (List ℕ) → ℕ → List Tok → Read Conn
+conn_by room None line ts = Err (suc (length ts))
+conn_by room (Some x) line ts = conn_rest_at room line x ts
+
+abbrev pub conn_at : ℕ → List Tok → Read Conn
+conn_at room [] = Err 0
+conn_at room (t ∷ ts) = conn_by room (name_form t.word) t.line ts
+
+abbrev pub wire_at : ℕ → ℕ → List Tok → Read Item
+wire_at room line ts = do
+  f ← fam_at room ts
+  t1 ← mark_at mark.Colon f.1
+  w ← source_int_at room t1
+  rest ← mark_at mark.Semicolon w.1
+  Ok (wire line f.0 w.0, rest)
+
+abbrev pub reg_at : ℕ → ℕ → List Tok → Read Item
+reg_at room line ts = do
+  f ← fam_at room ts
+  t1 ← mark_at mark.Colon f.1
+  w ← source_int_at room t1
+  t2 ← mark_at mark.Equals w.1
+  l ← lit_at mode.Source room t2
+  rest ← mark_at mark.Semicolon l.1
+  Ok (reg line f.0 w.0 l.0, rest)
+
+abbrev pub conns_at : ℕ → List Tok → Read (List Conn)
+conns_at room ts = open_at mark.LeftBrace room ts >>= λ t. until_at (conn_at (room - 1)) t
+
+abbrev pub inst_at : ℕ → ℕ → List Tok → Read Item
+inst_at room line ts = do
+  f ← fam_at room ts
+  t1 ← mark_at mark.Colon f.1
+  x ← name_at t1
+  args ← params_at room x.1
+  conns ← conns_at room args.1
+  Ok (inst line f.0 x.0 args.0 conns.0, conns.1)
+
+abbrev pub block_of : Bool → ℕ → Stmts → Item
+block_of false line b = comb line b
+block_of true line b = ff line b
+
+abbrev pub block_at : Bool → ℕ → ℕ → List Tok → Read Item
+block_at clocked room line ts = seen (block_of clocked line) (body_by room (inner_stmts clocked room) ts)
+
+abbrev pub else_items_at : ℕ → (List Tok → Read Items) → List Tok → Read ElseItems
+else_items_at room inner ts = else_by no_else_items otherwise_items room inner ts
+
+abbrev pub for_item_at : ℕ → (List Tok → Read Items) → ℕ → List Tok → Read Item
+for_item_at room inner line ts = do
+  h ← turns_at room ts
+  b ← body_by room inner h.1
+  Ok (repeat_items line h.0.0 h.0.1 h.0.2 b.0, b.1)
+
+abbrev pub gen_item_at : ℕ → (List Tok → Read Items) → ℕ → List Tok → Read Item
+gen_item_at room inner line ts = do
+  h ← given_at room ts
+  first ← body_by room inner h.1
+  second ← else_items_at room inner first.1
+  Ok (given_items line h.0.0 h.0.1 h.0.2 first.0 second.0, second.1)
+
+abbrev pub item_by : ℕ → (List Tok → Read Items) → ItemForm → ℕ → List Tok → Read Item
+item_by room inner a_wire line ts = wire_at room line ts
+item_by room inner a_reg line ts = reg_at room line ts
+item_by room inner an_inst line ts = inst_at room line ts
+item_by room inner (a_block clocked) line ts = block_at clocked room line ts
+item_by room inner a_for_item line ts = for_item_at room inner line ts
+item_by room inner a_gen_item line ts = gen_item_at room inner line ts
+item_by room inner no_item_form line ts = Err (suc (length ts))
+
+abbrev pub item_step : ℕ → (List Tok → Read Items) → List Tok → Read Item
+item_step room inner [] = Err 0
+item_step room inner (t ∷ ts) = item_by room inner (item_form t.word) t.line ts
+
+-- up to a closing brace
+abbrev pub items_until : (List Tok → Read Item) → List Tok → Read Items
+items_until one ts = seen items (until_at one ts)
+
+unfoldable pub item_at : ℕ → List Tok → Read Item
+item_at zero ts = item_step zero (λ ts. Err 0) ts
+item_at (suc room) ts = item_step (suc room) (items_until (item_at room)) ts
+
+-- behind a brace
+abbrev pub inner_items : ℕ → List Tok → Read Items
+inner_items zero = λ ts. Err 0
+inner_items (suc room) = items_until (item_at room)
 
 -- ---- modules
 
--- the keyword of a port in front
-abbrev pub direction_at : List Tok → Read Bool
-direction_at ts = first_as direction_of ts
+abbrev pub port_rest_at : ℕ → ℕ → Bool → List Tok → Read Port
+port_rest_at room line output ts = do
+  x ← name_at ts
+  t1 ← mark_at mark.Colon x.1
+  w ← source_int_at room t1
+  rest ← mark_at mark.Semicolon w.1
+  Ok (record { line = line; output = output; name = x.0; width = w.0 }, rest)
 
--- a port
-unfoldable pub port_at : List Tok → Read Port
-port_at ts = do
-  line ← line_at ts
-  output ← direction_at ts
-  name ← name_at output.1
-  t1 ← mark_at mark.Colon name.1
-  width ← number_at t1
-  rest ← mark_at mark.Semicolon width.1
-  Some (record { line = line; output = output.0; name = name.0; width = width.0 }, rest)
+abbrev pub port_by : ℕ → Option Bool → ℕ → List Tok → Read Port
+port_by room None line ts = Err (suc (length ts))
+port_by room (Some output) line ts = port_rest_at room line output ts
 
--- a port begins with its direction
+abbrev pub port_at : ℕ → List Tok → Read Port
+port_at room [] = Err 0
+port_at room (t ∷ ts) = port_by room (port_form t.word) t.line ts
+
 abbrev pub begins_port : List Tok → Bool
-begins_port ts = begins_as direction_of ts
+begins_port ts = begins (λ w. is_some (port_form w)) ts
 
--- any number of ports behind an opening brace
-unfoldable pub ports_at : List Tok → Read (List Port)
-ports_at ts = mark_at mark.LeftBrace ts >>= λ t1. each_at begins_port port_at t1
+-- behind the module's name
+abbrev pub module_body_at : ℕ → ℕ → List ℕ → List Tok → Read Module
+module_body_at room line x ts = do
+  params ← params_at room ts
+  t1 ← open_at mark.LeftBrace room params.1
+  ports ← each_at begins_port (port_at (room - 1)) t1
+  body ← items_until (item_at (room - 1)) ports.1
+  Ok (record { line = line; name = x; params = params.0; ports = ports.0; items = body.0 }, body.1)
 
--- a wire
-unfoldable pub wire_at : List Tok → Read Item
-wire_at ts = do
-  line ← line_at ts
-  t1 ← keyword_at keyword.Wire ts
-  name ← name_at t1
-  t2 ← mark_at mark.Colon name.1
-  width ← number_at t2
-  rest ← mark_at mark.Semicolon width.1
-  Some (item.Wire line name.0 width.0, rest)
+abbrev pub module_rest_at : ℕ → ℕ → List Tok → Read Module
+module_rest_at room line ts = name_at ts >>= λ x. module_body_at room line x.0 x.1
 
--- a block of statements
-unfoldable pub comb_at : List Tok → Read Item
-comb_at ts = do
-  line ← line_at ts
-  t1 ← keyword_at keyword.Comb ts
-  body ← block_at t1
-  Some (item.Comb line body.0, body.1)
+unfoldable pub module_at : ℕ → List Tok → Read Module
+module_at room [] = Err 0
+module_at room (t ∷ ts) = cond (is_keyword keyword.Module t.word) (module_rest_at room t.line ts) (Err (suc (length ts)))
 
--- an item
-unfoldable pub item_at : List Tok → Read Item
-item_at ts = if begins (is_keyword keyword.Wire) ts then wire_at ts else comb_at ts
-
--- an item begins with one of its keywords
-abbrev pub begins_item : List Tok → Bool
-begins_item ts = begins (is_keyword keyword.Wire) ts || begins (is_keyword keyword.Comb) ts
-
--- any number of items
-abbrev pub items_at : List Tok → Read (List Item)
-items_at ts = each_at begins_item item_at ts
-
--- ports and items in braces
-unfoldable pub body_at : List Tok → Option (List Port × List Item × List Tok)
-body_at ts = do
-  ports ← ports_at ts
-  items ← items_at ports.1
-  rest ← mark_at mark.RightBrace items.1
-  Some (ports.0, items.0, rest)
-
--- a module
-unfoldable pub module_at : List Tok → Read Module
-module_at ts = do
-  line ← line_at ts
-  t1 ← keyword_at keyword.Module ts
-  name ← name_at t1
-  body ← body_at name.1
-  Some (record { line = line; name = name.0; ports = body.0; items = body.1 }, body.2)
-
--- no token is left
 abbrev pub none_left : List Tok → Bool
 none_left [] = true
 none_left (t ∷ ts) = false
 
--- one module up to the end
-unfoldable pub source_at : List Tok → Option Module
-source_at ts = module_at ts >>= λ found. if none_left found.1 then Some found.0 else None
+-- modules up to the end, one at least; the number bounds the turns
+unfoldable pub source_by : ℕ → ℕ → List Tok → Result (List Module) ℕ
+source_by zero room ts = Err 0
+source_by (suc n) room ts =
+    module_at room ts >>= λ m. cond (none_left m.1) (Ok (m.0 ∷ [])) (source_by n room m.1 >>= λ more. Ok (m.0 ∷ more))
+
+abbrev pub source_at : ℕ → List Tok → Result (List Module) ℕ
+source_at room ts = source_by (suc (length ts)) room ts

@@ -1,51 +1,25 @@
-ghost use Rattle.std.specs.Prelude.{◌≡◌};
-ghost use Rattle.gen_text.specs.Faults.{fault_of};
-ghost use Rattle.gen_text.specs.declared.fault.TextFault.TheVariants as faults;
-
-use gen_token::TokenFault;
-use std::alloc::{AllocError, AllocFailed};
-use text_core::NoMemory;
-
 /// Why a text is not read.
 #[derive(Clone, Copy, Debug, PartialEq, Eq)]
 pub enum TextFault {
-    /// It is no source of the forms that are read today.
-    NotYet,
+    /// It has more than 1,048,576 bytes.
+    TooLong,
+    /// The first byte that no source holds stands at this offset, counted from 0. A source holds the bytes 9, 10, 13
+    /// and 32 to 126 alone.
+    NotAscii { offset: u64 },
+    /// No token begins at some place. This is the line of the first such place; lines count from 1.
+    BadToken { line: u32 },
+    /// The tokens are no source, or more than 64 brackets are open at once. This is the line of the first token with
+    /// which no source goes on, of the 65th open bracket, or of the end.
+    Syntax { line: u32 },
     /// Want of memory.
     NoMemory,
 }
 
-impl From<TokenFault> for TextFault {
-    ghost from_gives = { λ fault e. e ≡ fault_of fault };
-
-    fn from(fault: TokenFault) -> Self {
-        match fault {
-            TokenFault::BadToken { .. } => TextFault::NotYet,
-            TokenFault::NoMemory => TextFault::NoMemory,
-        }
-    }
-}
-
-impl From<NoMemory> for TextFault {
-    ghost from_gives = { λ _ e. e ≡ faults.NoMemory };
-
-    fn from(_: NoMemory) -> Self {
-        TextFault::NoMemory
-    }
-}
-
-impl From<AllocError> for TextFault {
-    ghost from_gives = { λ _ e. e ≡ faults.NoMemory };
-
-    fn from(_: AllocError) -> Self {
-        TextFault::NoMemory
-    }
-}
-
-impl<T: Drop> From<AllocFailed<T>> for TextFault {
-    ghost from_gives = { λ _ e. e ≡ faults.NoMemory };
-
-    fn from(_: AllocFailed<T>) -> Self {
-        TextFault::NoMemory
-    }
+/// Why tokens are not read.
+#[derive(Clone, Copy, Debug, PartialEq, Eq)]
+pub(crate) enum ReadFault {
+    /// With the token that stands so many tokens before the end no form goes on; 0 at the end.
+    At { left: usize },
+    /// Want of memory.
+    NoMemory,
 }

@@ -1,0 +1,102 @@
+-- Ports and modules are read as they are spelled.
+use Rattle.std.proofs.Common.{◌≡◌, ◌≤◌, ◌<◌, ◌-◌, ℕ, zero, suc, Bool, true, false, cond, List, [], ◌∷◌, ◌++◌, length, Option, Some, None, is_some, Result, Ok, Err, refl, sym, ap, subst, ◌∙◌, arith, ◌⊎◌, inl, inr}
+use Rattle.gen_token.specs.declared.Keyword.TheVariants as keyword
+use Rattle.gen_token.specs.declared.Mark.TheVariants as mark
+use Rattle.gen_token.specs.Words.{Word, Name, Number, Literal, Reserved, Sign, Tok}
+use Rattle.gen_tree.specs.declared.Mode.TheVariants as mode
+use Rattle.gen_tree.specs.Brackets.{room_after}
+use Rattle.gen_tree.specs.Tree.{Port, Module}
+use Rattle.gen_tree.specs.Grammar.{Span, ◌⨾◌, Single, Sym, Key, Each, SpellsItems, SpellsPort, SpellsModule, direction}
+use Rattle.gen_text.specs.Forms.{is_mark, is_keyword, port_form, item_form}
+use Rattle.gen_text.specs.Reading.{Read, ◌>>=◌, begins, each_by, each_at, port_at, port_by, port_rest_at, begins_port, module_at, module_rest_at, module_body_at}
+use Rattle.gen_text.proofs.Machine.{Symbol, need, sign, need_name, an_int, params, a_port, ports_end, items_end, a_module, port_symbols, module_symbols, if_some, step, settle, run, at_end}
+use Rattle.gen_text.proofs.Moves.{Comes, Stops, Reads, after, then_read, then_word, maps, done, begins as takes_first, refuses, refuses_end}
+use Rattle.gen_text.proofs.Words.{test, is_keyword_is, word_reads, then_open, name_reads}
+use Rattle.gen_text.proofs.Ints.{int_reads}
+use Rattle.gen_text.proofs.Lists.{EachReads, OneOf, each_reads, then_each}
+use Rattle.gen_text.proofs.Items.{params_read, items_read}
+
+-- ---- ports
+
+abbrev PortIs : Option Bool → Word → Type 0
+PortIs None w = Unit {0}
+PortIs (Some output) w = w ≡ Reserved (direction output)
+
+port_is : (w : Word) → PortIs (port_form w) w
+port_is (Name x) = tt
+port_is (Number n) = tt
+port_is (Literal w v) = tt
+port_is (Reserved keyword.Output) = refl
+port_is (Reserved keyword.Input) = refl
+port_is (Reserved _) = tt
+port_is (Sign m) = tt
+
+port_side : (output : Bool) (room : ℕ) → room_after room (Reserved (direction output)) ≡ Some room
+port_side true room = refl
+port_side false room = refl
+
+port_rest_reads : (room : ℕ) (output : Bool) (t : Tok) (ts : List Tok) → t.word ≡ Reserved (direction output)
+    → Reads mode.Source room port_symbols ts room (λ p rest. SpellsPort p (t ∷ ts) rest × (length rest < suc (length ts))) (port_rest_at room t.line output ts)
+port_rest_reads room output t ts is =
+    then_read _ (name_reads room ts) (λ x t1 gx lx.
+    then_word _ (word_reads (sign mark.Colon) room room t1 refl) (λ t2 g2 l2.
+    then_read _ (int_reads mode.Source room t2) (λ w t3 gw lw.
+    then_word _ (word_reads (sign mark.Semicolon) room room t3 refl) (λ rest gr lr.
+    done ((refl, (ts, (is, refl), (t1, gx, (t2, g2, (t3, gw, gr))))), omega arith)))))
+
+port_by_reads : (f : Option Bool) (room : ℕ) (t : Tok) (ts : List Tok) → port_form t.word ≡ f → PortIs f t.word
+    → Reads mode.Source room (a_port ∷ []) (t ∷ ts) room (λ p rest. SpellsPort p (t ∷ ts) rest × (length rest < suc (length ts))) (port_by room f t.line ts)
+port_by_reads None room t ts e is = refuses (rw e refl)
+port_by_reads (Some output) room t ts e is = takes_first (rw e refl) (rw (is, port_side output room) refl) (port_rest_reads room output t ts is)
+
+pub port_reads : (room : ℕ) (ts : List Tok) → Reads mode.Source room (a_port ∷ []) ts room (λ p rest. SpellsPort p ts rest × (length rest < length ts)) (port_at room ts)
+port_reads room [] = refuses_end refl
+port_reads room (t ∷ ts) = port_by_reads (port_form t.word) room t ts refl (port_is t.word)
+
+settle_ports : (f : Option Bool) (stack : List Symbol) (w : Word) → port_form w ≡ f → is_some f ≡ true → settle mode.Source (ports_end ∷ stack) w ≡ settle mode.Source (a_port ∷ ports_end ∷ stack) w
+unfolding settle
+settle_ports None stack w e h = absurd cc
+settle_ports (Some output) stack w e h = rw e refl
+
+opens_ports : (room : ℕ) (ts : List Tok) → begins_port ts ≡ true → Comes mode.Source room (ports_end ∷ []) ts room (a_port ∷ ports_end ∷ []) ts
+unfolding run at_end
+opens_ports room [] h = absurd cc
+opens_ports room (t ∷ ts) h = record { comes = λ stack. rw (settle_ports (port_form t.word) stack t.word refl h) refl }
+
+pub ports_read : (room : ℕ) (ts : List Tok) → EachReads mode.Source room ports_end begins_port SpellsPort ts (each_at begins_port (port_at room) ts)
+ports_read room ts = each_reads mode.Source (suc (length ts)) room ports_end a_port begins_port SpellsPort (port_at room) ts (record { opens = opens_ports room; reads = port_reads room }) (omega arith)
+
+-- behind the ports
+settle_last_port : (stack : List Symbol) (w : Word) (f : Option Bool) → port_form w ≡ f → is_some f ≡ false → settle mode.Source (ports_end ∷ stack) w ≡ settle mode.Source (items_end ∷ stack) w
+unfolding settle
+settle_last_port stack w None e h = rw e refl
+settle_last_port stack w (Some output) e h = absurd cc
+
+after_ports : (room : ℕ) (ts : List Tok) → begins_port ts ≡ false → Comes mode.Source room (ports_end ∷ []) ts room (items_end ∷ []) ts
+unfolding run at_end
+after_ports room [] h = record { comes = λ stack. refl }
+after_ports room (t ∷ ts) h = record { comes = λ stack. rw (settle_last_port stack t.word (port_form t.word) refl h) refl }
+
+-- ---- modules
+
+module_rest_reads : (room : ℕ) (t : Tok) (ts : List Tok) → t.word ≡ Reserved keyword.Module
+    → Reads mode.Source room module_symbols ts room (λ m rest. SpellsModule m (t ∷ ts) rest × (length rest < suc (length ts))) (module_rest_at room t.line ts)
+module_rest_reads room t ts is =
+    then_read _ (name_reads room ts) (λ x t1 gx lx.
+    then_read _ (params_read room t1) (λ ps t2 gp lp.
+    then_open mark.LeftBrace room t2 _ refl (λ room2 room-is t3 g3 l3.
+    let same : room - 1 ≡ room2 = omega arith in
+    rw (same, room-is) (
+    then_each _ (ports_read room2 t3) (after_ports room2) (λ ports t4 gs ls.
+    then_read _ (items_read room2 t4) (λ body rest gb lb.
+    done ((refl, (ts, (is, refl), (t1, gx, (t2, gp, (t3, g3, (t4, gs, (gb.0, gb.1, gb.2))))))), omega arith)))))))
+
+pub module_reads : (room : ℕ) (ts : List Tok) → Reads mode.Source room (a_module ∷ []) ts room (λ m rest. SpellsModule m ts rest × (length rest < length ts)) (module_at room ts)
+unfolding module_at
+module_reads room [] = refuses_end refl
+module_reads room (t ∷ ts) = elim (test (is_keyword keyword.Module t.word)) [
+  | inl e ↦
+    let is : t.word ≡ Reserved keyword.Module = is_keyword_is keyword.Module t.word e in
+    rw e (takes_first (rw e refl) (rw is refl) (module_rest_reads room t ts is))
+  | inr e ↦ rw e (refuses (rw e refl))
+  ]

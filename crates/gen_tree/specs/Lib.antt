@@ -1,0 +1,5 @@
+pub mod Brackets
+pub mod Grammar
+pub mod Places
+pub mod Tree
+pub mod View

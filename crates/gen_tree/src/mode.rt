@@ -1,0 +1,8 @@
+/// In which texts an expression stands.
+#[derive(Clone, Copy, Debug, PartialEq, Eq)]
+pub enum Mode {
+    /// In a source.
+    Source,
+    /// In a condition of the debugger, where every integer is a number and no `bits` stands.
+    Condition,
+}
