@@ -11,7 +11,7 @@ use Rattle.gen_tree.specs.declared.Mode.TheVariants as mode
 use Rattle.gen_tree.specs.Brackets.{Side, opens, closes, neither, side, room_by, room_after, room_left, Within}
 use Rattle.gen_tree.specs.Grammar.{assign_mark}
 use Rattle.gen_text.proofs.Machine.{Fixed, key, sign, fixed_word, Symbol, need, need_name, an_int, an_int_op, a_cmp, an_index, a_literal, a_dot, an_op, a_prim, an_expr, a_slice, a_stmt, stmts_end, an_else, a_param, another_param, params_end, params, a_conn, conns_end, an_item, items_end, else_items, a_port, ports_end, a_module, Move, may_end, settle, run, run_by, at_end, End, accepted, stopped}
-use Rattle.gen_text.proofs.Words.{test, is_itself}
+use Rattle.gen_text.proofs.WordsRead.{test, is_itself}
 use Rattle.gen_text.proofs.Moves.{shifted}
 
 abbrev at : Word → Tok

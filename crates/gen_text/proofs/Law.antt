@@ -12,8 +12,8 @@ use Rattle.gen_text.specs.Forms.{is_keyword}
 use Rattle.gen_text.specs.Reading.{Read, ◌>>=◌, none_left, module_at, source_by, source_at}
 use Rattle.gen_text.proofs.Machine.{Symbol, a_module, settle, run, run_by, at_end, End, accepted, stopped}
 use Rattle.gen_text.proofs.Moves.{Reads, Comes, Stops}
-use Rattle.gen_text.proofs.Words.{test}
-use Rattle.gen_text.proofs.Modules.{module_reads}
+use Rattle.gen_text.proofs.WordsRead.{test}
+use Rattle.gen_text.proofs.ModulesRead.{module_reads}
 use Rattle.gen_text.proofs.Depth.{each_depth, module_depth}
 use Rattle.gen_text.proofs.OnlyModules.{source_only}
 use Rattle.gen_text.proofs.Completions.{Halt, halts, Why}

@@ -10,7 +10,7 @@ use Rattle.gen_text.specs.Forms.{is_mark, is_keyword}
 use Rattle.gen_text.specs.Reading.{Read, ◌>>=◌, seen, begins, rest_of, until_by, until_at, each_by, each_at, open_at, body_by, else_by}
 use Rattle.gen_text.proofs.Machine.{Symbol, need, sign, Move, shift, skip, stuck, step, lead, until_step, body_symbols, may_end, settle, settle_by, run, at_end}
 use Rattle.gen_text.proofs.Moves.{Comes, Stops, Reads, after, then_read, then_word, then_seen, maps, done, begins as takes_first, passes, passes_end, refuses, refuses_end}
-use Rattle.gen_text.proofs.Words.{test, word_reads, is_mark_is, is_keyword_is, then_open}
+use Rattle.gen_text.proofs.WordsRead.{test, word_reads, is_mark_is, is_keyword_is, then_open}
 
 -- A list was read, and the symbol that it stands under is still to come, before a token that begins no other.
 abbrev EachReadsBy : {A : Type 0} → Mode → ℕ → Symbol → (List Tok → Bool) → (A → Span) → List Tok → Read (List A) → Type 0

@@ -20,7 +20,7 @@ use Rattle.gen_tree.specs.Grammar.{Single, Sym, Key, SpellsInt, SpellsIndex, Spe
 use Rattle.gen_text.specs.Forms.{is_mark, is_keyword}
 use Rattle.gen_text.specs.Reading.{Read, ◌>>=◌, seen, behind, mark_at, keyword_at, begins, rest_of, name_at, within, open_at, int_at, int_by, int_op_at, cmp_at, index_at, fam_rest_at, fam_at, bits_at, lit_at, dot_at, read_at, op_at, prim_step, slice_at, expr_step, expr_at, inner_expr}
 use Rattle.gen_text.proofs.Machine.{Fixed, key, sign, fixed_word, is_fixed}
-use Rattle.gen_text.proofs.Words.{is_itself}
+use Rattle.gen_text.proofs.WordsRead.{is_itself}
 use Rattle.gen_text.proofs.Depth.{int_depth, index_depth, lit_depth, expr_depth}
 
 -- ---- one word

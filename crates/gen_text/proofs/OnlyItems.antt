@@ -11,7 +11,7 @@ use Rattle.gen_text.specs.Forms.{is_mark, is_keyword}
 use Rattle.gen_text.specs.Reading.{Read, ◌>>=◌, seen, behind, begins, rest_of, until_by, until_at, each_by, each_at, param_at, more_param_at, begins_param, params_in_at, params_at, conn_at, conns_at, body_by, else_items_at, item_step, items_until, item_at, inner_items}
 use Rattle.gen_text.proofs.Machine.{key, sign, an_item}
 use Rattle.gen_text.proofs.Lists.{each_only, until_only, takes}
-use Rattle.gen_text.proofs.Items.{conn_reads, item_reads, more_param_reads}
+use Rattle.gen_text.proofs.ItemsRead.{conn_reads, item_reads, more_param_reads}
 use Rattle.gen_text.proofs.Depth.{int_depth, index_depth, lit_depth, expr_depth, stmts_depth, each_depth, param_depth, params_depth, conn_depth, item_depth, items_depth, else_items_depth}
 use Rattle.gen_text.proofs.OnlyExprs.{mark_only, key_only, not_next, next_is, name_only, less_one, int_only, fam_only, lit_only, source_expr_only}
 use Rattle.gen_text.proofs.OnlyStmts.{turns_only, given_only, block_only}

@@ -9,7 +9,7 @@ use Rattle.gen_tree.specs.Grammar.{Span, ◌⨾◌, Single, Sym, Key, Each, Spel
 use Rattle.gen_text.specs.Forms.{is_mark, is_keyword, port_form}
 use Rattle.gen_text.specs.Reading.{Read, ◌>>=◌, begins, each_by, each_at, port_at, port_by, begins_port, module_at, none_left, source_by, source_at}
 use Rattle.gen_text.proofs.Lists.{each_only, takes}
-use Rattle.gen_text.proofs.Modules.{port_reads, module_reads}
+use Rattle.gen_text.proofs.ModulesRead.{port_reads, module_reads}
 use Rattle.gen_text.proofs.Depth.{int_depth, each_depth, params_depth, port_depth, items_depth, module_depth}
 use Rattle.gen_text.proofs.OnlyExprs.{mark_only, key_only, not_next, next_is, name_only, less_one, int_only}
 use Rattle.gen_text.proofs.OnlyItems.{within_each, params_only, NoItem, item_not, items_until_only}

@@ -11,7 +11,7 @@ use Rattle.gen_text.specs.Forms.{is_mark, is_keyword}
 use Rattle.gen_text.specs.Reading.{Read, ◌>>=◌, seen, behind, begins, rest_of, until_by, until_at, turns_at, given_at, body_by, else_by, else_at, stmt_step, stmts_until, stmt_at, inner_stmts}
 use Rattle.gen_text.proofs.Machine.{key, sign, a_stmt}
 use Rattle.gen_text.proofs.Lists.{until_only, takes}
-use Rattle.gen_text.proofs.Stmts.{stmt_reads}
+use Rattle.gen_text.proofs.StmtsRead.{stmt_reads}
 use Rattle.gen_text.proofs.Depth.{int_depth, index_depth, expr_depth, stmt_depth, stmts_depth, else_depth}
 use Rattle.gen_text.proofs.OnlyExprs.{mark_only, key_only, not_next, next_is, name_only, less_one, cmp_only, int_only, fam_rest_only, fam_only, source_expr_only}
 

@@ -43,6 +43,11 @@ name_form (Literal w v) = None
 name_form (Reserved k) = None
 name_form (Sign m) = None
 
+-- a form in a source, and another in a condition
+abbrev pub in_source : {A : Type 0} → Mode → A → A → A
+in_source mode.Source form other = form
+in_source mode.Condition form other = other
+
 -- ---- integers
 
 pub data IntForm : Type 0 where
@@ -53,13 +58,11 @@ pub data IntForm : Type 0 where
 
 abbrev pub int_form : Mode → Word → IntForm
 int_form m (Number n) = a_number n
-int_form mode.Source (Name x) = a_variable x
-int_form mode.Condition (Name x) = no_int
+int_form m (Name x) = in_source m (a_variable x) no_int
 int_form m (Literal w v) = no_int
 int_form m (Reserved k) = no_int
-int_form mode.Source (Sign mark.LeftParen) = a_group
-int_form mode.Source (Sign _) = no_int
-int_form mode.Condition (Sign _) = no_int
+int_form m (Sign mark.LeftParen) = in_source m a_group no_int
+int_form m (Sign _) = no_int
 
 abbrev pub int_op_form : Word → Option IntOp
 int_op_form (Name x) = None
@@ -93,9 +96,8 @@ abbrev pub lit_form : Mode → Word → LitForm
 lit_form m (Name x) = no_lit
 lit_form m (Number n) = no_lit
 lit_form m (Literal w v) = a_plain w v
-lit_form mode.Source (Reserved keyword.Bits) = a_bits
-lit_form mode.Source (Reserved _) = no_lit
-lit_form mode.Condition (Reserved _) = no_lit
+lit_form m (Reserved keyword.Bits) = in_source m a_bits no_lit
+lit_form m (Reserved _) = no_lit
 lit_form m (Sign _) = no_lit
 
 abbrev pub op_form : Word → Option Op

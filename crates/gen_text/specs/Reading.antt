@@ -104,8 +104,8 @@ int_at m (suc room) ts = int_step m (suc room) (int_at m room) ts
 
 -- behind a bracket
 abbrev pub inner_int : Mode → ℕ → List Tok → Read Int
-inner_int m zero ts = Err 0
-inner_int m (suc room) ts = int_at m room ts
+inner_int m zero = λ ts. Err 0
+inner_int m (suc room) = int_at m room
 
 -- ---- names with an index
 

@@ -1,3 +1,9 @@
+ghost use Rattle.std.specs.Prelude.{◌≡◌};
+ghost use Rattle.gen_text.specs.declared.fault.ReadFault.TheVariants as read_faults;
+
+use std::alloc::{AllocError, AllocFailed};
+use text_core::NoMemory;
+
 /// Why a text is not read.
 #[derive(Clone, Copy, Debug, PartialEq, Eq)]
 pub enum TextFault {
@@ -9,7 +15,7 @@ pub enum TextFault {
     /// No token begins at some place. This is the line of the first such place; lines count from 1.
     BadToken { line: u32 },
     /// The tokens are no source, or more than 64 brackets are open at once. This is the line of the first token with
-    /// which no source goes on, of the 65th open bracket, or of the end.
+    /// which no source goes on, of the 65th open bracket, or of the end of the text.
     Syntax { line: u32 },
     /// Want of memory.
     NoMemory,
@@ -18,8 +24,32 @@ pub enum TextFault {
 /// Why tokens are not read.
 #[derive(Clone, Copy, Debug, PartialEq, Eq)]
 pub(crate) enum ReadFault {
-    /// With the token that stands so many tokens before the end no form goes on; 0 at the end.
+    /// No form goes on with the token that stands so many tokens before the end; 0 at the end.
     At { left: usize },
     /// Want of memory.
     NoMemory,
+}
+
+impl From<NoMemory> for ReadFault {
+    ghost from_gives = { λ _ e. e ≡ read_faults.NoMemory };
+
+    fn from(_: NoMemory) -> Self {
+        ReadFault::NoMemory
+    }
+}
+
+impl From<AllocError> for ReadFault {
+    ghost from_gives = { λ _ e. e ≡ read_faults.NoMemory };
+
+    fn from(_: AllocError) -> Self {
+        ReadFault::NoMemory
+    }
+}
+
+impl<T: Drop> From<AllocFailed<T>> for ReadFault {
+    ghost from_gives = { λ _ e. e ≡ read_faults.NoMemory };
+
+    fn from(_: AllocFailed<T>) -> Self {
+        ReadFault::NoMemory
+    }
 }

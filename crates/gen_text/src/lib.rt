@@ -2,5 +2,7 @@
 #![tactic(auto)]
 
 mod fault;
+mod ints;
+mod words;
 
 pub use fault::TextFault;

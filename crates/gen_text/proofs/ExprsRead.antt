@@ -16,8 +16,8 @@ use Rattle.gen_text.specs.Forms.{is_mark, LitForm, a_plain, a_bits, no_lit, lit_
 use Rattle.gen_text.specs.Reading.{Read, ◌>>=◌, seen, mark_at, within, open_at, begins, rest_of, some_at, name_at, int_at, fam_rest_at, bits_at, lit_by, lit_at, dot_at, read_of, read_at, op_at, bracket_at, unary_at, cat_at, zext_at, mux_at, prim_by, prim_step, bounds_at, slice_at, expr_step, expr_at}
 use Rattle.gen_text.proofs.Machine.{Fixed, key, sign, Symbol, need, an_int, an_expr, a_prim, an_op, a_slice, an_index, a_dot, a_literal, Move, shift, skip, stuck, step, lead, lit_lead, prim_lead, if_some, may_end, settle, settle_by, at_end, run}
 use Rattle.gen_text.proofs.Moves.{Comes, Reads, after, then_read, then_word, then_seen, maps, done, begins as takes_first, passes, passes_end, refuses, refuses_end, refuses_full}
-use Rattle.gen_text.proofs.Words.{is_mark_is, test, word_reads, then_open, name_reads}
-use Rattle.gen_text.proofs.Ints.{inner_reads, fam_rest_reads}
+use Rattle.gen_text.proofs.WordsRead.{is_mark_is, test, word_reads, then_open, name_reads}
+use Rattle.gen_text.proofs.IntsRead.{inner_reads, fam_rest_reads}
 
 -- ---- literals
 
@@ -31,8 +31,8 @@ lit_is m (Name x) = tt
 lit_is m (Number n) = tt
 lit_is m (Literal w v) = refl
 lit_is mode.Source (Reserved keyword.Bits) = (refl, refl)
-lit_is mode.Source (Reserved _) = tt
-lit_is mode.Condition (Reserved _) = tt
+lit_is mode.Condition (Reserved keyword.Bits) = tt
+lit_is m (Reserved _) = tt
 lit_is m (Sign _) = tt
 
 -- behind `bits`

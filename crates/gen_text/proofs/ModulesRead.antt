@@ -11,10 +11,10 @@ use Rattle.gen_text.specs.Forms.{is_mark, is_keyword, port_form, item_form}
 use Rattle.gen_text.specs.Reading.{Read, ◌>>=◌, begins, each_by, each_at, port_at, port_by, port_rest_at, begins_port, module_at, module_rest_at, module_body_at}
 use Rattle.gen_text.proofs.Machine.{Symbol, need, sign, need_name, an_int, params, a_port, ports_end, items_end, a_module, port_symbols, module_symbols, if_some, step, settle, run, at_end}
 use Rattle.gen_text.proofs.Moves.{Comes, Stops, Reads, after, then_read, then_word, maps, done, begins as takes_first, refuses, refuses_end}
-use Rattle.gen_text.proofs.Words.{test, is_keyword_is, word_reads, then_open, name_reads}
-use Rattle.gen_text.proofs.Ints.{int_reads}
+use Rattle.gen_text.proofs.WordsRead.{test, is_keyword_is, word_reads, then_open, name_reads}
+use Rattle.gen_text.proofs.IntsRead.{int_reads}
 use Rattle.gen_text.proofs.Lists.{EachReads, OneOf, each_reads, then_each}
-use Rattle.gen_text.proofs.Items.{params_read, items_read}
+use Rattle.gen_text.proofs.ItemsRead.{params_read, items_read}
 
 -- ---- ports
 

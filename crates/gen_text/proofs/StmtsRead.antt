@@ -13,9 +13,9 @@ use Rattle.gen_text.specs.Forms.{is_mark, is_keyword, StmtForm, an_assign, a_let
 use Rattle.gen_text.specs.Reading.{Read, ◌>>=◌, seen, begins, until_by, until_at, body_by, else_by, else_at, turns_at, given_at, assign_at, let_at, if_at, for_at, gen_at, stmt_by, stmt_step, stmts_until, stmt_at, inner_stmts, expr_at}
 use Rattle.gen_text.proofs.Machine.{Fixed, key, sign, Symbol, need, need_name, an_int, a_cmp, an_index, an_expr, a_stmt, stmts_end, an_else, fam_symbols, turn_symbols, given_symbols, body_symbols, Move, shift, skip, stuck, step, lead, stmt_lead, run}
 use Rattle.gen_text.proofs.Moves.{Comes, Reads, after, then_read, then_front, then_word, then_seen, maps, done, begins as takes_first, refuses, refuses_end}
-use Rattle.gen_text.proofs.Words.{word_reads, then_open, name_reads}
-use Rattle.gen_text.proofs.Ints.{int_reads, inner_reads, cmp_reads, fam_rest_reads, fam_reads}
-use Rattle.gen_text.proofs.Exprs.{expr_reads}
+use Rattle.gen_text.proofs.WordsRead.{word_reads, then_open, name_reads}
+use Rattle.gen_text.proofs.IntsRead.{int_reads, inner_reads, cmp_reads, fam_rest_reads, fam_reads}
+use Rattle.gen_text.proofs.ExprsRead.{expr_reads}
 use Rattle.gen_text.proofs.Lists.{UntilOf, until_reads, opens_until, InsideBody, body_reads, ElseOf, else_reads}
 
 -- ---- heads of loops and of `gen if`

@@ -13,11 +13,11 @@ use Rattle.gen_text.specs.Forms.{is_mark, name_form, ItemForm, a_wire, a_reg, an
 use Rattle.gen_text.specs.Reading.{Read, ◌>>=◌, seen, begins, until_by, until_at, each_by, each_at, body_by, mark_at, open_at, name_at, param_at, more_param_at, begins_param, params_in_at, params_at, conn_rest_at, conn_by, conn_at, conns_at, wire_at, reg_at, inst_at, block_of, block_at, inner_stmts, else_by, else_items_at, for_item_at, gen_item_at, item_by, item_step, items_until, item_at, inner_items}
 use Rattle.gen_text.proofs.Machine.{Fixed, key, sign, Symbol, need, need_name, an_int, an_index, an_expr, a_literal, stmts_end, a_param, another_param, params_end, params, a_conn, conns_end, an_item, items_end, else_items, fam_symbols, turn_symbols, given_symbols, body_symbols, param_symbols, conn_symbols, Move, shift, skip, stuck, step, lead, if_some, item_lead, settle, run, at_end}
 use Rattle.gen_text.proofs.Moves.{Comes, Reads, after, then_read, then_front, then_word, then_seen, maps, measured, done, begins as takes_first, passes, passes_end, refuses, refuses_end}
-use Rattle.gen_text.proofs.Words.{test, is_mark_is, word_reads, then_open, name_reads, NameIs, name_is}
-use Rattle.gen_text.proofs.Ints.{int_reads, fam_reads}
-use Rattle.gen_text.proofs.Exprs.{lit_reads, expr_reads}
+use Rattle.gen_text.proofs.WordsRead.{test, is_mark_is, word_reads, then_open, name_reads, NameIs, name_is}
+use Rattle.gen_text.proofs.IntsRead.{int_reads, fam_reads}
+use Rattle.gen_text.proofs.ExprsRead.{lit_reads, expr_reads}
 use Rattle.gen_text.proofs.Lists.{EachReads, OneOf, each_reads, then_each, UntilOf, until_reads, opens_until, InsideBody, body_reads, ElseOf, else_reads}
-use Rattle.gen_text.proofs.Stmts.{turns_reads, given_reads, inner_stmts_read}
+use Rattle.gen_text.proofs.StmtsRead.{turns_reads, given_reads, inner_stmts_read}
 
 -- ---- parameters
 

@@ -16,7 +16,7 @@ use Rattle.gen_text.specs.Forms.{is_mark, IntForm, a_number, a_variable, a_group
 use Rattle.gen_text.specs.Reading.{Read, ◌>>=◌, seen, behind, mark_at, within, begins, rest_of, some_at, int_at, int_step, int_by, group_at, int_op_at, cmp_at, inner_int, index_at, fam_of_name, fam_rest_at, fam_at, name_at}
 use Rattle.gen_text.proofs.Machine.{Fixed, key, sign, Symbol, need, need_name, an_int, an_int_op, a_cmp, an_index, fam_symbols, Move, shift, skip, stuck, step, lead, int_lead, if_some, may_end, run, End, accepted, stopped}
 use Rattle.gen_text.proofs.Moves.{Comes, Stops, Reads, ReadsOn, after, then_read, then_word, then_seen, done, begins as takes_first, passes, passes_end, refuses, refuses_end, refuses_full}
-use Rattle.gen_text.proofs.Words.{is_mark_is, test, word_reads, name_reads}
+use Rattle.gen_text.proofs.WordsRead.{is_mark_is, test, word_reads, name_reads}
 
 -- what the form says of the word
 abbrev pub IntIs : Mode → IntForm → Word → Type 0
@@ -32,8 +32,8 @@ int_is mode.Condition (Name x) = tt
 int_is m (Literal w v) = tt
 int_is m (Reserved k) = tt
 int_is mode.Source (Sign mark.LeftParen) = (refl, refl)
-int_is mode.Source (Sign _) = tt
-int_is mode.Condition (Sign _) = tt
+int_is mode.Condition (Sign mark.LeftParen) = tt
+int_is m (Sign _) = tt
 
 abbrev IntOpIs : Option IntOp → Word → Type 0
 IntOpIs None w = Unit {0}
@@ -131,6 +131,11 @@ pub int_reads : (m : Mode) (room : ℕ) → IntReads m room (int_at m room)
 unfolding int_at
 int_reads m zero ts = int_step_reads m zero (λ ts. Err 0) ts tt
 int_reads m (suc room) ts = int_step_reads m (suc room) (int_at m room) ts (int_reads m room)
+
+pub int_opened : (m : Mode) (room : ℕ) (ts : List Tok) → int_at m room ts ≡ int_step m room (inner_int m room) ts
+unfolding int_at
+int_opened m zero ts = refl
+int_opened m (suc room) ts = refl
 
 -- behind a bracket the room is one less
 pub inner_reads : (m : Mode) (room room2 : ℕ) (ts : List Tok) → room ≡ suc room2 → Reads m room2 (an_int ∷ []) ts room2 (λ x. SpellsInt m x ts) (int_at m (room - 1) ts)
