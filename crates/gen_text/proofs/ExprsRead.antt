@@ -160,14 +160,16 @@ bracket_of : (m : Mode) (o : Op) (a b : Expr) (ts t1 t2 t3 t4 rest : List Tok) �
     → SpellsPrim m (binary o a b) ts rest
 bracket_of m o a b ts t1 t2 t3 t4 rest s1 sa so sb s2 = rw so.1 (t1, s1, (t2, sa, (t3, so.2, (t4, sb, s2))))
 
-bracket_reads : (m : Mode) (room : ℕ) (inner : List Tok → Read Expr) (t : Tok) (ts : List Tok) → ExprReads m room inner → t.word ≡ Sign mark.LeftParen
-    → Reads m room (an_expr ∷ an_op ∷ an_expr ∷ need (sign mark.RightParen) ∷ []) ts (suc room) (λ x. SpellsPrim m x (t ∷ ts)) (bracket_at inner ts)
-bracket_reads m room inner t ts inner_reads is =
-    then_read _ (inner_reads ts) (λ a t1 ga la.
-    then_read _ (op_reads room t1) (λ o t2 go lo.
-    then_read _ (inner_reads t2) (λ b t3 gb lb.
-    then_word _ (word_reads (sign mark.RightParen) room (suc room) t3 refl) (λ rest gr lr.
-    done (bracket_of m o a b (t ∷ ts) ts t1 t2 t3 rest (is, refl) ga go gb gr)))))
+bracket_reads : (m : Mode) (room : ℕ) (inner : List Tok → Read Expr) (ts : List Tok) → InnerReads m room inner
+    → Reads m room (need (sign mark.LeftParen) ∷ an_expr ∷ an_op ∷ an_expr ∷ need (sign mark.RightParen) ∷ []) ts room (λ x. SpellsPrim m x ts) (bracket_at room inner ts)
+bracket_reads m room inner ts h =
+    then_open mark.LeftParen room ts _ refl (λ room2 room-is t1 g1 l1.
+    let reads2 : ExprReads m room2 inner = inside m room room2 inner room-is h in
+    then_read _ (reads2 t1) (λ a t2 ga la.
+    then_read _ (op_reads room2 t2) (λ o t3 go lo.
+    then_read _ (reads2 t3) (λ b t4 gb lb.
+    then_word _ (word_reads (sign mark.RightParen) room2 room t4 (rw (← room-is) refl)) (λ rest gr lr.
+    done (bracket_of m o a b ts t1 t2 t3 t4 rest g1 ga go gb gr))))))
 
 unary_reads : (m : Mode) (room : ℕ) (inner : List Tok → Read Expr) (o : UnOp) (t : Tok) (ts : List Tok) → InnerReads m room inner → t.word ≡ un_op_word o
     → Reads m room (need (sign mark.LeftParen) ∷ an_expr ∷ need (sign mark.RightParen) ∷ []) ts room (λ x. SpellsPrim m x (t ∷ ts)) (unary_at room inner o ts)
@@ -213,6 +215,17 @@ mux_reads m room inner t ts h is =
 
 -- ---- expressions
 
+-- a bracket at the place of an expression
+settle_bracket : (m : Mode) (stack : List Symbol) (w : Word) → w ≡ Sign mark.LeftParen
+    → settle m (a_prim ∷ stack) w ≡ settle m (need (sign mark.LeftParen) ∷ an_expr ∷ an_op ∷ an_expr ∷ need (sign mark.RightParen) ∷ stack) w
+unfolding settle
+settle_bracket m stack w is = rw is refl
+
+opens_bracket : (m : Mode) (room : ℕ) (t : Tok) (ts : List Tok) → t.word ≡ Sign mark.LeftParen
+    → Comes m room (a_prim ∷ []) (t ∷ ts) room (need (sign mark.LeftParen) ∷ an_expr ∷ an_op ∷ an_expr ∷ need (sign mark.RightParen) ∷ []) (t ∷ ts)
+unfolding run
+opens_bracket m room t ts is = record { comes = λ stack. rw (settle_bracket m stack t.word is) refl }
+
 -- a literal at the place of an expression
 settle_lit : (m : Mode) (l : LitForm) (stack : List Symbol) (w : Word) → prim_form m w ≡ a_lit l → lit_form m w ≡ l → settle m (a_prim ∷ stack) w ≡ settle m (a_literal ∷ stack) w
 unfolding settle
@@ -223,11 +236,10 @@ unfolding run
 opens_lit m room l t ts e is = record { comes = λ stack. rw (settle_lit m l stack t.word e is) refl }
 
 prim_by_reads : (m : Mode) (f : PrimForm) (room : ℕ) (inner : List Tok → Read Expr) (t : Tok) (ts : List Tok) → InnerReads m room inner → prim_form m t.word ≡ f → PrimIs m f t.word
-    → Reads m room (a_prim ∷ []) (t ∷ ts) room (λ x. SpellsPrim m x (t ∷ ts)) (prim_by m room inner f ts)
+    → Reads m room (a_prim ∷ []) (t ∷ ts) room (λ x. SpellsPrim m x (t ∷ ts)) (prim_by m room inner f (t ∷ ts) ts)
 prim_by_reads m (a_name x) room inner t ts h e is = takes_first (rw e refl) (rw is refl) (read_reads m room x t ts is)
 prim_by_reads m (a_lit l) room inner t ts h e is = after (omega arith) (opens_lit m room l t ts e is) (then_seen _ (lit_by_reads m l room t ts is (subst (λ (f : LitForm). LitIs m f t.word) is (lit_is m t.word))) (λ l rest gl ll. gl))
-prim_by_reads m a_bracket zero inner t ts h e is = refuses_full (an_expr ∷ an_op ∷ an_expr ∷ need (sign mark.RightParen) ∷ []) (rw e refl) (rw is refl)
-prim_by_reads m a_bracket (suc room) inner t ts h e is = takes_first (rw e refl) (rw is refl) (bracket_reads m room inner t ts h is)
+prim_by_reads m a_bracket room inner t ts h e is = after (omega arith) (opens_bracket m room t ts is) (bracket_reads m room inner (t ∷ ts) h)
 prim_by_reads m (a_unary o) room inner t ts h e is = takes_first (rw e refl) (rw is.0 (is.1 room)) (unary_reads m room inner o t ts h is.0)
 prim_by_reads m a_cat room inner t ts h e is = takes_first (rw e refl) (rw is refl) (cat_reads m room inner t ts h is)
 prim_by_reads m a_mux room inner t ts h e is = takes_first (rw e refl) (rw is refl) (mux_reads m room inner t ts h is)

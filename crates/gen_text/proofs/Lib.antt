@@ -5,6 +5,7 @@ pub mod IntsRead
 pub mod ItemsRead
 pub mod Law
 pub mod Lists
+pub mod Loops
 pub mod Machine
 pub mod ModulesRead
 pub mod Moves

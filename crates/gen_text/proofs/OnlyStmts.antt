@@ -12,6 +12,7 @@ use Rattle.gen_text.specs.Reading.{Read, ◌>>=◌, seen, behind, begins, rest_o
 use Rattle.gen_text.proofs.Machine.{key, sign, a_stmt}
 use Rattle.gen_text.proofs.Lists.{until_only, takes}
 use Rattle.gen_text.proofs.StmtsRead.{stmt_reads}
+use Rattle.gen_text.proofs.Loops.{Shortens}
 use Rattle.gen_text.proofs.Depth.{int_depth, index_depth, expr_depth, stmt_depth, stmts_depth, else_depth}
 use Rattle.gen_text.proofs.OnlyExprs.{mark_only, key_only, not_next, next_is, name_only, less_one, cmp_only, int_only, fam_rest_only, fam_only, source_expr_only}
 
@@ -22,6 +23,9 @@ stmt_opened clocked (suc room) ts = refl
 
 pub stmt_shorter : (clocked : Bool) (room : ℕ) (s : Stmt) (ts rest : List Tok) → stmt_at clocked room ts ≡ Ok (s, rest) → length rest < length ts
 stmt_shorter clocked room s ts rest e = takes mode.Source room _ (SpellsStmt clocked) ts s rest _ (stmt_reads clocked room ts) e
+
+pub stmts_shorten : (clocked : Bool) (room : ℕ) → Shortens (stmt_at clocked room)
+stmts_shorten clocked room = record { shortens = λ ts s rest e. stmt_shorter clocked room s ts rest e }
 
 -- ---- heads
 

@@ -157,10 +157,11 @@ read_at m room x ts = fam_rest_at m room x ts >>= λ f. seen (read_of f.0) (dot_
 abbrev pub op_at : List Tok → Read Op
 op_at ts = first_as op_form ts
 
--- behind the bracket of an operator
-abbrev pub bracket_at : (List Tok → Read Expr) → List Tok → Read Expr
-bracket_at inner ts = do
-  a ← inner ts
+-- from the bracket of an operator on
+abbrev pub bracket_at : ℕ → (List Tok → Read Expr) → List Tok → Read Expr
+bracket_at room inner ts = do
+  t1 ← open_at mark.LeftParen room ts
+  a ← inner t1
   o ← op_at a.1
   b ← inner o.1
   rest ← mark_at mark.RightParen b.1
@@ -206,20 +207,21 @@ mux_at room inner ts = do
   rest ← mark_at mark.RightParen b.1
   Ok (mux c.0 a.0 b.0, rest)
 
-abbrev pub prim_by : Mode → ℕ → (List Tok → Read Expr) → PrimForm → List Tok → Read Expr
-prim_by m room inner (a_name x) ts = read_at m room x ts
-prim_by m room inner (a_lit l) ts = seen (λ l. value l) (lit_by m room l ts)
-prim_by m room inner a_bracket ts = within room (suc (length ts)) (bracket_at inner ts)
-prim_by m room inner (a_unary o) ts = unary_at room inner o ts
-prim_by m room inner a_cat ts = cat_at room inner ts
-prim_by m room inner a_mux ts = mux_at room inner ts
-prim_by m room inner a_zext ts = zext_at m room inner ts
+-- by the form of the first token, from it on and from behind it on
+abbrev pub prim_by : Mode → ℕ → (List Tok → Read Expr) → PrimForm → List Tok → List Tok → Read Expr
+prim_by m room inner (a_name x) from ts = read_at m room x ts
+prim_by m room inner (a_lit l) from ts = seen (λ l. value l) (lit_by m room l ts)
+prim_by m room inner a_bracket from ts = bracket_at room inner from
+prim_by m room inner (a_unary o) from ts = unary_at room inner o ts
+prim_by m room inner a_cat from ts = cat_at room inner ts
+prim_by m room inner a_mux from ts = mux_at room inner ts
+prim_by m room inner a_zext from ts = zext_at m room inner ts
 
 abbrev pub prim_step : Mode → ℕ → (List Tok → Read Expr) → List Tok → Read Expr
 prim_step m room inner [] = Err 0
-prim_step m room inner (t ∷ ts) = prim_by m room inner (prim_form m t.word) ts
+prim_step m room inner (t ∷ ts) = prim_by m room inner (prim_form m t.word) (t ∷ ts) ts
 
--- behind the bracket of a slice
+-- from the bracket of a slice on
 abbrev pub bounds_at : Mode → ℕ → Expr → List Tok → Read Expr
 bounds_at m room e ts = do
   t1 ← open_at mark.LeftBracket room ts

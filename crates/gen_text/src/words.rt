@@ -102,3 +102,13 @@ pub(crate) fn name<'t, 'a>(
         [] => Err(ReadFault::At { left: 0 }),
     }
 }
+
+/// Whether this keyword stands in front.
+pub(crate) fn begins_keyword(tokens: &[Placed<'_>], keyword: Keyword) -> bool
+    ensures { result ≡ begins (is_keyword keyword) (placed tokens.now) }
+{
+    match tokens {
+        [first, ..] => is_keyword(first.token, keyword),
+        [] => false,
+    }
+}

@@ -1,0 +1,303 @@
+ghost use Rattle.std.specs.Prelude.{◌≡◌, option_map, ◌-◌};
+ghost use Rattle.gen_token.specs.Words.{placed, word_of};
+ghost use Rattle.gen_tree.specs.View.{int_of, fam_of, lit_of, expr_of};
+ghost use Rattle.gen_text.specs.Faults.{Gives, with_rest};
+ghost use Rattle.gen_text.specs.Forms.{op_form};
+ghost use Rattle.gen_text.specs.Reading as list;
+
+use crate::fault::ReadFault;
+use crate::ints::{fam_rest, int};
+use crate::words::{begins_mark, mark, name, open};
+use gen_token::{Keyword, Mark, Placed, Token};
+use gen_tree::{Expr, Fam, Lit, Mode, Op, UnOp};
+use std::alloc::Global;
+use std::boxed::Box;
+use text_core::Text;
+
+/// What stands behind `bits`, and what follows it.
+fn bits<'t, 'a>(
+    alloc: Global,
+    mode: Mode,
+    room: usize,
+    tokens: &'t [Placed<'a>],
+) -> Result<(Lit, &'t [Placed<'a>]), ReadFault>
+    ensures { Gives (with_rest lit_of) result (list.bits_at mode room (placed tokens.now)) }
+{
+    let rest = open(tokens, Mark::LeftParen, room)?;
+    let (width, rest) = int(alloc, mode, room - 1, rest)?;
+    let rest = mark(rest, Mark::Comma)?;
+    let (value, rest) = int(alloc, mode, room - 1, rest)?;
+    let rest = mark(rest, Mark::RightParen)?;
+    Ok((Lit::Bits { width, value }, rest))
+}
+
+/// The literal in front, and what follows it.
+pub(crate) fn lit<'t, 'a>(
+    alloc: Global,
+    mode: Mode,
+    room: usize,
+    tokens: &'t [Placed<'a>],
+) -> Result<(Lit, &'t [Placed<'a>]), ReadFault>
+    ensures { Gives (with_rest lit_of) result (list.lit_at mode room (placed tokens.now)) }
+{
+    match tokens {
+        [first, rest @ ..] => match first.token {
+            Token::Literal { width, value } => Ok((Lit::Plain { width, value }, rest)),
+            Token::Keyword(Keyword::Bits) => {
+                if mode == Mode::Condition {
+                    return Err(ReadFault::At { left: tokens.len() });
+                }
+                bits(alloc, mode, room, rest)
+            }
+            _ => Err(ReadFault::At { left: tokens.len() }),
+        },
+        [] => Err(ReadFault::At { left: 0 }),
+    }
+}
+
+/// The name of an output behind a child's name, or none, and what follows it.
+fn dot<'t, 'a>(
+    alloc: Global,
+    tokens: &'t [Placed<'a>],
+) -> Result<(Option<Text>, &'t [Placed<'a>]), ReadFault>
+    ensures { Gives (with_rest (λ output. output)) result (list.dot_at (placed tokens.now)) }
+{
+    if !begins_mark(tokens, Mark::Dot) {
+        return Ok((None, tokens));
+    }
+    let (output, rest) = name(&tokens[1..])?;
+    Ok((Some(Text::new(alloc, output)?), rest))
+}
+
+/// What is read behind a name: a signal, a `let`, or a child's output; and what follows it.
+fn read<'t, 'a>(
+    alloc: Global,
+    mode: Mode,
+    room: usize,
+    name: &[u8],
+    tokens: &'t [Placed<'a>],
+) -> Result<(Expr, &'t [Placed<'a>]), ReadFault>
+    ensures { Gives (with_rest expr_of) result (list.read_at mode room name.now (placed tokens.now)) }
+{
+    let (fam, rest) = fam_rest(alloc, mode, room, name, tokens)?;
+    let (output, rest) = dot(alloc, rest)?;
+    Ok((read_of(fam, output), rest))
+}
+
+/// A signal, or an output of a child.
+fn read_of(fam: Fam, output: Option<Text>) -> Expr
+    ensures { expr_of result ≡ list.read_of (fam_of fam) output }
+{
+    match output {
+        Some(output) => Expr::Out(fam, output),
+        None => Expr::Read(fam),
+    }
+}
+
+/// The operator between expressions that a token is.
+fn op_of(token: Token<'_>) -> Option<Op>
+    ensures { result ≡ op_form (word_of token.entry) }
+{
+    match token {
+        Token::Mark(Mark::Plus) => Some(Op::Add),
+        Token::Mark(Mark::Minus) => Some(Op::Sub),
+        Token::Mark(Mark::Star) => Some(Op::Mul),
+        Token::Mark(Mark::Ampersand) => Some(Op::And),
+        Token::Mark(Mark::Bar) => Some(Op::Or),
+        Token::Mark(Mark::Caret) => Some(Op::Xor),
+        Token::Mark(Mark::EqualsEquals) => Some(Op::Eq),
+        Token::Mark(Mark::NotEquals) => Some(Op::Ne),
+        Token::Mark(Mark::Less) => Some(Op::Lt),
+        Token::Mark(Mark::LessEquals) => Some(Op::Le),
+        Token::Mark(Mark::LessLess) => Some(Op::Shl),
+        Token::Mark(Mark::GreaterGreater) => Some(Op::Shr),
+        _ => None,
+    }
+}
+
+/// The operator between expressions in front, and what follows it.
+fn op<'t, 'a>(tokens: &'t [Placed<'a>]) -> Result<(Op, &'t [Placed<'a>]), ReadFault>
+    ensures { Gives (with_rest (λ op. op)) result (list.op_at (placed tokens.now)) }
+{
+    match tokens {
+        [first, rest @ ..] => match op_of(first.token) {
+            Some(op) => Ok((op, rest)),
+            None => Err(ReadFault::At { left: tokens.len() }),
+        },
+        [] => Err(ReadFault::At { left: 0 }),
+    }
+}
+
+/// The expression in front, and what follows it. `room` brackets may still be opened.
+#[cycle(exprs)]
+#[tactic(auto, using(crate::proofs::OnlyExprs::expr_opened))]
+pub(crate) fn expr<'t, 'a>(
+    alloc: Global,
+    mode: Mode,
+    room: usize,
+    tokens: &'t [Placed<'a>],
+) -> Result<(Expr, &'t [Placed<'a>]), ReadFault>
+    ensures { Gives (with_rest expr_of) result (list.expr_at mode room (placed tokens.now)) }
+{
+    let (value, rest) = prim(alloc, mode, room, tokens)?;
+    slice(alloc, mode, room, value, rest)
+}
+
+/// The expression in front, up to a slice at its end, and what follows it.
+#[cycle(exprs)]
+fn prim<'t, 'a>(
+    alloc: Global,
+    mode: Mode,
+    room: usize,
+    tokens: &'t [Placed<'a>],
+) -> Result<(Expr, &'t [Placed<'a>]), ReadFault>
+    ensures { Gives (with_rest expr_of) result (list.prim_step mode room (list.inner_expr mode room) (placed tokens.now)) }
+{
+    match tokens {
+        [first, rest @ ..] => match first.token {
+            Token::Name(name) => read(alloc, mode, room, name, rest),
+            Token::Mark(Mark::LeftParen) => bracket(alloc, mode, room, tokens),
+            Token::Mark(Mark::Tilde) => unary(alloc, mode, room, UnOp::Not, rest),
+            Token::Keyword(Keyword::All) => unary(alloc, mode, room, UnOp::All, rest),
+            Token::Keyword(Keyword::Any) => unary(alloc, mode, room, UnOp::Any, rest),
+            Token::Keyword(Keyword::Parity) => unary(alloc, mode, room, UnOp::Parity, rest),
+            Token::Keyword(Keyword::Cat) => cat(alloc, mode, room, rest),
+            Token::Keyword(Keyword::Mux) => mux(alloc, mode, room, rest),
+            Token::Keyword(Keyword::Zext) => zext(alloc, mode, room, rest),
+            _ => {
+                let (lit, rest) = lit(alloc, mode, room, tokens)?;
+                Ok((Expr::Value(lit), rest))
+            }
+        },
+        [] => Err(ReadFault::At { left: 0 }),
+    }
+}
+
+/// Two values with an operator between them, in brackets, and what follows them.
+#[cycle(exprs)]
+fn bracket<'t, 'a>(
+    alloc: Global,
+    mode: Mode,
+    room: usize,
+    tokens: &'t [Placed<'a>],
+) -> Result<(Expr, &'t [Placed<'a>]), ReadFault>
+    ensures { Gives (with_rest expr_of) result (list.bracket_at room (list.inner_expr mode room) (placed tokens.now)) }
+{
+    let rest = open(tokens, Mark::LeftParen, room)?;
+    let (first, rest) = expr(alloc, mode, room - 1, rest)?;
+    let (op, rest) = op(rest)?;
+    let (second, rest) = expr(alloc, mode, room - 1, rest)?;
+    let rest = mark(rest, Mark::RightParen)?;
+    let value = Expr::Bin(op, Box::new(alloc, first)?, Box::new(alloc, second)?);
+    Ok((value, rest))
+}
+
+/// What stands behind an operator on one value, and what follows it.
+#[cycle(exprs)]
+fn unary<'t, 'a>(
+    alloc: Global,
+    mode: Mode,
+    room: usize,
+    op: UnOp,
+    tokens: &'t [Placed<'a>],
+) -> Result<(Expr, &'t [Placed<'a>]), ReadFault>
+    ensures { Gives (with_rest expr_of) result (list.unary_at room (list.inner_expr mode room) op (placed tokens.now)) }
+{
+    let rest = open(tokens, Mark::LeftParen, room)?;
+    let (value, rest) = expr(alloc, mode, room - 1, rest)?;
+    let rest = mark(rest, Mark::RightParen)?;
+    Ok((Expr::Un(op, Box::new(alloc, value)?), rest))
+}
+
+/// What stands behind `cat`, and what follows it.
+#[cycle(exprs)]
+fn cat<'t, 'a>(
+    alloc: Global,
+    mode: Mode,
+    room: usize,
+    tokens: &'t [Placed<'a>],
+) -> Result<(Expr, &'t [Placed<'a>]), ReadFault>
+    ensures { Gives (with_rest expr_of) result (list.cat_at room (list.inner_expr mode room) (placed tokens.now)) }
+{
+    let rest = open(tokens, Mark::LeftParen, room)?;
+    let (high, rest) = expr(alloc, mode, room - 1, rest)?;
+    let rest = mark(rest, Mark::Comma)?;
+    let (low, rest) = expr(alloc, mode, room - 1, rest)?;
+    let rest = mark(rest, Mark::RightParen)?;
+    let value = Expr::Bin(Op::Cat, Box::new(alloc, high)?, Box::new(alloc, low)?);
+    Ok((value, rest))
+}
+
+/// What stands behind `zext`, and what follows it.
+#[cycle(exprs)]
+fn zext<'t, 'a>(
+    alloc: Global,
+    mode: Mode,
+    room: usize,
+    tokens: &'t [Placed<'a>],
+) -> Result<(Expr, &'t [Placed<'a>]), ReadFault>
+    ensures { Gives (with_rest expr_of) result (list.zext_at mode room (list.inner_expr mode room) (placed tokens.now)) }
+{
+    let rest = open(tokens, Mark::LeftParen, room)?;
+    let (value, rest) = expr(alloc, mode, room - 1, rest)?;
+    let rest = mark(rest, Mark::Comma)?;
+    let (width, rest) = int(alloc, mode, room - 1, rest)?;
+    let rest = mark(rest, Mark::RightParen)?;
+    Ok((Expr::Zext(Box::new(alloc, value)?, width), rest))
+}
+
+/// What stands behind `mux`, and what follows it.
+#[cycle(exprs)]
+fn mux<'t, 'a>(
+    alloc: Global,
+    mode: Mode,
+    room: usize,
+    tokens: &'t [Placed<'a>],
+) -> Result<(Expr, &'t [Placed<'a>]), ReadFault>
+    ensures { Gives (with_rest expr_of) result (list.mux_at room (list.inner_expr mode room) (placed tokens.now)) }
+{
+    let rest = open(tokens, Mark::LeftParen, room)?;
+    let (test, rest) = expr(alloc, mode, room - 1, rest)?;
+    let rest = mark(rest, Mark::Comma)?;
+    let (first, rest) = expr(alloc, mode, room - 1, rest)?;
+    let rest = mark(rest, Mark::Comma)?;
+    let (second, rest) = expr(alloc, mode, room - 1, rest)?;
+    let rest = mark(rest, Mark::RightParen)?;
+    let test = Box::new(alloc, test)?;
+    let value = Expr::Mux(test, Box::new(alloc, first)?, Box::new(alloc, second)?);
+    Ok((value, rest))
+}
+
+/// A value with a slice behind it, or without, and what follows.
+fn slice<'t, 'a>(
+    alloc: Global,
+    mode: Mode,
+    room: usize,
+    value: Expr,
+    tokens: &'t [Placed<'a>],
+) -> Result<(Expr, &'t [Placed<'a>]), ReadFault>
+    ensures { Gives (with_rest expr_of) result (list.slice_at mode room (expr_of value) (placed tokens.now)) }
+{
+    if !begins_mark(tokens, Mark::LeftBracket) {
+        return Ok((value, tokens));
+    }
+    bounds(alloc, mode, room, value, tokens)
+}
+
+/// A value with the slice behind it, and what follows.
+fn bounds<'t, 'a>(
+    alloc: Global,
+    mode: Mode,
+    room: usize,
+    value: Expr,
+    tokens: &'t [Placed<'a>],
+) -> Result<(Expr, &'t [Placed<'a>]), ReadFault>
+    ensures { Gives (with_rest expr_of) result (list.bounds_at mode room (expr_of value) (placed tokens.now)) }
+{
+    let rest = open(tokens, Mark::LeftBracket, room)?;
+    let (high, rest) = int(alloc, mode, room - 1, rest)?;
+    let rest = mark(rest, Mark::Colon)?;
+    let (low, rest) = int(alloc, mode, room - 1, rest)?;
+    let rest = mark(rest, Mark::RightBracket)?;
+    Ok((Expr::Slice(Box::new(alloc, value)?, high, low), rest))
+}
