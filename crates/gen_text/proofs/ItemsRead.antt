@@ -10,13 +10,14 @@ use Rattle.gen_tree.specs.Brackets.{room_after}
 use Rattle.gen_tree.specs.Tree.{Int, Fam, Expr, Stmts, Param, Conn, Item, wire, reg, inst, comb, ff, repeat_items, given_items, Items, no_item, item, items, ElseItems, no_else_items, otherwise_items}
 use Rattle.gen_tree.specs.Grammar.{Span, ◌⨾◌, Single, Sym, Key, Each, Braces, SpellsStmts, SpellsParam, SpellsMoreParams, SpellsParams, SpellsConn, SpellsItem, SpellsItems, SpellsElseItems}
 use Rattle.gen_text.specs.Forms.{is_mark, name_form, ItemForm, a_wire, a_reg, an_inst, a_block, a_for_item, a_gen_item, no_item_form, item_form}
-use Rattle.gen_text.specs.Reading.{Read, ◌>>=◌, seen, begins, until_by, until_at, each_by, each_at, body_by, mark_at, open_at, name_at, param_at, more_param_at, begins_param, params_in_at, params_at, conn_rest_at, conn_by, conn_at, conns_at, wire_at, reg_at, inst_at, block_of, block_at, inner_stmts, else_by, else_items_at, for_item_at, gen_item_at, item_by, item_step, items_until, item_at, inner_items}
+use Rattle.gen_text.specs.Reading.{Read, ◌>>=◌, seen, begins, until_by, until_at, each_by, each_at, body_by, mark_at, open_at, name_at, param_at, more_param_at, begins_param, param_list_at, params_in_at, params_at, conn_rest_at, conn_by, conn_at, conns_at, wire_at, reg_at, inst_at, block_of, block_at, inner_stmts, else_by, else_items_at, for_item_at, gen_item_at, item_by, item_step, items_until, item_at, inner_items}
 use Rattle.gen_text.proofs.Machine.{Fixed, key, sign, Symbol, need, need_name, an_int, an_index, an_expr, a_literal, stmts_end, a_param, another_param, params_end, params, a_conn, conns_end, an_item, items_end, else_items, fam_symbols, turn_symbols, given_symbols, body_symbols, param_symbols, conn_symbols, Move, shift, skip, stuck, step, lead, if_some, item_lead, settle, run, at_end}
 use Rattle.gen_text.proofs.Moves.{Comes, Reads, after, then_read, then_front, then_word, then_seen, maps, measured, done, begins as takes_first, passes, passes_end, refuses, refuses_end}
 use Rattle.gen_text.proofs.WordsRead.{test, is_mark_is, word_reads, then_open, name_reads, NameIs, name_is}
 use Rattle.gen_text.proofs.IntsRead.{int_reads, fam_reads}
 use Rattle.gen_text.proofs.ExprsRead.{lit_reads, expr_reads}
-use Rattle.gen_text.proofs.Lists.{EachReads, OneOf, each_reads, then_each, UntilOf, until_reads, opens_until, InsideBody, body_reads, ElseOf, else_reads}
+use Rattle.gen_text.proofs.Lists.{EachReads, OneOf, each_reads, then_each, UntilOf, until_reads, opens_until, InsideBody, body_reads, ElseOf, else_reads, takes}
+use Rattle.gen_text.proofs.Loops.{Shortens}
 use Rattle.gen_text.proofs.StmtsRead.{turns_reads, given_reads, inner_stmts_read}
 
 -- ---- parameters
@@ -72,15 +73,46 @@ unfolding run at_end
 after_params room [] h = record { comes = λ stack. refl }
 after_params room (t ∷ ts) h = record { comes = λ stack. rw (settle_last_param stack t.word h) refl }
 
+-- the same, one step after another
+abbrev pub params_flat_at : ℕ → List Tok → Read (List Param)
+params_flat_at room ts = do
+  t1 ← open_at mark.LeftParen room ts
+  p ← param_at (room - 1) t1
+  more ← each_at begins_param (more_param_at (room - 1)) p.1
+  rest ← mark_at mark.RightParen more.1
+  Ok (p.0 ∷ more.0, rest)
+
+-- up to the bracket that closes them
+abbrev closing : List Param → List Tok → Read (List Param)
+closing ps ts = mark_at mark.RightParen ts >>= λ rest. Ok (ps, rest)
+
+abbrev more_of : ℕ → List Tok → Read (List Param)
+more_of room ts = each_at begins_param (more_param_at room) ts
+
+pub params_flat : (room : ℕ) (ts : List Tok) → params_in_at room ts ≡ params_flat_at room ts
+params_flat room ts = first (open_at mark.LeftParen room ts)
+  where
+    third : (p : Param) (o : Read (List Param)) → (seen (λ more. p ∷ more) o >>= λ ps. closing ps.0 ps.1) ≡ (o >>= λ more. closing (p ∷ more.0) more.1)
+    third p (Err left) = refl
+    third p (Ok more) = refl
+    second : (o : Read Param) → ((o >>= λ p. seen (λ more. p.0 ∷ more) (more_of (room - 1) p.1)) >>= λ ps. closing ps.0 ps.1)
+        ≡ (o >>= λ p. more_of (room - 1) p.1 >>= λ more. closing (p.0 ∷ more.0) more.1)
+    second (Err left) = refl
+    second (Ok p) = third p.0 (more_of (room - 1) p.1)
+    first : (o : Result (List Tok) ℕ) → (o >>= λ t1. param_list_at (room - 1) t1 >>= λ ps. closing ps.0 ps.1)
+        ≡ (o >>= λ t1. param_at (room - 1) t1 >>= λ p. more_of (room - 1) p.1 >>= λ more. closing (p.0 ∷ more.0) more.1)
+    first (Err left) = refl
+    first (Ok t1) = second (param_at (room - 1) t1)
+
 params_in_reads : (room : ℕ) (ts : List Tok) → Reads mode.Source room (need (sign mark.LeftParen) ∷ a_param ∷ params_end ∷ []) ts room (λ ps. SpellsParams ps ts) (params_in_at room ts)
-params_in_reads room ts =
+params_in_reads room ts = rw (params_flat room ts) (
     then_open mark.LeftParen room ts _ refl (λ room2 room-is t1 g1 l1.
     let same : room - 1 ≡ room2 = omega arith in
     rw same (
     then_read _ (param_reads room2 t1) (λ p t2 gp lp.
     then_each _ (more_params_read room2 t2) (after_params room2) (λ ps t3 gs ls.
     then_word _ (word_reads (sign mark.RightParen) room2 room t3 (rw (← room-is) refl)) (λ rest gr lr.
-    done (t1, g1, (t2, gp, (t3, gs, gr))))))))
+    done (t1, g1, (t2, gp, (t3, gs, gr)))))))))
 
 settle_params : (stack : List Symbol) (w : Word) → is_mark mark.LeftParen w ≡ true → settle mode.Source (params ∷ stack) w ≡ settle mode.Source (need (sign mark.LeftParen) ∷ a_param ∷ params_end ∷ stack) w
 unfolding settle
@@ -266,3 +298,9 @@ item_reads (suc room) ts = item_step_reads (suc room) (items_until (item_at room
 
 pub items_read : (room : ℕ) (ts : List Tok) → Reads mode.Source room (items_end ∷ []) ts (suc room) (λ b. (SpellsItems b ⨾ Sym mark.RightBrace) ts) (items_until (item_at room) ts)
 items_read room ts = items_read_by room (item_at room) (item_reads room) ts
+
+pub conns_shorten : (room : ℕ) → Shortens (conn_at room)
+conns_shorten room = record { shortens = λ ts x rest e. takes mode.Source room _ SpellsConn ts x rest _ (conn_reads room ts) e }
+
+pub params_shorten : (room : ℕ) → Shortens (more_param_at room)
+params_shorten room = record { shortens = λ ts x rest e. takes mode.Source room _ More ts x rest _ (more_param_reads room ts) e }

@@ -13,5 +13,6 @@ pub mod OnlyExprs
 pub mod OnlyItems
 pub mod OnlyModules
 pub mod OnlyStmts
+pub mod SourceLoop
 pub mod StmtsRead
 pub mod WordsRead

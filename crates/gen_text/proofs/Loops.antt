@@ -1,5 +1,5 @@
 -- Loops that read lists.
-use Rattle.std.proofs.Common.{◌≡◌, ◌<◌, ◌==◌, ℕ, zero, suc, Bool, true, false, cond, List, [], ◌∷◌, ◌++◌, length, map, Result, Ok, Err, refl, sym, ap, subst, ◌∙◌, arith, append_assoc, append-nil}
+use Rattle.std.proofs.Common.{◌≡◌, ◌<◌, ◌-◌, ℕ, zero, suc, Bool, true, false, cond, List, [], ◌∷◌, ◌++◌, length, map, Result, Ok, Err, refl, sym, ap, subst, ◌∙◌, arith, append_assoc, append-nil}
 use Rattle.std.proofs.lemmas.List.{length-map}
 use Rattle.gen_token.specs.declared.Placed as code
 use Rattle.gen_token.specs.declared.Mark.TheVariants as mark
@@ -9,7 +9,7 @@ use Rattle.gen_text.specs.declared.fault.ReadFault.{ReadFault}
 use Rattle.gen_text.specs.declared.fault.ReadFault.TheVariants as faults
 use Rattle.gen_text.specs.Faults.{Fails}
 use Rattle.gen_text.specs.Forms.{is_mark}
-use Rattle.gen_text.specs.Reading.{Read, ◌>>=◌, seen, begins, rest_of, mark_at, until_by, until_at, each_by, each_at}
+use Rattle.gen_text.specs.Reading.{Read, ◌>>=◌, seen, begins, rest_of, mark_at, open_at, body_by, until_by, until_at, each_by, each_at}
 
 pub placed_length : (ts : List code.Placed) → length (placed ts) ≡ length ts
 placed_length ts = simp length-map
@@ -32,6 +32,9 @@ regroup front x (Err left) = refl
 pub front_none : {A : Type 0} (o : Read (List A)) → with_front [] o ≡ o
 front_none (Ok more) = refl
 front_none (Err left) = refl
+
+less_one : (n : ℕ) → suc n - 1 ≡ n
+less_one n = omega arith
 
 abbrev ok : List Tok → Result (List Tok) ℕ
 ok ts = Ok ts
@@ -132,3 +135,51 @@ each_fails (faults.At left) goes member front ts whole g f w = sym w ∙ ap (wit
 
 pub each_ends : {A : Type 0} (goes : List Tok → Bool) (member : List Tok → Read A) (front : List A) (ts : List Tok) (whole : Read (List A)) → goes ts ≡ false → with_front front (each_at goes member ts) ≡ whole → whole ≡ Ok (front, ts)
 each_ends {A = A} goes member front ts whole g w = sym w ∙ ap (with_front front) (each_closes goes member ts g) ∙ ap (λ (l : List A). Ok (l, ts)) (append-nil front)
+
+-- ---- a body in braces
+
+-- a reader of bodies reads members up to the closing brace, with less room
+pub record Bodies {A B : Type 0} (g : List A → B) (member : ℕ → List Tok → Read A) (inner : ℕ → List Tok → Read B) : Type 0 where
+  pub bodies : (room : ℕ) (ts : List Tok) → inner (suc room) ts ≡ seen g (until_at (member room) ts)
+  pub shorten : (room : ℕ) → Shortens (member room)
+
+-- what is left of the body, behind the members that were read
+abbrev pub left_of : {A B : Type 0} → (List A → B) → (List Tok → Read A) → List A → List Tok → Read B
+left_of g member front ts = seen g (with_front front (until_at member ts))
+
+pub body_begins : {A B : Type 0} {g : List A → B} {member : ℕ → List Tok → Read A} {inner : ℕ → List Tok → Read B} → Bodies g member inner
+    → (room : ℕ) (ts t1 : List Tok) → 0 < room → open_at mark.LeftBrace room ts ≡ Ok t1 → left_of g (member (room - 1)) [] t1 ≡ body_by room (inner room) ts
+body_begins b zero ts t1 lt e = absurd (omega arith)
+body_begins {g = g} {member = member} {inner = inner} b (suc room) ts t1 lt e =
+    rw (less_one room) (ap (seen g) (front_none (until_at (member room) t1)) ∙ sym (b.bodies room t1) ∙ sym (by (mark_at mark.LeftBrace ts) e))
+  where
+    by : (o : Result (List Tok) ℕ) → o ≡ Ok t1 → (o >>= λ t. inner (suc room) t) ≡ inner (suc room) t1
+    by o e = rw e refl
+
+pub body_turn : {A B : Type 0} {g : List A → B} {member : ℕ → List Tok → Read A} {inner : ℕ → List Tok → Read B} → Bodies g member inner
+    → (room : ℕ) (front : List A) (x : A) (ts t1 : List Tok) (whole : Read B) → begins (is_mark mark.RightBrace) ts ≡ false → member room ts ≡ Ok (x, t1)
+    → left_of g (member room) front ts ≡ whole → left_of g (member room) (front ++ x ∷ []) t1 ≡ whole
+body_turn {g = g} {member = member} b room front x ts t1 whole ne e w =
+    ap (seen g) (until_turn (member room) front x ts t1 (with_front front (until_at (member room) ts)) (b.shorten room) ne e refl) ∙ w
+
+pub body_fails : {A B : Type 0} (g : List A → B) (member : List Tok → Read A) (e : ReadFault) (front : List A) (ts : List Tok) (whole : Read B) → begins (is_mark mark.RightBrace) ts ≡ false → Fails e (member ts)
+    → left_of g member front ts ≡ whole → Fails e whole
+body_fails g member e front ts whole ne f w =
+    subst (λ o. Fails e o) w (fails_seen e g (with_front front (until_at member ts)) (until_fails e member front ts (with_front front (until_at member ts)) ne f refl))
+
+pub body_ends : {A B : Type 0} (g : List A → B) (member : List Tok → Read A) (front : List A) (ts rest : List Tok) (whole : Read B) → begins (is_mark mark.RightBrace) ts ≡ true → mark_at mark.RightBrace ts ≡ Ok rest
+    → left_of g member front ts ≡ whole → whole ≡ Ok (g front, rest)
+body_ends g member front ts rest whole here e w = sym w ∙ ap (seen g) (until_ends member front ts rest (with_front front (until_at member ts)) here e refl)
+
+pub shorter : {A : Type 0} (member : List Tok → Read A) (x : A) (ts t1 : List code.Placed) → Shortens member → member (placed ts) ≡ Ok (x, placed t1) → length t1 < length ts
+shorter member x ts t1 h e = omega (arith, h.shortens (placed ts) x (placed t1) e, placed_length ts, placed_length t1)
+
+-- the first member of a list was read before the loop
+pub list_begins : {A : Type 0} (first : A) (o : Read (List A)) → with_front (first ∷ []) o ≡ seen (λ more. first ∷ more) o
+list_begins first (Ok more) = refl
+list_begins first (Err left) = refl
+
+-- a fault stays a fault, whatever would have been read next
+pub fails_then : {A B : Type 0} (e : ReadFault) (o : Read A) (f : A × List Tok → Result B ℕ) → Fails e o → Fails e (o >>= f)
+fails_then faults.NoMemory o f h = tt
+fails_then (faults.At left) o f h = rw h refl

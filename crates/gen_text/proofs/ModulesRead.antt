@@ -5,15 +5,16 @@ use Rattle.gen_token.specs.declared.Mark.TheVariants as mark
 use Rattle.gen_token.specs.Words.{Word, Name, Number, Literal, Reserved, Sign, Tok}
 use Rattle.gen_tree.specs.declared.Mode.TheVariants as mode
 use Rattle.gen_tree.specs.Brackets.{room_after}
-use Rattle.gen_tree.specs.Tree.{Port, Module}
+use Rattle.gen_tree.specs.Tree.{Param, Items, Port, Module}
 use Rattle.gen_tree.specs.Grammar.{Span, ◌⨾◌, Single, Sym, Key, Each, SpellsItems, SpellsPort, SpellsModule, direction}
 use Rattle.gen_text.specs.Forms.{is_mark, is_keyword, port_form, item_form}
-use Rattle.gen_text.specs.Reading.{Read, ◌>>=◌, begins, each_by, each_at, port_at, port_by, port_rest_at, begins_port, module_at, module_rest_at, module_body_at}
+use Rattle.gen_text.specs.Reading.{Read, ◌>>=◌, begins, each_by, each_at, open_at, params_at, items_until, item_at, port_at, port_by, port_rest_at, begins_port, ports_at, content_at, module_at, module_rest_at, module_body_at}
 use Rattle.gen_text.proofs.Machine.{Symbol, need, sign, need_name, an_int, params, a_port, ports_end, items_end, a_module, port_symbols, module_symbols, if_some, step, settle, run, at_end}
 use Rattle.gen_text.proofs.Moves.{Comes, Stops, Reads, after, then_read, then_word, maps, done, begins as takes_first, refuses, refuses_end}
 use Rattle.gen_text.proofs.WordsRead.{test, is_keyword_is, word_reads, then_open, name_reads}
 use Rattle.gen_text.proofs.IntsRead.{int_reads}
-use Rattle.gen_text.proofs.Lists.{EachReads, OneOf, each_reads, then_each}
+use Rattle.gen_text.proofs.Lists.{EachReads, OneOf, each_reads, then_each, takes}
+use Rattle.gen_text.proofs.Loops.{Shortens}
 use Rattle.gen_text.proofs.ItemsRead.{params_read, items_read}
 
 -- ---- ports
@@ -79,17 +80,59 @@ after_ports room (t ∷ ts) h = record { comes = λ stack. rw (settle_last_port 
 
 -- ---- modules
 
+-- the body of a module, one step after another
+abbrev pub module_flat_at : ℕ → ℕ → List ℕ → List Tok → Read Module
+module_flat_at room line x ts = do
+  pars ← params_at room ts
+  t1 ← open_at mark.LeftBrace room pars.1
+  ports ← each_at begins_port (port_at (room - 1)) t1
+  body ← items_until (item_at (room - 1)) ports.1
+  Ok (record { line = line; name = x; params = pars.0; ports = ports.0; items = body.0 }, body.1)
+
+abbrev both : List Port → Items → List Tok → Read (List Port × Items)
+both ports body ts = Ok ((ports, body), ts)
+
+-- ports that were read, and then the items
+abbrev with_ports : ℕ → List Port → List Tok → Read (List Port × Items)
+with_ports room ports ts = items_until (item_at (room - 1)) ts >>= λ body. both ports body.0 body.1
+
+abbrev named : ℕ → List ℕ → List Param → List Port × Items → List Tok → Read Module
+named line x pars content ts = Ok (record { line = line; name = x; params = pars; ports = content.0; items = content.1 }, ts)
+
+abbrev named_so : ℕ → List ℕ → List Param → List Port → Items → List Tok → Read Module
+named_so line x pars ports body ts = Ok (record { line = line; name = x; params = pars; ports = ports; items = body }, ts)
+
+pub module_flat : (room line : ℕ) (x : List ℕ) (ts : List Tok) → module_body_at room line x ts ≡ module_flat_at room line x ts
+module_flat room line x ts = first (params_at room ts)
+  where
+    fourth : (pars : List Param) (ports : List Port) (o : Read Items) → ((o >>= λ body. both ports body.0 body.1) >>= λ content. named line x pars content.0 content.1) ≡ (o >>= λ body. named_so line x pars ports body.0 body.1)
+    fourth pars ports (Err left) = refl
+    fourth pars ports (Ok body) = refl
+    third : (pars : List Param) (o : Read (List Port)) → ((o >>= λ ports. with_ports room ports.0 ports.1) >>= λ content. named line x pars content.0 content.1)
+        ≡ (o >>= λ ports. items_until (item_at (room - 1)) ports.1 >>= λ body. named_so line x pars ports.0 body.0 body.1)
+    third pars (Err left) = refl
+    third pars (Ok ports) = fourth pars ports.0 (items_until (item_at (room - 1)) ports.1)
+    second : (pars : List Param) (o : Result (List Tok) ℕ) → (((o >>= λ t. each_at begins_port (port_at (room - 1)) t) >>= λ ports. with_ports room ports.0 ports.1) >>= λ content. named line x pars content.0 content.1)
+        ≡ (o >>= λ t. each_at begins_port (port_at (room - 1)) t >>= λ ports. items_until (item_at (room - 1)) ports.1 >>= λ body. named_so line x pars ports.0 body.0 body.1)
+    second pars (Err left) = refl
+    second pars (Ok t) = third pars (each_at begins_port (port_at (room - 1)) t)
+    first : (o : Read (List Param)) → (o >>= λ pars. content_at room pars.1 >>= λ content. named line x pars.0 content.0 content.1)
+        ≡ (o >>= λ pars. open_at mark.LeftBrace room pars.1 >>= λ t. each_at begins_port (port_at (room - 1)) t >>= λ ports. items_until (item_at (room - 1)) ports.1 >>= λ body. named_so line x pars.0 ports.0 body.0 body.1)
+    first (Err left) = refl
+    first (Ok pars) = second pars.0 (open_at mark.LeftBrace room pars.1)
+
 module_rest_reads : (room : ℕ) (t : Tok) (ts : List Tok) → t.word ≡ Reserved keyword.Module
     → Reads mode.Source room module_symbols ts room (λ m rest. SpellsModule m (t ∷ ts) rest × (length rest < suc (length ts))) (module_rest_at room t.line ts)
 module_rest_reads room t ts is =
     then_read _ (name_reads room ts) (λ x t1 gx lx.
+    rw (module_flat room t.line x t1) (
     then_read _ (params_read room t1) (λ ps t2 gp lp.
     then_open mark.LeftBrace room t2 _ refl (λ room2 room-is t3 g3 l3.
     let same : room - 1 ≡ room2 = omega arith in
     rw (same, room-is) (
     then_each _ (ports_read room2 t3) (after_ports room2) (λ ports t4 gs ls.
     then_read _ (items_read room2 t4) (λ body rest gb lb.
-    done ((refl, (ts, (is, refl), (t1, gx, (t2, gp, (t3, g3, (t4, gs, (gb.0, gb.1, gb.2))))))), omega arith)))))))
+    done ((refl, (ts, (is, refl), (t1, gx, (t2, gp, (t3, g3, (t4, gs, (gb.0, gb.1, gb.2))))))), omega arith))))))))
 
 pub module_reads : (room : ℕ) (ts : List Tok) → Reads mode.Source room (a_module ∷ []) ts room (λ m rest. SpellsModule m ts rest × (length rest < length ts)) (module_at room ts)
 unfolding module_at
@@ -100,3 +143,6 @@ module_reads room (t ∷ ts) = elim (test (is_keyword keyword.Module t.word)) [
     rw e (takes_first (rw e refl) (rw is refl) (module_rest_reads room t ts is))
   | inr e ↦ rw e (refuses (rw e refl))
   ]
+
+pub ports_shorten : (room : ℕ) → Shortens (port_at room)
+ports_shorten room = record { shortens = λ ts x rest e. takes mode.Source room _ SpellsPort ts x rest _ (port_reads room ts) e }

@@ -11,7 +11,8 @@ use Rattle.gen_text.specs.Forms.{is_mark, is_keyword}
 use Rattle.gen_text.specs.Reading.{Read, ◌>>=◌, seen, behind, begins, rest_of, until_by, until_at, each_by, each_at, param_at, more_param_at, begins_param, params_in_at, params_at, conn_at, conns_at, body_by, else_items_at, item_step, items_until, item_at, inner_items}
 use Rattle.gen_text.proofs.Machine.{key, sign, an_item}
 use Rattle.gen_text.proofs.Lists.{each_only, until_only, takes}
-use Rattle.gen_text.proofs.ItemsRead.{conn_reads, item_reads, more_param_reads}
+use Rattle.gen_text.proofs.ItemsRead.{conn_reads, item_reads, more_param_reads, params_flat}
+use Rattle.gen_text.proofs.Loops.{Shortens, Bodies}
 use Rattle.gen_text.proofs.Depth.{int_depth, index_depth, lit_depth, expr_depth, stmts_depth, each_depth, param_depth, params_depth, conn_depth, item_depth, items_depth, else_items_depth}
 use Rattle.gen_text.proofs.OnlyExprs.{mark_only, key_only, not_next, next_is, name_only, less_one, int_only, fam_only, lit_only, source_expr_only}
 use Rattle.gen_text.proofs.OnlyStmts.{turns_only, given_only, block_only}
@@ -41,7 +42,7 @@ params_only (p ∷ ps) (suc room) ts rest le (t1, w, (t2, sp, (t3, ss, w2))) ne 
     let more : each_at begins_param (more_param_at room) t2 ≡ Ok (ps, t3) =
         each_only ps (suc (length t2)) begins_param (λ p ts rest. More p ts rest × (param_depth p ≤ room)) (more_param_at room) t2 t3 (more_only room) (not_next (is_mark mark.Comma) (Sign mark.RightParen) t3 rest refl w2) (omega arith) (within_each More param_depth room ps t2 t3 (omega arith) ss) in
     let next = next_is (sign mark.LeftParen) ts t1 w in
-    let inside : params_in_at (suc room) ts ≡ Ok (p ∷ ps, rest) = rw (mark_only mark.LeftParen ts t1 w, less_one room, first, more, mark_only mark.RightParen t3 rest w2) refl in
+    let inside : params_in_at (suc room) ts ≡ Ok (p ∷ ps, rest) = params_flat (suc room) ts ∙ rw (mark_only mark.LeftParen ts t1 w, less_one room, first, more, mark_only mark.RightParen t3 rest w2) refl in
     ap (λ b. cond b (params_in_at (suc room) ts) (Ok ([], ts))) next.0 ∙ inside
 
 -- ---- connections
@@ -73,6 +74,9 @@ item_opened (suc room) ts = refl
 
 pub item_shorter : (room : ℕ) (i : Item) (ts rest : List Tok) → item_at room ts ≡ Ok (i, rest) → length rest < length ts
 item_shorter room i ts rest e = takes mode.Source room _ SpellsItem ts i rest _ (item_reads room ts) e
+
+pub items_bodies : Bodies items item_at inner_items
+items_bodies = record { bodies = λ room ts. refl; shorten = λ room. record { shortens = λ ts i rest e. item_shorter room i ts rest e } }
 
 -- an item begins with one of its keywords
 pub record NoItem (test : Word → Bool) : Type 0 where

@@ -9,7 +9,7 @@ use Rattle.gen_tree.specs.Grammar.{Span, ◌⨾◌, Single, Sym, Key, Each, Spel
 use Rattle.gen_text.specs.Forms.{is_mark, is_keyword, port_form}
 use Rattle.gen_text.specs.Reading.{Read, ◌>>=◌, begins, each_by, each_at, port_at, port_by, begins_port, module_at, none_left, source_by, source_at}
 use Rattle.gen_text.proofs.Lists.{each_only, takes}
-use Rattle.gen_text.proofs.ModulesRead.{port_reads, module_reads}
+use Rattle.gen_text.proofs.ModulesRead.{port_reads, module_reads, module_flat}
 use Rattle.gen_text.proofs.Depth.{int_depth, each_depth, params_depth, port_depth, items_depth, module_depth}
 use Rattle.gen_text.proofs.OnlyExprs.{mark_only, key_only, not_next, next_is, name_only, less_one, int_only}
 use Rattle.gen_text.proofs.OnlyItems.{within_each, params_only, NoItem, item_not, items_until_only}
@@ -43,7 +43,7 @@ unfolding module_at
 module_only m room [] rest le h = absurd h.0
 module_only m zero (t ∷ ts) rest le h = absurd (omega arith)
 module_only m (suc room) (t ∷ ts) rest le (ln, (t1, w, (t2, x, (t3, ps, (t4, o, (t5, qs, (t6, is, c))))))) =
-    rw (w.0, w.1, ln, name_only m.name t1 t2 x, params_only m.params (suc room) t2 t3 (omega arith) ps (not_next (is_mark mark.LeftParen) (Sign mark.LeftBrace) t3 t4 refl o), mark_only mark.LeftBrace t3 t4 o, less_one room,
+    rw (w.0, w.1, ln, name_only m.name t1 t2 x, module_flat (suc room) m.line m.name t2, params_only m.params (suc room) t2 t3 (omega arith) ps (not_next (is_mark mark.LeftParen) (Sign mark.LeftBrace) t3 t4 refl o), mark_only mark.LeftBrace t3 t4 o, less_one room,
       each_only m.ports (suc (length t4)) begins_port (λ p ts rest. SpellsPort p ts rest × (port_depth p ≤ room)) (port_at room) t4 t5 (port_only room) (items_no_port m.items t5 t6 rest is c) (omega arith) (within_each SpellsPort port_depth room m.ports t4 t5 (omega arith) qs),
       items_until_only m.items room t5 t6 rest (omega arith) is c) refl
 

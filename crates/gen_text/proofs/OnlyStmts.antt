@@ -12,7 +12,7 @@ use Rattle.gen_text.specs.Reading.{Read, ◌>>=◌, seen, behind, begins, rest_o
 use Rattle.gen_text.proofs.Machine.{key, sign, a_stmt}
 use Rattle.gen_text.proofs.Lists.{until_only, takes}
 use Rattle.gen_text.proofs.StmtsRead.{stmt_reads}
-use Rattle.gen_text.proofs.Loops.{Shortens}
+use Rattle.gen_text.proofs.Loops.{Shortens, Bodies}
 use Rattle.gen_text.proofs.Depth.{int_depth, index_depth, expr_depth, stmt_depth, stmts_depth, else_depth}
 use Rattle.gen_text.proofs.OnlyExprs.{mark_only, key_only, not_next, next_is, name_only, less_one, cmp_only, int_only, fam_rest_only, fam_only, source_expr_only}
 
@@ -26,6 +26,9 @@ stmt_shorter clocked room s ts rest e = takes mode.Source room _ (SpellsStmt clo
 
 pub stmts_shorten : (clocked : Bool) (room : ℕ) → Shortens (stmt_at clocked room)
 stmts_shorten clocked room = record { shortens = λ ts s rest e. stmt_shorter clocked room s ts rest e }
+
+pub stmts_bodies : (clocked : Bool) → Bodies stmts (stmt_at clocked) (inner_stmts clocked)
+stmts_bodies clocked = record { bodies = λ room ts. refl; shorten = stmts_shorten clocked }
 
 -- ---- heads
 

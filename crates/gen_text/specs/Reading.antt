@@ -392,13 +392,16 @@ more_param_at room ts = mark_at mark.Comma ts >>= λ t. param_at room t
 abbrev pub begins_param : List Tok → Bool
 begins_param ts = begins (is_mark mark.Comma) ts
 
+-- one parameter or more
+abbrev pub param_list_at : ℕ → List Tok → Read (List Param)
+param_list_at room ts = param_at room ts >>= λ p. seen (λ more. p.0 ∷ more) (each_at begins_param (more_param_at room) p.1)
+
 abbrev pub params_in_at : ℕ → List Tok → Read (List Param)
 params_in_at room ts = do
   t1 ← open_at mark.LeftParen room ts
-  p ← param_at (room - 1) t1
-  more ← each_at begins_param (more_param_at (room - 1)) p.1
-  rest ← mark_at mark.RightParen more.1
-  Ok (p.0 ∷ more.0, rest)
+  ps ← param_list_at (room - 1) t1
+  rest ← mark_at mark.RightParen ps.1
+  Ok (ps.0, rest)
 
 abbrev pub params_at : ℕ → List Tok → Read (List Param)
 params_at room ts = cond (begins (is_mark mark.LeftParen) ts) (params_in_at room ts) (Ok ([], ts))
@@ -518,14 +521,23 @@ port_at room (t ∷ ts) = port_by room (port_form t.word) t.line ts
 abbrev pub begins_port : List Tok → Bool
 begins_port ts = begins (λ w. is_some (port_form w)) ts
 
+-- a brace, and ports behind it
+abbrev pub ports_at : ℕ → List Tok → Read (List Port)
+ports_at room ts = open_at mark.LeftBrace room ts >>= λ t. each_at begins_port (port_at (room - 1)) t
+
+-- ports and items in braces
+abbrev pub content_at : ℕ → List Tok → Read (List Port × Items)
+content_at room ts = do
+  ports ← ports_at room ts
+  body ← items_until (item_at (room - 1)) ports.1
+  Ok ((ports.0, body.0), body.1)
+
 -- behind the module's name
 abbrev pub module_body_at : ℕ → ℕ → List ℕ → List Tok → Read Module
 module_body_at room line x ts = do
   params ← params_at room ts
-  t1 ← open_at mark.LeftBrace room params.1
-  ports ← each_at begins_port (port_at (room - 1)) t1
-  body ← items_until (item_at (room - 1)) ports.1
-  Ok (record { line = line; name = x; params = params.0; ports = ports.0; items = body.0 }, body.1)
+  content ← content_at room params.1
+  Ok (record { line = line; name = x; params = params.0; ports = content.0.0; items = content.0.1 }, content.1)
 
 abbrev pub module_rest_at : ℕ → ℕ → List Tok → Read Module
 module_rest_at room line ts = name_at ts >>= λ x. module_body_at room line x.0 x.1

@@ -1,6 +1,6 @@
-ghost use Rattle.std.specs.Prelude.{◌≡◌, option_map, ◌-◌};
+ghost use Rattle.std.specs.Prelude.{◌≡◌};
 ghost use Rattle.gen_token.specs.Words.{placed, word_of};
-ghost use Rattle.gen_tree.specs.View.{int_of, fam_of, lit_of, expr_of};
+ghost use Rattle.gen_tree.specs.View.{fam_of, lit_of, expr_of};
 ghost use Rattle.gen_text.specs.Faults.{Gives, with_rest};
 ghost use Rattle.gen_text.specs.Forms.{op_form};
 ghost use Rattle.gen_text.specs.Reading as list;

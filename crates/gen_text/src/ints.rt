@@ -1,4 +1,4 @@
-ghost use Rattle.std.specs.Prelude.{◌≡◌, option_map, ◌-◌};
+ghost use Rattle.std.specs.Prelude.{◌≡◌, option_map};
 ghost use Rattle.gen_token.specs.Words.{placed, word_of};
 ghost use Rattle.gen_tree.specs.View.{int_of, fam_of};
 ghost use Rattle.gen_text.specs.Faults.{Gives, with_rest};

@@ -4,6 +4,10 @@
 mod exprs;
 mod fault;
 mod ints;
+mod items;
+mod members;
+mod modules;
+mod stmts;
 mod words;
 
 pub use fault::TextFault;
