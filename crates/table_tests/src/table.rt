@@ -275,11 +275,11 @@ fn finds_places(table: &Table) -> bool {
 fn slots_and_instances_are_found(rt: HostRuntime) -> Result<(), Fail> {
     let table = table(rt.alloc())?.ok_or("no table")?;
     assert!(rt; finds_places(&table));
-    assert_eq!(rt; table.instance_named(b"T"), Some(0));
-    assert_eq!(rt; table.instance_named(b"T.a"), Some(1));
-    assert_eq!(rt; table.instance_named(b"T.b"), Some(2));
-    assert_eq!(rt; table.instance_named(b"T."), None);
-    assert_eq!(rt; table.instance_named(b""), None);
+    assert_eq!(rt; table.instance_named("T"), Some(0));
+    assert_eq!(rt; table.instance_named("T.a"), Some(1));
+    assert_eq!(rt; table.instance_named("T.b"), Some(2));
+    assert_eq!(rt; table.instance_named("T."), None);
+    assert_eq!(rt; table.instance_named(""), None);
     Ok(())
 }
 
@@ -288,8 +288,8 @@ fn has(table: &Table, k: u32, instance: u32, on: Ref, x: Option<Binding>) -> boo
     k < table.slots()
         && table.instances_of(k).contains(&instance)
         && table.enable(k, instance) == on
-        && table.binding(k, instance, b"x") == x
-        && table.binding(k, instance, b"y").is_none()
+        && table.binding(k, instance, "x") == x
+        && table.binding(k, instance, "y").is_none()
 }
 
 #[test]
