@@ -174,7 +174,7 @@ one_trail files row a b r s =
     let form : is_form r.tree ≡ true = form_of row.top r.source r.tree r.design in
     let fits = read_fits r.tree r.ports r.stimulus r.rows r.are r.read in
     let same : trail_text (design_of r.tree) r.run ≡ trail_text (design_of r.tree) s.run =
-        sym (is_trail r.tree r.rows r.run form fits r.gives) ∙ is_trail r.tree r.rows s.run form fits gives in
+    sym (is_trail r.tree r.rows r.run form fits r.gives) ∙ is_trail r.tree r.rows s.run form fits gives in
     let other : trail_text (design_of s.tree) s.run ≡ trail_text (design_of r.tree) s.run = ap (λ (t : Module). trail_text (design_of t) s.run) tree in
     r.is ∙ (ap (λ (t : List ℕ). record { status = 0; text = t }) (same ∙ sym other) ∙ sym s.is)
 

@@ -110,11 +110,7 @@ fn judge_source<F: Files>(
 
 /// The stimulus that a text is for these ports, or why it is refused.
 #[tactic(auto, using(crate::proofs::Judging::refused_for))]
-fn stimulus_of(
-    alloc: Global,
-    text: &[u8],
-    ports: &Ports,
-) -> Result<Result<Stim, StimFault>, Stop>
+fn stimulus_of(alloc: Global, text: &[u8], ports: &Ports) -> Result<Result<Stim, StimFault>, Stop>
     ensures rows { IfOk result (JudgesText text.now ports.now) }
     ensures whole { IfOk result (IsWhole ports.now) }
     ensures no_read { IsErrOf result Stop.ReadFault → ⊥ }

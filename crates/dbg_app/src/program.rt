@@ -142,9 +142,9 @@ fn fault_line(alloc: Global, fault: StimFault) -> Result<String, NoMemory>
     match fault {
         StimFault::HeaderMismatch => Ok(format!(in alloc; "stimulus fault 1 HeaderMismatch\n")?),
         StimFault::BadRow { row } => Ok(format!(in alloc; "stimulus fault 2 BadRow row {row}\n")?),
-        StimFault::DoesNotFit { row, column } => Ok(
-            format!(in alloc; "stimulus fault 3 DoesNotFit row {row} column {column}\n")?,
-        ),
+        StimFault::DoesNotFit { row, column } => Ok(format!(in alloc;
+            "stimulus fault 3 DoesNotFit row {row} column {column}\n"
+        )?),
         StimFault::TooLong => Ok(format!(in alloc; "stimulus fault 4 TooLong\n")?),
         StimFault::NoMemory => Err(NoMemory),
     }

@@ -1,5 +1,5 @@
 -- Rows that a stimulus is read as fit the inputs.
-use Rattle.std.proofs.Common.{◌≡◌, ℕ, ◌+◌, Bool, true, false, ◌&&◌, List, [], ◌∷◌, map, Option, Some, None, Result, Ok, Err, refl, sym, ◌∙◌, ap, subst, length, nat_le, if◌then◌else◌}
+use Rattle.std.proofs.Common.{◌≡◌, ℕ, ◌+◌, Bool, true, false, List, [], ◌∷◌, map, Option, Some, None, Result, Ok, Err, refl, ◌∙◌, ap, subst, length, nat_le, if◌then◌else◌}
 use Rattle.std.specs.List.{zip, position_from}
 use Rattle.std.specs.Str.Lines.{lines}
 use Rattle.bv_core.specs.Value.{Bits}

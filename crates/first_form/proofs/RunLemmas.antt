@@ -1,12 +1,8 @@
 -- Rows that were read fit the inputs, and some run has them.
-use Rattle.std.proofs.Common.{◌≡◌, ℕ, ◌^◌, Bool, true, false, ◌&&◌, not, List, [], ◌∷◌, length, Option, Some, None, Result, Ok, Err, Vec, IfOk, refl, sym, ◌∙◌, ap, subst, nat_lt, nat_le, if◌then◌else◌}
+use Rattle.std.proofs.Common.{◌≡◌, ℕ, Bool, true, false, not, List, [], ◌∷◌, Option, Some, None, refl, sym, subst, if◌then◌else◌}
 use Rattle.std.specs.Prelude.{filter, map}
 use Rattle.std.specs.List.{list_all}
 use Rattle.std.specs.Str.{bytes_eq}
-use Rattle.std.specs.Str.Lines.{lines}
-use Rattle.std.specs.declared.alloc.Global.{Global}
-use Rattle.std.proofs.lemmas.Result.{IfOk-weaker}
-use Rattle.text_core.specs.Digits.{is_digit, number_of}
 use Rattle.bv_core.specs.Value.{Bits}
 use Rattle.gen_text.specs.declared.Module.{Module}
 use Rattle.gen_text.specs.declared.Statement.{Statement}
@@ -14,7 +10,7 @@ use Rattle.design_core.specs.declared.Ports.{Ports}
 use Rattle.design_core.specs.Trail.{Place}
 use Rattle.design_core.specs.TrailText.{trail_text}
 use Rattle.first_form.specs.declared.signal.Signal.{Signal}
-use Rattle.first_form.specs.Form.{signals_of, block_of, statements_of, is_width, is_named, are_different, literal_of, are_fitting, are_driven, is_form_of, is_form}
+use Rattle.first_form.specs.Form.{signals_of, block_of, statements_of, is_width, is_named, are_different, are_fitting, are_driven, is_form_of, is_form}
 use Rattle.first_form.specs.Ports.{inputs_of, named_input, ArePortsOf}
 use Rattle.stim_text.specs.Stimulus.{Stimulus, IsStimulus}
 use Rattle.std.specs.List.{AllByRecursion}
@@ -22,7 +18,7 @@ use Rattle.std.proofs.lemmas.List.Elements.{recursion_from_All}
 use Rattle.first_form.specs.Elaborated.{design_of}
 use Rattle.first_form.specs.CellText.{form_text}
 use Rattle.first_form.specs.Runs.{FitsInputs, AllFitInputs, GivesRow, GivesRows, HasRun, EachRuns}
-use Rattle.first_form.proofs.Tests.{and_true, or_false, not_true, if_some, itself, flipped}
+use Rattle.first_form.proofs.Tests.{and_true, or_false, not_true, itself, flipped}
 use Rattle.first_form.proofs.Names.{are_found, are_assigned}
 use Rattle.first_form.proofs.Walk.{Accepted, rows_walk}
 

@@ -1,12 +1,12 @@
 -- The widths of ports.
-use Rattle.std.proofs.Common.{◌≡◌, ℕ, Bool, true, false, ◌&&◌, List, [], ◌∷◌, ◌++◌, map, refl, ◌∙◌}
+use Rattle.std.proofs.Common.{◌≡◌, Bool, true, false, ◌&&◌, List, [], ◌∷◌, ◌++◌, map, refl}
 use Rattle.std.specs.Prelude.{filter}
 use Rattle.std.specs.List.{list_all}
 use Rattle.gen_text.specs.declared.Module.{Module}
 use Rattle.gen_text.specs.declared.Port.{Port}
 use Rattle.design_core.specs.Ports.{has_width}
 use Rattle.first_form.specs.declared.signal.Signal.{Signal}
-use Rattle.first_form.specs.Form.{is_width, port_signal, is_form, signals_of, item_signals}
+use Rattle.first_form.specs.Form.{is_width, port_signal, is_form, signals_of}
 use Rattle.first_form.specs.Ports.{inputs_of, outputs_of, named_input, named_output}
 use Rattle.first_form.proofs.Tests.{and_true}
 use Rattle.first_form.proofs.RunLemmas.{signals_wide}

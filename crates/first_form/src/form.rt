@@ -15,9 +15,9 @@ ghost use Rattle.first_form.specs.Runs.{GivesRows, EachRuns};
 
 use crate::cells::cells_of;
 use crate::check::is_form_of;
+use crate::ports::{inputs_of, outputs_of};
 use crate::signal::signals_of;
 use crate::trail::write_rows;
-use crate::ports::{inputs_of, outputs_of};
 use crate::{Signal, TrailEnd};
 use design_core::Ports;
 use gen_text::{Item, Module, Statement};
@@ -106,12 +106,7 @@ impl FirstForm {
     }
 
     /// Writes the lines of the program's cells over these rows.
-    fn write_cells<S: Sink>(
-        &self,
-        alloc: Global,
-        stim: &Stim,
-        out: &mut S,
-    ) -> Result<(), TrailEnd>
+    fn write_cells<S: Sink>(&self, alloc: Global, stim: &Stim, out: &mut S) -> Result<(), TrailEnd>
         ensures form { is_form self.now ≡ true }
         ensures kept { IsStimulus stim.now }
         ensures ok { OnOk result (Appends (S.taken out.old) (S.taken out.new) (form_text self.now stim.now.rows)) }

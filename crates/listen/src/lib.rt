@@ -4,10 +4,12 @@
 #![tactic(auto)]
 
 mod hits;
+mod laws;
 mod listener;
 mod note;
 mod tally;
 
 pub use hits::{CycleHits, LineHits};
+pub use laws::counts_the_sample;
 pub use listener::Listener;
 pub use note::StopNote;

@@ -169,12 +169,12 @@ impl Table {
     }
 
     /// The instance that has this path. None where no instance has it.
-    pub fn instance_named(&self, path: &[u8]) -> Option<u32>
+    pub fn instance_named(&self, path: &str) -> Option<u32>
         ensures instance { result ≡ position (bytes_eq path.now) (paths_of self.now.instances) }
         ensures named { IfSome result (λ instance. slice_get (paths_of self.now.instances) instance ≡ Some path.now) }
         ensures there { IsSome result ↔ Contains (paths_of self.now.instances) path.now }
     {
-        let place = self.paths.place_of(path)?;
+        let place = self.paths.place_of(path.as_bytes())?;
         Some(place as u32)
     }
 
@@ -201,13 +201,13 @@ impl Table {
     }
 
     /// What a name stands for at a slot, for an instance of its variant. None where the name is not in scope there.
-    pub fn binding(&self, k: u32, instance: u32, name: &[u8]) -> Option<Binding>
+    pub fn binding(&self, k: u32, instance: u32, name: &str) -> Option<Binding>
         requires { Contains (instances_of self.now k) instance }
         ensures binding { result ≡ binding_of self.now k instance name.now }
         ensures cell { IfSome result (IsCell self.now.nodes) }
         ensures scope { IsSome result ↔ IsInScope self.now k name.now }
     {
-        let place = self.names[k as usize].place_of(name)?;
+        let place = self.names[k as usize].place_of(name.as_bytes())?;
         Some(self.row(k, instance).cells.items()[place])
     }
 }

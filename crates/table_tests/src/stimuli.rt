@@ -11,10 +11,7 @@ use stim_text::{Stim, StimFault, read_stim};
 use text_core::{Listed, NoMemory, Text};
 
 /// These names with their widths. None where a width is not 1 to 128.
-fn inputs_of(
-    alloc: Global,
-    names: &[(&str, u8)],
-) -> Result<Option<Listed<(Text, u8)>>, NoMemory>
+fn inputs_of(alloc: Global, names: &[(&str, u8)]) -> Result<Option<Listed<(Text, u8)>>, NoMemory>
     ensures { IfOk result (λ found. IfSome found (λ inputs. IsTrue (list_all has_width inputs))) }
 {
     let mut inputs = Vec::new(alloc);
@@ -53,13 +50,22 @@ static ACCEPTED: [(&[u8], &[(u128, u128)]); 9] = [
     (b"en d\r\n1 5\r\n0 9\r\n", &[(1, 5), (0, 9)]),
     (b"en d\n1 5", &[(1, 5)]),
     (b"en d\n0x1 0xAb\n0x0 0xfF\n", &[(1, 171), (0, 255)]),
-    (b"en d\n0001 0000000000000000000000000000000000000000000000255\n", &[(1, 255)]),
-    (b"en d\n1 0x0000000000000000000000000000000000000000000000ff\n", &[(1, 255)]),
+    (
+        b"en d\n0001 0000000000000000000000000000000000000000000000255\n",
+        &[(1, 255)],
+    ),
+    (
+        b"en d\n1 0x0000000000000000000000000000000000000000000000ff\n",
+        &[(1, 255)],
+    ),
 ];
 
 /// Stimuli that are refused, and why.
 static REFUSED: [(&[u8], StimFault); 36] = [
-    (b"en d\n1 256\n", StimFault::DoesNotFit { row: 0, column: 1 }),
+    (
+        b"en d\n1 256\n",
+        StimFault::DoesNotFit { row: 0, column: 1 },
+    ),
     (b"en d\n1\n", StimFault::BadRow { row: 0 }),
     (b"d en\n", StimFault::HeaderMismatch),
     (b"", StimFault::HeaderMismatch),
@@ -86,15 +92,30 @@ static REFUSED: [(&[u8], StimFault); 36] = [
     (b"en d\n00x1 1\n", StimFault::BadRow { row: 0 }),
     (b"en d\n1 5 6\n", StimFault::BadRow { row: 0 }),
     (b"en d\n1 \xff\n", StimFault::BadRow { row: 0 }),
-    (b"en d\n2 256\n", StimFault::DoesNotFit { row: 0, column: 0 }),
+    (
+        b"en d\n2 256\n",
+        StimFault::DoesNotFit { row: 0, column: 0 },
+    ),
     (b"en d\n2 z\n", StimFault::BadRow { row: 0 }),
     (b"en d\n2\n", StimFault::BadRow { row: 0 }),
     (b"en d\n2 3 4\n", StimFault::BadRow { row: 0 }),
-    (b"en d\n2 3\nz z\n", StimFault::DoesNotFit { row: 0, column: 0 }),
+    (
+        b"en d\n2 3\nz z\n",
+        StimFault::DoesNotFit { row: 0, column: 0 },
+    ),
     (b"en d\n1 z\n2 3\n", StimFault::BadRow { row: 0 }),
-    (b"en d\n1 1\n0 0\n1 300\nz\n", StimFault::DoesNotFit { row: 2, column: 1 }),
-    (b"en d\n1 0x100\n", StimFault::DoesNotFit { row: 0, column: 1 }),
-    (b"en d\n1 340282366920938463463374607431768211456\n", StimFault::DoesNotFit { row: 0, column: 1 }),
+    (
+        b"en d\n1 1\n0 0\n1 300\nz\n",
+        StimFault::DoesNotFit { row: 2, column: 1 },
+    ),
+    (
+        b"en d\n1 0x100\n",
+        StimFault::DoesNotFit { row: 0, column: 1 },
+    ),
+    (
+        b"en d\n1 340282366920938463463374607431768211456\n",
+        StimFault::DoesNotFit { row: 0, column: 1 },
+    ),
 ];
 
 /// Whether a stimulus has these rows of two values.
@@ -115,7 +136,10 @@ fn stimuli_have_their_rows_or_their_refusals(rt: HostRuntime) -> Result<(), Fail
     }
     for (i, (text, fault)) in REFUSED.iter().enumerate() {
         let refused = read_stim(rt.alloc(), text, &ports);
-        assert!(rt; matches!(refused, Err(other) if other == *fault), "refused {i}");
+        assert!(rt;
+            matches!(refused, Err(other) if other == *fault),
+            "refused {i}"
+        );
     }
     Ok(())
 }

@@ -3,7 +3,9 @@
 use bv_core::{Binding, Bv, NodeId, Ref};
 use std::alloc::Global;
 use std::test::Fail;
-use symtab::{GenVariable, InstanceParts, NodeName, Row, Slot, Table, TableEnd, TableParts, VariantParts};
+use symtab::{
+    GenVariable, InstanceParts, NodeName, Row, Slot, Table, TableEnd, TableParts, VariantParts,
+};
 use text_core::{Listed, NoMemory, Text};
 
 /// A change of the parts.
@@ -68,21 +70,33 @@ fn text(alloc: Global, bytes: &str) -> Result<Text, NoMemory> {
 }
 
 fn node(alloc: Global, name: &str, width: u8) -> Result<NodeName, NoMemory> {
-    Ok(NodeName { name: text(alloc, name)?, width })
+    Ok(NodeName {
+        name: text(alloc, name)?,
+        width,
+    })
 }
 
 fn instance(alloc: Global, path: &str, variant: u32) -> Result<InstanceParts, NoMemory> {
-    Ok(InstanceParts { path: text(alloc, path)?, variant })
+    Ok(InstanceParts {
+        path: text(alloc, path)?,
+        variant,
+    })
 }
 
 fn variant(alloc: Global, module: &str, number: Option<i64>) -> Result<VariantParts, NoMemory> {
-    Ok(VariantParts { module: text(alloc, module)?, gens: gens(alloc, number)? })
+    Ok(VariantParts {
+        module: text(alloc, module)?,
+        gens: gens(alloc, number)?,
+    })
 }
 
 fn gens(alloc: Global, number: Option<i64>) -> Result<Listed<GenVariable>, NoMemory> {
     let mut all = Vec::new(alloc);
     if let Some(value) = number {
-        all.push(GenVariable { name: text(alloc, "I")?, value })?;
+        all.push(GenVariable {
+            name: text(alloc, "I")?,
+            value,
+        })?;
     }
     Ok(Listed::new(all))
 }
@@ -105,7 +119,10 @@ fn row(alloc: Global, on: Ref, cells: &[Binding]) -> Result<Row, NoMemory> {
     for cell in cells {
         all.push(*cell)?;
     }
-    Ok(Row { on, cells: Listed::new(all) })
+    Ok(Row {
+        on,
+        cells: Listed::new(all),
+    })
 }
 
 /// What the name `x` stands for in the table: node 0.
@@ -241,7 +258,11 @@ fn slots(alloc: Global, change: Change) -> Result<Listed<Slot>, NoMemory> {
 
 /// The parts of a table with two slots: the first has two instances, the second one. One change may break a rule.
 fn parts(alloc: Global, change: Change) -> Result<TableParts, NoMemory> {
-    let top = if change == Change::TopOfOtherInstance { "T.a" } else { "T" };
+    let top = if change == Change::TopOfOtherInstance {
+        "T.a"
+    } else {
+        "T"
+    };
     Ok(TableParts {
         top: text(alloc, top)?,
         nodes: nodes(alloc, change)?,
@@ -275,11 +296,11 @@ fn finds_places(table: &Table) -> bool {
 fn slots_and_instances_are_found(rt: HostRuntime) -> Result<(), Fail> {
     let table = table(rt.alloc())?.ok_or("no table")?;
     assert!(rt; finds_places(&table));
-    assert_eq!(rt; table.instance_named(b"T"), Some(0));
-    assert_eq!(rt; table.instance_named(b"T.a"), Some(1));
-    assert_eq!(rt; table.instance_named(b"T.b"), Some(2));
-    assert_eq!(rt; table.instance_named(b"T."), None);
-    assert_eq!(rt; table.instance_named(b""), None);
+    assert_eq!(rt; table.instance_named("T"), Some(0));
+    assert_eq!(rt; table.instance_named("T.a"), Some(1));
+    assert_eq!(rt; table.instance_named("T.b"), Some(2));
+    assert_eq!(rt; table.instance_named("T."), None);
+    assert_eq!(rt; table.instance_named(""), None);
     Ok(())
 }
 
@@ -288,8 +309,8 @@ fn has(table: &Table, k: u32, instance: u32, on: Ref, x: Option<Binding>) -> boo
     k < table.slots()
         && table.instances_of(k).contains(&instance)
         && table.enable(k, instance) == on
-        && table.binding(k, instance, b"x") == x
-        && table.binding(k, instance, b"y").is_none()
+        && table.binding(k, instance, "x") == x
+        && table.binding(k, instance, "y").is_none()
 }
 
 #[test]

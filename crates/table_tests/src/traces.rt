@@ -17,8 +17,11 @@ fn sample(width: u8, number: Option<u128>) -> Sample {
 }
 
 /// The trace's samples: of 8 bits and of 1 bit, cycle by cycle.
-static SAMPLES: [(Option<u128>, Option<u128>); 3] =
-    [(Some(7), Some(0)), (None, Some(1)), (Some(9), None)];
+static SAMPLES: [(Option<u128>, Option<u128>); 3] = [
+    (Some(7), Some(0)),
+    (None, Some(1)),
+    (Some(9), None),
+];
 
 /// The trace.
 fn trace(alloc: Global) -> Result<Option<FakeTrace>, AllocError> {
@@ -49,7 +52,10 @@ fn a_trace_has_its_samples_and_a_seek_beyond_leaves_the_cursor(
     let mut trace = trace(rt.alloc())?.ok_or("no trace")?;
     assert!(rt; trace.cycles() == 3 && trace.nodes() == 2);
     for (cycle, (number, bit)) in SAMPLES.iter().enumerate() {
-        assert!(rt; has(&mut trace, cycle as u64, *number, *bit), "cycle {cycle}");
+        assert!(rt;
+            has(&mut trace, cycle as u64, *number, *bit),
+            "cycle {cycle}"
+        );
     }
     assert!(rt; has(&mut trace, 0, Some(7), Some(0)));
     assert!(rt; trace.seek(3) == Seek::OutOfRange && trace.seek(u64::MAX) == Seek::OutOfRange);

@@ -4,9 +4,11 @@
 #![tactic(auto)]
 
 mod fake;
+mod laws;
 mod scan;
 mod trace;
 
 pub use fake::FakeTrace;
+pub use laws::fits_the_sample;
 pub use scan::{Scanned, Seek, Want, Way};
 pub use trace::Trace;

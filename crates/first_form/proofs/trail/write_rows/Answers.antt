@@ -1,7 +1,7 @@
-use Rattle.std.proofs.Common.{refl, ap, arith, ◌∙◌}
+use Rattle.std.proofs.Common.{refl, arith}
 use Rattle.std.proofs.lemmas.Result.{err_from_is_err_and}
 use Rattle.io_edge.proofs.Growth.{less_left, front_left}
-use Rattle.first_form.specs.Cells.{started, all_after}
+use Rattle.first_form.specs.Cells.{all_after}
 use Rattle.first_form.proofs.LineLemmas.{next_row}
 use Rattle.first_form.proofs.trail.write_rows.Goals as goal
 
