@@ -20,7 +20,11 @@ pub struct Conn {
 #[derive(Debug, Drop)]
 pub enum Item {
     /// `wire name: width;`
-    Wire { line: u32, name: Fam, width: Int },
+    Wire {
+        line: u32,
+        name: Fam,
+        width: Int,
+    },
     /// `reg name: width = start;`
     Reg {
         line: u32,
@@ -37,9 +41,15 @@ pub enum Item {
         conns: Vec<Conn>,
     },
     /// `comb { body }`
-    Comb { line: u32, body: Vec<Stmt> },
+    Comb {
+        line: u32,
+        body: Vec<Stmt>,
+    },
     /// `ff { body }`
-    Ff { line: u32, body: Vec<Stmt> },
+    Ff {
+        line: u32,
+        body: Vec<Stmt>,
+    },
     /// `for var in from..to { body }`
     For {
         line: u32,

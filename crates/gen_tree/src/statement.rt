@@ -11,7 +11,11 @@ pub enum Stmt {
         value: Expr,
     },
     /// `let name = value;`
-    Let { line: u32, name: Fam, value: Expr },
+    Let {
+        line: u32,
+        name: Fam,
+        value: Expr,
+    },
     /// `if test { yes } else { no }`; None: no `else` stands there
     If {
         line: u32,
