@@ -1,3 +1,4 @@
+pub mod Answers
 pub mod Completions
 pub mod Depth
 pub mod ExprsRead

@@ -7,7 +7,9 @@ mod ints;
 mod items;
 mod members;
 mod modules;
+mod source;
 mod stmts;
 mod words;
 
 pub use fault::TextFault;
+pub use source::{one_answer, read_source};
