@@ -1,0 +1,3 @@
+mod Binds
+mod WordLemmas
+mod Wholes

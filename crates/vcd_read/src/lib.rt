@@ -1,0 +1,9 @@
+//! Reads a value change dump file, the trace that logic simulators write (IEEE Std 1364-2005, section 18.2).
+#![tactic(auto)]
+
+mod fault;
+mod variable;
+mod words;
+
+pub use fault::VcdFault;
+pub use variable::VcdVar;
