@@ -1,3 +1,4 @@
 mod Binds
 mod WordLemmas
+mod CodeLemmas
 mod Wholes
