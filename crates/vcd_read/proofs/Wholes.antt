@@ -84,7 +84,7 @@ opened_law state words =
             ∙ through (end_at name.1) (λ rest. Ok (opened name.0, rest)) go (λ rest. on (in_head state (opened name.0)) rest) (λ rest. refl)))
 
 size_law : (counted : Bool) (state : State) (words : List Word) → told_by (VarSize counted) state words ≡ (size_at words >>= λ found. told_by (VarCode counted found.0) state found.1)
-unfolding size_at
+unfolding size_at word_at
 size_law counted state [] = refl
 size_law counted state (word ∷ words) =
     let read : Result (ℕ × List Word) VcdFault = Ok (number_of 10 word.bytes, words) in

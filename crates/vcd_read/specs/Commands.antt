@@ -30,8 +30,9 @@ behind_end (word ∷ words) = if is_end word then Ok words else behind_end words
 
 -- the size of a variable
 unfoldable pub size_at : List Word → Result (ℕ × List Word) VcdFault
-size_at [] = Err CutShort
-size_at (word ∷ words) = if is_size word.bytes then Ok (number_of 10 word.bytes, words) else Err (BadWord word.at)
+size_at words = do
+  word ← word_at words
+  if is_size word.0.bytes then Ok (number_of 10 word.0.bytes, word.1) else Err (BadWord word.0.at)
 
 -- the number of a code, and all codes
 unfoldable pub code_at : ℕ → List Code → List Word → Result ((ℕ × List Code) × List Word) VcdFault

@@ -3,6 +3,8 @@
 
 mod codes;
 mod fault;
+mod head;
+mod numbers;
 mod variable;
 mod words;
 

@@ -1,0 +1,155 @@
+ghost use Rattle.std.specs.Prelude.{◌≡◌, ◌≤◌, ◌<◌, ◌==◌, length, OnOk, IfOk, not};
+ghost use Rattle.vcd_read.specs.Commands.{size_at, code_at, opened_at, closed_at, variable_at, command_at};
+ghost use Rattle.vcd_read.specs.Head.{no_head, scope_of, path_in, with_scope, without_scope, is_counted, without_backslash, name_of, with_var};
+ghost use Rattle.std.specs.List.{position_or_len};
+ghost use Rattle.vcd_read.specs.Results.{Gives, Leads};
+ghost use Rattle.vcd_read.specs.Seen.{word_of};
+
+use crate::codes::Codes;
+use crate::numbers::size_of;
+use crate::words::{Word, Words};
+use crate::{VcdFault, VcdVar};
+use std::alloc::Global;
+use std::marker::Model;
+use text_core::{NoMemory, Text};
+
+/// What the head of a text has told so far.
+#[derive(Drop)]
+pub(crate) struct Head {
+    /// The paths of the scopes that are open, the innermost last.
+    nest: Vec<Text>,
+    /// The paths of all scopes that were opened.
+    pub scopes: Vec<Text>,
+    pub vars: Vec<VcdVar>,
+    pub codes: Codes,
+}
+
+impl Model for Head {
+    ghost use Rattle.vcd_read.specs.Head.{Head as Told};
+
+    ghost Value = { Told };
+
+    ghost view = { λ h. record { nest = h.nest.items; scopes = h.scopes.items; vars = h.vars.items; codes = h.codes } };
+}
+
+/// The path of a scope of this name in another.
+fn path_in(alloc: Global, scope: &[u8], name: &[u8]) -> Result<Vec<u8>, NoMemory>
+    ensures { IfOk result (λ path. path.items ≡ path_in scope.now name.now) }
+{
+    let mut path = scope.to_vec(alloc)?;
+    if !scope.is_empty() {
+        path.push(b'.')?;
+    }
+    path.extend_from_slice(name)?;
+    Ok(path)
+}
+
+/// Whether the values of variables of this type are bits.
+fn is_counted(kind: &[u8]) -> bool
+    ensures { result ≡ is_counted kind.now }
+{
+    kind != b"real".as_slice() && kind != b"string".as_slice()
+}
+
+/// How many bytes stand before the first bracket, or in all where there is none.
+fn bracket_len(reference: &[u8]) -> usize
+    ensures len { result ≡ position_or_len (λ byte. byte == 91) reference.now }
+    ensures within { result ≤ length reference.now }
+{
+    reference.iter().take_while(|byte| **byte != b'[').count()
+}
+
+/// A name without the one backslash in front, if it has one.
+fn without_backslash(name: &[u8]) -> &[u8]
+    ensures { result.now ≡ without_backslash name.now }
+{
+    let [byte, rest @ ..] = name else {
+        return name;
+    };
+    if *byte == b'\\' { rest } else { name }
+}
+
+/// The name that a reference has, without an index behind it or a backslash in front.
+fn name_of(reference: &[u8]) -> &[u8]
+    ensures { result.now ≡ name_of reference.now }
+{
+    let (name, _) = reference.split_at(bracket_len(reference));
+    without_backslash(name)
+}
+
+/// The size of a variable.
+#[tactic(auto, unfolding(crate::specs::Commands::size_at))]
+fn size_at(words: &mut Words<'_>) -> Result<u32, VcdFault>
+    ensures size { Gives (λ size. (size, words.new)) result (size_at words.old) }
+    ensures fewer { IfOk result (λ _. length words.new < length words.old) }
+{
+    let word = words.word()?;
+    let Some(size) = size_of(word.bytes) else {
+        return Err(word.bad());
+    };
+    Ok(size)
+}
+
+impl Head {
+    /// A head that has told nothing.
+    fn new(alloc: Global) -> Head
+        ensures { result ≡ no_head }
+    {
+        Head {
+            nest: Vec::new(alloc),
+            scopes: Vec::new(alloc),
+            vars: Vec::new(alloc),
+            codes: Codes::new(alloc),
+        }
+    }
+
+    /// The path of the innermost scope that is open; empty outside every scope.
+    fn scope(&self) -> &[u8]
+        ensures { result.now ≡ scope_of self.now.nest }
+    {
+        match self.nest.last() {
+            Some(path) => path.bytes(),
+            None => b"",
+        }
+    }
+
+    /// Opens a scope of this name.
+    fn push_scope(&mut self, alloc: Global, name: &[u8]) -> Result<(), NoMemory>
+        ensures { OnOk result (self.new ≡ with_scope self.old name.now) }
+    {
+        let path = path_in(alloc, self.scope(), name)?;
+        self.scopes.push(Text::new(alloc, &path)?)?;
+        self.nest.push(Text::new(alloc, &path)?)?;
+        Ok(())
+    }
+
+    /// Closes the innermost scope.
+    fn pop_scope(&mut self)
+        ensures { self.new ≡ without_scope self.old }
+    {
+        let _ = self.nest.pop();
+    }
+
+    /// Declares a variable in the innermost scope.
+    fn push_var(
+        &mut self,
+        alloc: Global,
+        counted: bool,
+        size: u32,
+        code: u32,
+        reference: &[u8],
+    ) -> Result<(), NoMemory>
+        ensures { OnOk result (self.new ≡ with_var counted size code reference.now self.old) }
+    {
+        let scope = Text::new(alloc, self.scope())?;
+        let name = Text::new(alloc, name_of(reference))?;
+        self.vars.push(VcdVar {
+            scope,
+            name,
+            code,
+            size,
+            counted,
+        })?;
+        Ok(())
+    }
+}
