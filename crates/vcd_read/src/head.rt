@@ -152,4 +152,57 @@ impl Head {
         })?;
         Ok(())
     }
+
+    /// The number of a code of this size, which is declared with it.
+    #[tactic(auto, unfolding(crate::specs::Commands::code_at))]
+    fn code(&mut self, alloc: Global, size: u32, words: &mut Words<'_>) -> Result<u32, VcdFault>
+        ensures code { Gives (λ code. ((code, self.new.codes), words.new)) result (code_at size self.old.codes words.old) }
+        ensures others { OnOk result (self.new ≡ record self.old { codes = self.new.codes }) }
+        ensures fewer { OnOk result (length words.new < length words.old) }
+    {
+        let word = words.word()?;
+        self.codes.declare(alloc, &word, size)
+    }
+
+    /// Reads a scope that is opened.
+    #[tactic(auto, unfolding(crate::specs::Commands::opened_at))]
+    fn open(&mut self, alloc: Global, words: &mut Words<'_>) -> Result<(), VcdFault>
+        ensures head { Gives (λ _. (self.new, words.new)) result (opened_at self.old words.old) }
+        ensures fewer { OnOk result (length words.new < length words.old) }
+    {
+        words.plain()?;
+        let name = words.plain()?;
+        words.end()?;
+        self.push_scope(alloc, name.bytes)?;
+        Ok(())
+    }
+
+    /// Reads the end of a command that this word begins, and which closes the innermost scope.
+    #[tactic(auto, unfolding(crate::specs::Commands::closed_at))]
+    fn close(&mut self, word: &Word<'_>, words: &mut Words<'_>) -> Result<(), VcdFault>
+        ensures head { Gives (λ _. (self.new, words.new)) result (closed_at self.old (word_of word.now) words.old) }
+        ensures fewer { OnOk result (length words.new < length words.old) }
+    {
+        if self.nest.is_empty() {
+            return Err(word.bad());
+        }
+        words.end()?;
+        self.pop_scope();
+        Ok(())
+    }
+
+    /// Reads a variable.
+    #[tactic(auto, unfolding(crate::specs::Commands::variable_at))]
+    fn variable(&mut self, alloc: Global, words: &mut Words<'_>) -> Result<(), VcdFault>
+        ensures head { Gives (λ _. (self.new, words.new)) result (variable_at self.old words.old) }
+        ensures fewer { OnOk result (length words.new < length words.old) }
+    {
+        let kind = words.plain()?;
+        let size = size_at(words)?;
+        let code = self.code(alloc, size, words)?;
+        let reference = words.plain()?;
+        words.pass_to_end()?;
+        self.push_var(alloc, is_counted(kind.bytes), size, code, reference.bytes)?;
+        Ok(())
+    }
 }
