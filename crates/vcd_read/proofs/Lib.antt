@@ -1,4 +1,5 @@
 mod Binds
 mod WordLemmas
 mod CodeLemmas
+mod Leading
 mod Wholes

@@ -1,7 +1,7 @@
 -- Answers that may be a fault.
 use Rattle.std.specs.Prelude.{◌≡◌, Result, Ok, Err}
 use Rattle.vcd_read.specs.declared.fault.VcdFault.{VcdFault}
-use Rattle.vcd_read.specs.declared.fault.VcdFault.TheVariants.{TooLong, BadWord, CutShort, UnknownCode, TooWide, TimeBack, NoEndDefinitions, NoMemory}
+use Rattle.vcd_read.specs.declared.fault.VcdFault.TheVariants.{NoMemory}
 
 infixl 10 ◌>>=◌
 
@@ -10,17 +10,15 @@ abbrev pub ◌>>=◌ : {A B : Type 0} → Result A VcdFault → (A → Result B 
 (Ok x) >>= f = f x
 (Err fault) >>= f = Err fault
 
--- what was returned leads to what is said: the rest of it, for what was returned; or the fault; unless memory ran out
+-- this fault is what is said, unless memory ran out
+abbrev pub Fails : {Y : Type 0} → VcdFault → Result Y VcdFault → Type 0
+Fails NoMemory said = Unit {0}
+Fails fault said = said ≡ Err fault
+
+-- what was returned leads to what is said: that follows from it, or it is the fault, unless memory ran out
 abbrev pub Leads : {X Y : Type 0} → (X → Result Y VcdFault) → Result X VcdFault → Result Y VcdFault → Type 0
-Leads rest (Ok x) said = said ≡ rest x
-Leads rest (Err NoMemory) said = Unit {0}
-Leads rest (Err TooLong) said = said ≡ Err TooLong
-Leads rest (Err (BadWord offset)) said = said ≡ Err (BadWord offset)
-Leads rest (Err CutShort) said = said ≡ Err CutShort
-Leads rest (Err (UnknownCode offset)) said = said ≡ Err (UnknownCode offset)
-Leads rest (Err (TooWide offset digits size)) said = said ≡ Err (TooWide offset digits size)
-Leads rest (Err (TimeBack offset old new)) said = said ≡ Err (TimeBack offset old new)
-Leads rest (Err NoEndDefinitions) said = said ≡ Err NoEndDefinitions
+Leads follows (Ok x) said = said ≡ follows x
+Leads follows (Err fault) said = Fails fault said
 
 -- what was returned, seen by view, is what is said, unless memory ran out
 abbrev pub Gives : {X Y : Type 0} → (X → Y) → Result X VcdFault → Result Y VcdFault → Type 0

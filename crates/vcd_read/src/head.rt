@@ -2,6 +2,8 @@ ghost use Rattle.std.specs.Prelude.{◌≡◌, ◌≤◌, ◌<◌, ◌==◌, len
 ghost use Rattle.vcd_read.specs.Commands.{size_at, code_at, opened_at, closed_at, variable_at, command_at};
 ghost use Rattle.vcd_read.specs.Head.{no_head, scope_of, path_in, with_scope, without_scope, is_counted, without_backslash, name_of, with_var};
 ghost use Rattle.std.specs.List.{position_or_len};
+ghost use Rattle.vcd_read.specs.Changes.{no_story};
+ghost use Rattle.vcd_read.specs.Meaning.{told_by, InHead, InChanges};
 ghost use Rattle.vcd_read.specs.Results.{Gives, Leads};
 ghost use Rattle.vcd_read.specs.Seen.{word_of};
 
@@ -205,4 +207,45 @@ impl Head {
         self.push_var(alloc, is_counted(kind.bytes), size, code, reference.bytes)?;
         Ok(())
     }
+
+    /// Reads a command other than `$enddefinitions`, which this word begins.
+    #[tactic(auto, unfolding(crate::specs::Commands::command_at))]
+    fn command(
+        &mut self,
+        alloc: Global,
+        word: &Word<'_>,
+        words: &mut Words<'_>,
+    ) -> Result<(), VcdFault>
+        ensures head { Gives (λ _. (self.new, words.new)) result (command_at self.old (word_of word.now) words.old) }
+        ensures fewer { OnOk result (length words.new < length words.old) }
+    {
+        if word.is(b"$scope") {
+            return self.open(alloc, words);
+        }
+        if word.is(b"$upscope") {
+            return self.close(word, words);
+        }
+        if word.is(b"$var") {
+            return self.variable(alloc, words);
+        }
+        if !word.begins_with(b'$') || word.is_end() {
+            return Err(word.bad());
+        }
+        words.pass_to_end()
+    }
+}
+
+/// Reads the head of a text, up to the `$end` of its `$enddefinitions`.
+pub(crate) fn read_head(alloc: Global, words: &mut Words<'_>) -> Result<Head, VcdFault>
+    ensures { Leads (λ head. told_by InChanges (record { head = head; story = no_story }) words.new) result (told_by InHead (record { head = no_head; story = no_story }) words.old) }
+{
+    let mut head = Head::new(alloc);
+    while let Some(word) = words.next_word() {
+        if word.is(b"$enddefinitions") {
+            words.end()?;
+            return Ok(head);
+        }
+        head.command(alloc, &word, words)?;
+    }
+    Err(VcdFault::NoEndDefinitions)
 }

@@ -3,7 +3,7 @@ ghost use Rattle.std.specs.List.{prefix_len, position_or_len};
 ghost use Rattle.vcd_read.specs.declared.fault.VcdFault.TheVariants.{BadWord};
 ghost use Rattle.vcd_read.specs.Commands.{word_at, plain_at, end_at, behind_end};
 ghost use Rattle.vcd_read.specs.Results.{Gives};
-ghost use Rattle.vcd_read.specs.Words.{is_blank, is_end, is_keyword, words_of};
+ghost use Rattle.vcd_read.specs.Words.{is_blank, is_end, is_keyword, begins_with, words_of};
 ghost use Rattle.vcd_read.specs.Seen.{word_of};
 
 use crate::VcdFault;
@@ -24,6 +24,16 @@ impl Word<'_> {
         ensures { result ≡ is_keyword keyword.now (word_of self.now) }
     {
         self.bytes == keyword
+    }
+
+    /// Whether its first byte is this one.
+    pub(crate) fn begins_with(&self, byte: u8) -> bool
+        ensures { result ≡ begins_with byte (word_of self.now).bytes }
+    {
+        match self.bytes {
+            [first, ..] => *first == byte,
+            [] => false,
+        }
     }
 
     /// Whether it is the keyword that ends a command.
