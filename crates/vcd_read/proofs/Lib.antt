@@ -2,4 +2,5 @@ mod Binds
 mod WordLemmas
 mod CodeLemmas
 mod Leading
+mod Rows
 mod Wholes

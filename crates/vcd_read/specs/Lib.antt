@@ -1,4 +1,5 @@
 pub mod Changes
+pub mod Columns
 pub mod Commands
 pub mod Head
 pub mod Kept

@@ -1,4 +1,4 @@
-ghost use Rattle.std.specs.Prelude.{◌≡◌, ◌∷◌, ◌≤◌, ◌<◌, [], length, MatchOption, IfOk};
+ghost use Rattle.std.specs.Prelude.{◌≡◌, ◌∷◌, ◌≤◌, ◌<◌, [], length, MatchOption, IfOk, IfSome};
 ghost use Rattle.std.specs.List.{prefix_len, position_or_len};
 ghost use Rattle.vcd_read.specs.declared.fault.VcdFault.TheVariants.{BadWord};
 ghost use Rattle.vcd_read.specs.Commands.{word_at, plain_at, end_at, behind_end};
@@ -104,7 +104,8 @@ impl<'a> Words<'a> {
     /// The next word; none where only blanks are left.
     #[tactic(auto, using(crate::proofs::WordLemmas::first_word, crate::proofs::WordLemmas::no_word))]
     pub(crate) fn next_word(&mut self) -> Option<Word<'a>>
-        ensures { MatchOption result ((self.old ≡ []) × (self.new ≡ [])) (λ word. self.old ≡ word_of word ∷ self.new) }
+        ensures word { MatchOption result ((self.old ≡ []) × (self.new ≡ [])) (λ word. self.old ≡ word_of word ∷ self.new) }
+        ensures place { IfSome result (λ word. word.at ≤ 67108864) }
     {
         let blanks = blanks_len(self.rest);
         let (_, text) = self.rest.split_at(blanks);
