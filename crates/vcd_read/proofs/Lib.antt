@@ -3,4 +3,6 @@ mod WordLemmas
 mod CodeLemmas
 mod Leading
 mod Rows
+mod States
+mod Keeping
 mod Wholes
