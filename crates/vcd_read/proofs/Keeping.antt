@@ -12,11 +12,12 @@ use Rattle.vcd_read.specs.declared.fault.VcdFault.{VcdFault}
 use Rattle.vcd_read.specs.declared.fault.VcdFault.TheVariants.{BadWord, TooWide, TimeBack}
 use Rattle.vcd_read.specs.declared.variable.VcdVar.{VcdVar}
 use Rattle.vcd_read.specs.Results.{◌>>=◌}
-use Rattle.vcd_read.specs.Words.{Word, is_keyword, is_end, begins_with, has_bytes}
-use Rattle.vcd_read.specs.Head.{Head, Code, known, numbered, with_code, with_var, with_scope, without_scope, is_code_byte, is_counted, is_size, name_of, scope_of}
-use Rattle.vcd_read.specs.Changes.{Change, Story, are_digits, is_value, is_time, with_time, timed, with_change, changed, is_dump, is_vector, is_passed}
+use Rattle.vcd_read.specs.Words.{Word, words_of, is_keyword, is_end, begins_with, has_bytes}
+use Rattle.vcd_read.specs.Head.{Head, no_head, Code, known, numbered, with_code, with_var, with_scope, without_scope, is_code_byte, is_counted, is_size, name_of, scope_of}
+use Rattle.vcd_read.specs.Changes.{Change, Story, no_story, are_digits, is_value, is_time, with_time, timed, with_change, changed, is_dump, is_vector, is_passed}
 use Rattle.vcd_read.specs.Meaning.{Meaning, State, Place, Step, InHead, ScopeType, ScopeName, CommandEnd, VarType, VarSize, VarCode, VarReference, PassedCommand, HeadEnd, InChanges, Comment, VectorCode, PassedCode, unless_end, if_end, step, ended, told_by, told, change, command}
 use Rattle.vcd_read.specs.Kept.{is_change_of, IsVcd}
+use Rattle.vcd_read.proofs.WordLemmas.{length-words_from}
 use Rattle.vcd_read.proofs.States.{sizes_of, HasSize, is_named, IsChange, IsStory, some_there, more_sizes, last_size, known_has, story-push, story-time, story-code, any_more}
 
 -- each code is one of a variable
@@ -245,3 +246,14 @@ pub words_kept : (place : Place) (state : State) (words : List Word) (m : Meanin
 words_kept place state [] m h few e = ended_kept place state m h (omega arith) e
 words_kept place state (word ∷ words) m h few e =
     next_kept state words m (step place state word) (step_ok place state word h) few (λ next after. words_kept next after words m) e
+
+start_holds : Holds InHead (record { head = no_head; story = no_story })
+start_holds = record {
+  sized = All-nil (λ var. HasSize [] var.code var.size);
+  story = record { each = All-nil (IsChange []); past = All-nil (λ change. change.time ≤ 0); rising = λ i j d order within. absurd (omega (arith, within)) };
+  here = λ number within. absurd (omega (arith, within));
+}
+
+-- what a text tells has what is kept
+pub text_kept : (text : List ℕ) (m : Meaning) → length text ≤ 67108864 → told_by InHead (record { head = no_head; story = no_story }) (words_of text) ≡ Ok m → IsVcd m
+text_kept text m few e = words_kept InHead (record { head = no_head; story = no_story }) (words_of text) m start_holds (omega (arith, length-words_from false 0 text)) e

@@ -1,14 +1,17 @@
 ghost use Rattle.std.specs.Prelude.{◌≡◌, ◌≤◌, ◌<◌, ◌+◌, ◌∷◌, [], length, OnOk};
 ghost use Rattle.std.specs.List.{list_all};
-ghost use Rattle.vcd_read.specs.Changes.{is_value, are_digits, is_vector, is_passed, is_dump};
+ghost use Rattle.vcd_read.specs.Changes.{no_story, is_value, are_digits, is_vector, is_passed, is_dump};
 ghost use Rattle.vcd_read.specs.Commands.{vector_at, change_at};
-ghost use Rattle.vcd_read.specs.Results.{Gives};
+ghost use Rattle.vcd_read.specs.Meaning.{told_by, ended, InChanges};
+ghost use Rattle.vcd_read.specs.Results.{Gives, Leads};
 ghost use Rattle.vcd_read.specs.Seen.{word_of};
 
 use crate::VcdFault;
 use crate::changes::Changes;
 use crate::codes::Codes;
+use crate::head::Head;
 use crate::words::{Word, Words};
+use std::alloc::Global;
 
 /// Whether a byte is a value character.
 fn is_value(byte: u8) -> bool
@@ -109,4 +112,20 @@ fn change(
         return Ok(());
     }
     Err(word.bad())
+}
+
+/// Reads all changes of a text of so many bytes, behind its head.
+pub(crate) fn read_changes(
+    alloc: Global,
+    head: &Head,
+    words: &mut Words<'_>,
+    bytes: usize,
+) -> Result<Changes, VcdFault>
+    ensures { Leads (λ changes. ended InChanges (record { head = head.now; story = changes })) result (told_by InChanges (record { head = head.now; story = no_story }) words.old) }
+{
+    let mut changes = Changes::new(alloc, bytes)?;
+    while let Some(word) = words.next_word() {
+        change(&head.codes, &mut changes, &word, words)?;
+    }
+    Ok(changes)
 }

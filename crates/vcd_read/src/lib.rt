@@ -7,8 +7,12 @@ mod codes;
 mod fault;
 mod head;
 mod numbers;
+mod read;
 mod variable;
+mod vcd;
 mod words;
 
 pub use fault::VcdFault;
+pub use read::read_vcd;
 pub use variable::VcdVar;
+pub use vcd::Vcd;
