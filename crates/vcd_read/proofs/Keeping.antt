@@ -1,7 +1,7 @@
 -- What a text tells has what is kept of it.
-use Rattle.std.proofs.Common.{◌≡◌, ℕ, zero, suc, ◌+◌, ◌-◌, ◌<◌, ◌≤◌, Bool, true, false, cond, not, List, [], ◌∷◌, ◌++◌, Option, Some, None, Result, Ok, Err, length, get_or, refl, ap, sym, ◌∙◌, arith, length-append, inl, inr, ◌⊎◌, true≢false}
-use Rattle.std.specs.Prelude.{All, map, slice_get, nat_eq, nat_le, nat_lt, bytes_eq, codes, IfOk, ◌==◌, ◌&&◌, ◌||◌, if◌then◌else◌}
-use Rattle.std.specs.List.{list_any, list_all, AllPass}
+use Rattle.std.proofs.Common.{◌≡◌, ℕ, suc, ◌+◌, ◌<◌, ◌≤◌, Bool, true, false, cond, not, List, [], ◌∷◌, ◌++◌, Option, Some, None, Result, Ok, Err, length, get_or, refl, ap, sym, ◌∙◌, arith, length-append, inl, inr, ◌⊎◌, true≢false}
+use Rattle.std.specs.Prelude.{All, slice_get, nat_le, nat_lt, codes, IfOk, ◌==◌, ◌&&◌, ◌||◌}
+use Rattle.std.specs.List.{list_any, list_all}
 use Rattle.std.proofs.lemmas.Bool.{cases_lt}
 use Rattle.std.proofs.lemmas.Bool.Decides.{nat_tests}
 use Rattle.std.proofs.lemmas.List.{length-map}
@@ -13,9 +13,9 @@ use Rattle.vcd_read.specs.declared.fault.VcdFault.TheVariants.{BadWord, TooWide,
 use Rattle.vcd_read.specs.declared.variable.VcdVar.{VcdVar}
 use Rattle.vcd_read.specs.Results.{◌>>=◌}
 use Rattle.vcd_read.specs.Words.{Word, words_of, is_keyword, is_end, begins_with, has_bytes}
-use Rattle.vcd_read.specs.Head.{Head, no_head, Code, known, numbered, with_code, with_var, with_scope, without_scope, is_code_byte, is_counted, is_size, name_of, scope_of}
+use Rattle.vcd_read.specs.Head.{Head, no_head, Code, known, numbered, with_var, is_code_byte, is_counted, is_size, name_of, scope_of}
 use Rattle.vcd_read.specs.Changes.{Change, Story, no_story, are_digits, is_value, is_time, with_time, timed, with_change, changed, is_dump, is_vector, is_passed}
-use Rattle.vcd_read.specs.Meaning.{Meaning, State, Place, Step, InHead, ScopeType, ScopeName, CommandEnd, VarType, VarSize, VarCode, VarReference, PassedCommand, HeadEnd, InChanges, Comment, VectorCode, PassedCode, unless_end, if_end, step, ended, told_by, told, change, command}
+use Rattle.vcd_read.specs.Meaning.{Meaning, State, Place, Step, InHead, ScopeType, ScopeName, CommandEnd, VarType, VarSize, VarCode, VarReference, PassedCommand, HeadEnd, InChanges, Comment, VectorCode, PassedCode, step, ended, told_by, told, change, command}
 use Rattle.vcd_read.specs.Kept.{is_change_of, IsVcd}
 use Rattle.vcd_read.proofs.WordLemmas.{length-words_from}
 use Rattle.vcd_read.proofs.States.{sizes_of, HasSize, is_named, IsChange, IsStory, some_there, more_sizes, last_size, known_has, story-push, story-time, story-code, any_more}
@@ -89,10 +89,10 @@ change_ok state word (first ∷ rest) h =
     let known = state.head.codes in
     if_ok state (first == 35) _ _ (λ e. told_ok InChanges state (timed state.story word rest) h h.here (timed_by known state.story word rest (is_time rest) h.story))
     (λ e. if_ok state (is_value first && has_bytes rest) _ _
-      (λ e. told_ok InChanges state (changed known state.story word.at (first ∷ []) (word.at + 1) rest) h h.here
-        (changed_by known state.story word.at (first ∷ []) (word.at + 1) rest _ refl h.story (one_digit first (both (is_value first) (has_bytes rest) e).0)))
+    (λ e. told_ok InChanges state (changed known state.story word.at (first ∷ []) (word.at + 1) rest) h h.here
+    (changed_by known state.story word.at (first ∷ []) (word.at + 1) rest _ refl h.story (one_digit first (both (is_value first) (has_bytes rest) e).0)))
     (λ e. if_ok state (is_vector first && are_digits rest) _ _
-      (λ e. same InChanges (VectorCode word.at rest) state h ((both (is_vector first) (are_digits rest) e).1, h.here))
+    (λ e. same InChanges (VectorCode word.at rest) state h ((both (is_vector first) (are_digits rest) e).1, h.here))
     (λ e. if_ok state (is_passed first) _ _ (λ e. same InChanges PassedCode state h h.here)
     (λ e. if_ok state (is_keyword (codes "$comment") word) _ _ (λ e. same InChanges Comment state h h.here)
     (λ e. if_ok state (is_dump word) _ _ (λ e. same InChanges InChanges state h h.here) (λ e. tt))))))
@@ -102,7 +102,7 @@ command_ok state word h =
     if_ok state (is_keyword (codes "$enddefinitions") word) _ _ (λ e. same InHead HeadEnd state h h.here)
     (λ e. if_ok state (is_keyword (codes "$scope") word) _ _ (λ e. same InHead ScopeType state h h.here)
     (λ e. if_ok state (is_keyword (codes "$upscope") word) _ _
-      (λ e. if_ok state (nat_le 1 (length state.head.nest)) _ _ (λ e. (record { sized = h.sized; story = h.story; here = h.here }, omega arith)) (λ e. tt))
+    (λ e. if_ok state (nat_le 1 (length state.head.nest)) _ _ (λ e. (record { sized = h.sized; story = h.story; here = h.here }, omega arith)) (λ e. tt))
     (λ e. if_ok state (is_keyword (codes "$var") word) _ _ (λ e. same InHead VarType state h h.here)
     (λ e. if_ok state (begins_with 36 word.bytes && not (is_end word)) _ _ (λ e. same InHead PassedCommand state h h.here) (λ e. tt)))))
 
@@ -124,12 +124,14 @@ code_by : (counted : Bool) (size : ℕ) (state : State) (word : Word) (found : O
     → IfOk (numbered size word state.head.codes found >>= referenced counted size state) (Follows state)
 code_by counted size state word None e h =
     let old = state.head.codes in
-    let code : Code = (word.bytes, size) in
-    (record {
-      sized = All-weaker (λ var. HasSize old var.code var.size) (λ var. HasSize (old ++ code ∷ []) var.code var.size) (λ var has. more_sizes old code var.code var.size has) state.head.vars h.sized;
-      story = story-code old code state.story h.story;
-      here = (last_size old code, λ n within. elim (cases_lt n (length old)) [ inl before ↦ inl (h.here n before) | inr last ↦ inr (omega (arith, length-append old (code ∷ []))) ]);
-    }, omega arith)
+    let code : Code = (word.bytes, size) in (
+      record {
+        sized = All-weaker (λ var. HasSize old var.code var.size) (λ var. HasSize (old ++ code ∷ []) var.code var.size) (λ var has. more_sizes old code var.code var.size has) state.head.vars h.sized;
+        story = story-code old code state.story h.story;
+        here = (last_size old code, λ n within. elim (cases_lt n (length old)) [ inl before ↦ inl (h.here n before) | inr last ↦ inr (omega (arith, length-append old (code ∷ []))) ]);
+      },
+      omega arith,
+    )
 code_by counted size state word (Some (number, have)) e h = same_by counted size state word number have (have == size) refl (known_has word.bytes state.head.codes number have e) h
 
 code_ok : (counted : Bool) (size : ℕ) (state : State) (word : Word) (b : Bool) → Holds (VarCode counted size) state
@@ -147,9 +149,9 @@ name_by vars var number (inr is) =
     let last : (var.code == number) ≡ true = rw is (eq_self var.code) in
     list_any-append (λ (var : VcdVar). var.code == number) vars (var ∷ []) ∙ rw last (or_true (is_named vars number))
   where
-  or_true : (b : Bool) → (b || true) ≡ true
-  or_true true = refl
-  or_true false = refl
+    or_true : (b : Bool) → (b || true) ≡ true
+    or_true true = refl
+    or_true false = refl
 
 var_holds : (counted : Bool) (size code : ℕ) (state : State) (word : Word) → Holds (VarReference counted size code) state
     → Holds PassedCommand (record state { head = with_var counted size code word.bytes state.head })
@@ -174,35 +176,35 @@ step_ok (VarCode counted size) state word h = code_ok counted size state word (l
 step_ok (VarReference counted size code) state word h = if_ok state (is_end word) _ _ (λ e. tt) (λ e. (var_holds counted size code state word h, omega arith))
 step_ok PassedCommand state word h = passed_by state (is_end word) h
   where
-  passed_by : (state : State) (b : Bool) → Holds PassedCommand state → Follows state (cond b InHead PassedCommand, state)
-  passed_by state true h = same PassedCommand InHead state h h.here
-  passed_by state false h = same PassedCommand PassedCommand state h h.here
+    passed_by : (state : State) (b : Bool) → Holds PassedCommand state → Follows state (cond b InHead PassedCommand, state)
+    passed_by state true h = same PassedCommand InHead state h h.here
+    passed_by state false h = same PassedCommand PassedCommand state h h.here
 step_ok HeadEnd state word h = if_ok state (is_end word) _ _ (λ e. same HeadEnd InChanges state h h.here) (λ e. tt)
 step_ok InChanges state word h = change_ok state word word.bytes h
 step_ok Comment state word h = comment_by state (is_end word) h
   where
-  comment_by : (state : State) (b : Bool) → Holds Comment state → Follows state (cond b InChanges Comment, state)
-  comment_by state true h = same Comment InChanges state h h.here
-  comment_by state false h = same Comment Comment state h h.here
+    comment_by : (state : State) (b : Bool) → Holds Comment state → Follows state (cond b InChanges Comment, state)
+    comment_by state true h = same Comment InChanges state h h.here
+    comment_by state false h = same Comment Comment state h h.here
 step_ok (VectorCode at digits) state word h =
     told_ok (VectorCode at digits) state (changed state.head.codes state.story at digits word.at word.bytes) h h.here.1
-      (changed_by state.head.codes state.story at digits word.at word.bytes _ refl h.story h.here.0)
+    (changed_by state.head.codes state.story at digits word.at word.bytes _ refl h.story h.here.0)
 step_ok PassedCode state word h = same PassedCode InChanges state h h.here
 
 declared_one : (state : State) (change : Change) → Holds InChanges state → IsChange state.head.codes change → list_any (is_change_of change) state.head.vars ≡ true
 declared_one state change h one =
     let within : change.code < length state.head.codes = omega (arith, some_there (sizes_of state.head.codes) change.code one.size one.has, length-map state.head.codes (λ code. code.1)) in
     any_more (λ var. var.code == change.code) (is_change_of change) state.head.vars
-      (λ k d inside e. change_by (get_or state.head.vars k d) (h.sized k d inside) e)
-      (h.here change.code within)
+    (λ k d inside e. change_by (get_or state.head.vars k d) (h.sized k d inside) e)
+    (h.here change.code within)
   where
-  change_by : (var : VcdVar) → HasSize state.head.codes var.code var.size → (var.code == change.code) ≡ true → is_change_of change var ≡ true
-  change_by var has e =
-    let is : var.code ≡ change.code = grind (arith, nat_tests) in
-    let sizes : Some var.size ≡ Some one.size = sym has ∙ ap (slice_get (sizes_of state.head.codes)) is ∙ one.has in
-    let size : var.size ≡ one.size = cc in
-    let fits : nat_le (length change.digits) var.size ≡ true = grind (arith, nat_tests, one.most) in
-    rw (e, one.digits, fits) refl
+    change_by : (var : VcdVar) → HasSize state.head.codes var.code var.size → (var.code == change.code) ≡ true → is_change_of change var ≡ true
+    change_by var has e =
+        let is : var.code ≡ change.code = grind (arith, nat_tests) in
+        let sizes : Some var.size ≡ Some one.size = sym has ∙ ap (slice_get (sizes_of state.head.codes)) is ∙ one.has in
+        let size : var.size ≡ one.size = cc in
+        let fits : nat_le (length change.digits) var.size ≡ true = grind (arith, nat_tests, one.most) in
+        rw (e, one.digits, fits) refl
 
 state_kept : (state : State) → Holds InChanges state → length state.story.changes ≤ 67108864
     → IsVcd (record { scopes = state.head.scopes; vars = state.head.vars; changes = state.story.changes })
@@ -210,10 +212,10 @@ state_kept state h few = record {
   few = few;
   rising = h.story.rising;
   sizes = λ k d within i e inside is.
-    let one = h.sized k d within in
-    let other = h.sized i e inside in
-    let sizes : Some (get_or state.head.vars k d).size ≡ Some (get_or state.head.vars i e).size = sym one ∙ ap (slice_get (sizes_of state.head.codes)) is ∙ other in
-    cc;
+      let one = h.sized k d within in
+      let other = h.sized i e inside in
+      let sizes : Some (get_or state.head.vars k d).size ≡ Some (get_or state.head.vars i e).size = sym one ∙ ap (slice_get (sizes_of state.head.codes)) is ∙ other in
+      cc;
   declared = λ k d within. declared_one state (get_or state.story.changes k d) h (h.story.each k d within);
 }
 

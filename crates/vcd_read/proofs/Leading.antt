@@ -1,5 +1,5 @@
 -- Where a reader's answer leads.
-use Rattle.std.proofs.Common.{◌≡◌, Result, Ok, Err, ap, ◌∙◌}
+use Rattle.std.proofs.Common.{◌≡◌, Result, ap, ◌∙◌}
 use Rattle.vcd_read.specs.declared.fault.VcdFault.{VcdFault}
 use Rattle.vcd_read.specs.declared.fault.VcdFault.TheVariants.{NoMemory}
 use Rattle.vcd_read.specs.Results.{◌>>=◌, Fails}

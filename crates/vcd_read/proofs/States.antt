@@ -1,19 +1,14 @@
 -- What holds of all that was told so far.
-use Rattle.std.proofs.Common.{◌≡◌, ℕ, zero, suc, ◌+◌, ◌-◌, ◌<◌, ◌≤◌, Bool, true, false, cond, not, List, [], ◌∷◌, ◌++◌, Option, Some, None, Result, Ok, Err, length, take, drop, get_or, refl, ap, sym, ◌∙◌, arith, length-append, inl, inr, ◌⊎◌}
-use Rattle.std.specs.Prelude.{All, map, slice_get, nat_eq, nat_le, nat_lt, bytes_eq, ◌==◌, ◌&&◌, ◌||◌, if◌then◌else◌}
-use Rattle.std.specs.List.{list_any, list_all, AllPass}
+use Rattle.std.proofs.Common.{◌≡◌, ℕ, zero, suc, ◌+◌, ◌<◌, ◌≤◌, Bool, true, false, cond, List, [], ◌∷◌, ◌++◌, Option, Some, None, length, get_or, refl, ap, sym, ◌∙◌, arith, length-append, inl, inr, ◌⊎◌}
+use Rattle.std.specs.Prelude.{All, map, slice_get, bytes_eq, ◌==◌, ◌||◌}
+use Rattle.std.specs.List.{list_any}
 use Rattle.std.specs.List.Sorted.{IsNonDecreasingBy}
 use Rattle.std.proofs.lemmas.Bool.{cases_lt}
-use Rattle.std.proofs.lemmas.Bool.Decides.{nat_tests}
 use Rattle.std.proofs.lemmas.List.{length-map, map-append, get_or_append_left, get_or-append-add}
 use Rattle.std.proofs.lemmas.List.Elements.{All-cons, All-nil, All-head, All-tail, All-append, All-weaker}
-use Rattle.std.proofs.lemmas.List.Folds.{list_any-append}
-use Rattle.vcd_read.specs.declared.fault.VcdFault.{VcdFault}
 use Rattle.vcd_read.specs.declared.variable.VcdVar.{VcdVar}
-use Rattle.vcd_read.specs.Head.{Head, Code, known, known_from, numbered}
-use Rattle.vcd_read.specs.Words.{Word}
+use Rattle.vcd_read.specs.Head.{Code, known, known_from}
 use Rattle.vcd_read.specs.Changes.{Change, Story, are_digits}
-use Rattle.vcd_read.specs.Kept.{is_change_of}
 
 -- the sizes of codes, by number
 abbrev pub sizes_of : List Code → List ℕ
@@ -64,13 +59,22 @@ last_size codes code =
     ap (λ sizes. slice_get sizes (length codes)) (map-append (λ (code : Code). code.1) codes (code ∷ []))
     ∙ ap (slice_get (sizes_of codes ++ code.1 ∷ [])) (sym (length-map codes (λ code. code.1))) ∙ slice_get-end (sizes_of codes) code.1
 
+unpaired : ℕ × ℕ → Option (ℕ × ℕ) → ℕ × ℕ
+unpaired other (Some pair) = pair
+unpaired other None = other
+
+some_parts : (x y : ℕ × ℕ) → Some x ≡ Some y → (x.0 ≡ y.0) × (x.1 ≡ y.1)
+unfolding unpaired
+some_parts x y e =
+    let same : x ≡ y = ap (unpaired x) e in
+    (ap (λ (pair : ℕ × ℕ). pair.0) same, ap (λ (pair : ℕ × ℕ). pair.1) same)
+
 known_step : (n : ℕ) (bytes : List ℕ) (code : Code) (codes : List Code) (number size : ℕ) (b : Bool)
     → ((m : ℕ) → known_from (n + 1) bytes codes ≡ Some (m, size) → (i : ℕ) × (m ≡ n + 1 + i) × HasSize codes i size)
     → cond b (Some (n, code.1)) (known_from (n + 1) bytes codes) ≡ Some (number, size) → (i : ℕ) × (number ≡ n + i) × HasSize (code ∷ codes) i size
 known_step n bytes code others number size true more e =
-    let pair : (n, code.1) ≡ (number, size) = cc in
-    let same : n ≡ number = ap (λ (p : ℕ × ℕ). p.0) pair in
-    (0, omega arith, ap (λ (p : ℕ × ℕ). Some p.1) pair)
+    let parts = some_parts (n, code.1) (number, size) e in
+    (0, omega (arith, parts.0), ap Some parts.1)
 known_step n bytes code others number size false more e =
     let found = more number e in
     (suc found.0, omega (arith, found.1), found.2)
@@ -96,11 +100,12 @@ rising_by f xs x i j d rising past order within (inr last) =
     let at : j ≡ length xs + 0 = omega (arith, length-append xs (x ∷ [])) in
     let is : get_or (xs ++ x ∷ []) j d ≡ x = ap (λ k. get_or (xs ++ x ∷ []) k d) at ∙ get_or-append-add xs (x ∷ []) 0 d in
     rw is (elim (cases_lt i (length xs)) [
-      inl before ↦ rw (get_or_append_left xs (x ∷ []) d i before) (past i d before)
-    | inr same ↦
-        let here : i ≡ length xs + 0 = omega (arith, length-append xs (x ∷ [])) in
-        let self : get_or (xs ++ x ∷ []) i d ≡ x = ap (λ k. get_or (xs ++ x ∷ []) k d) here ∙ get_or-append-add xs (x ∷ []) 0 d in
-        rw self (omega arith) ])
+      | inl before ↦ rw (get_or_append_left xs (x ∷ []) d i before) (past i d before)
+      | inr same ↦
+          let here : i ≡ length xs + 0 = omega (arith, length-append xs (x ∷ [])) in
+          let self : get_or (xs ++ x ∷ []) i d ≡ x = ap (λ k. get_or (xs ++ x ∷ []) k d) here ∙ get_or-append-add xs (x ∷ []) 0 d in
+          rw self (omega arith)
+    ])
 
 -- one more that is no smaller
 pub rising-push : {X : Type 0} (f : X → ℕ) (xs : List X) (x : X) → IsNonDecreasingBy f xs → All (λ y. f y ≤ f x) xs → IsNonDecreasingBy f (xs ++ x ∷ [])
@@ -140,8 +145,8 @@ pub any_more : {X : Type 0} (p q : X → Bool) (xs : List X) → All (λ x. p x 
 any_more p q [] all e = e
 any_more p q (x ∷ xs) all e = any_by p q x xs (p x) (q x) refl (All-head (λ x. p x ≡ true → q x ≡ true) x xs all) (any_more p q xs (All-tail (λ x. p x ≡ true → q x ≡ true) x xs all)) e
   where
-  any_by : {X : Type 0} (p q : X → Bool) (x : X) (xs : List X) (b d : Bool) → p x ≡ b → (p x ≡ true → d ≡ true) → (list_any p xs ≡ true → list_any q xs ≡ true)
-      → (b || list_any p xs) ≡ true → (d || list_any q xs) ≡ true
-  any_by p q x xs true d is one more e = rw (one is) refl
-  any_by p q x xs false true is one more e = refl
-  any_by p q x xs false false is one more e = more e
+    any_by : {X : Type 0} (p q : X → Bool) (x : X) (xs : List X) (b d : Bool) → p x ≡ b → (p x ≡ true → d ≡ true) → (list_any p xs ≡ true → list_any q xs ≡ true)
+        → (b || list_any p xs) ≡ true → (d || list_any q xs) ≡ true
+    any_by p q x xs true d is one more e = rw (one is) refl
+    any_by p q x xs false true is one more e = refl
+    any_by p q x xs false false is one more e = more e

@@ -1,5 +1,5 @@
 -- A command or a change as a whole tells what its words tell one by one.
-use Rattle.std.proofs.Common.{◌≡◌, ℕ, ◌+◌, Bool, true, false, cond, List, [], ◌∷◌, Option, Some, None, Result, Ok, Err, refl, ap, sym, ◌∙◌}
+use Rattle.std.proofs.Common.{◌≡◌, ℕ, ◌+◌, Bool, true, false, cond, List, [], ◌∷◌, Result, Ok, Err, refl, ap, sym, ◌∙◌}
 use Rattle.std.specs.Prelude.{not, length, codes, nat_le, ◌==◌, ◌&&◌, if◌then◌else◌}
 use Rattle.text_core.specs.Digits.{number_of}
 use Rattle.vcd_read.specs.declared.fault.VcdFault.{VcdFault}
@@ -8,9 +8,9 @@ use Rattle.vcd_read.specs.Results.{◌>>=◌}
 use Rattle.vcd_read.specs.Words.{Word, is_keyword, is_end, begins_with, has_bytes}
 use Rattle.vcd_read.specs.Head.{Head, Code, with_scope, without_scope, is_counted, is_size, with_code, with_var}
 use Rattle.vcd_read.specs.Changes.{Story, is_value, is_dump, timed, changed, are_digits, is_vector, is_passed}
-use Rattle.vcd_read.specs.Meaning.{Meaning, State, Place, InHead, ScopeType, ScopeName, CommandEnd, VarType, VarSize, VarCode, VarReference, PassedCommand, HeadEnd, InChanges, Comment, VectorCode, PassedCode, unless_end, if_end, step, ended, told_by, told, change, command}
+use Rattle.vcd_read.specs.Meaning.{Meaning, State, Place, InHead, ScopeType, ScopeName, CommandEnd, VarType, VarSize, VarCode, VarReference, PassedCommand, HeadEnd, InChanges, Comment, VectorCode, PassedCode, unless_end, if_end, step, ended, told_by, told, change}
 use Rattle.vcd_read.specs.Commands.{word_at, plain_at, end_at, behind_end, size_at, code_at, variable_at, opened_at, closed_at, command_at, vector_at, change_at}
-use Rattle.vcd_read.proofs.Binds.{through, bind_same, by_test}
+use Rattle.vcd_read.proofs.Binds.{through, by_test}
 
 -- what the words behind tell
 abbrev on : Place × State → List Word → Result Meaning VcdFault
@@ -78,10 +78,10 @@ opened_law state words =
     let opened : Word → Head = λ name. with_scope state.head name.bytes in
     plain_law ScopeType state (λ word. (ScopeName, state)) words (λ word. refl) refl
     ∙ through (plain_at words) _ go _ (λ kind.
-        plain_law ScopeName state (λ word. (CommandEnd, record state { head = opened word })) kind.1 (λ word. refl) refl
-        ∙ through (plain_at kind.1) _ go _ (λ name.
-            end_law CommandEnd (record state { head = opened name.0 }) (in_head state (opened name.0)) name.1 (λ word. refl) refl
-            ∙ through (end_at name.1) (λ rest. Ok (opened name.0, rest)) go (λ rest. on (in_head state (opened name.0)) rest) (λ rest. refl)))
+    plain_law ScopeName state (λ word. (CommandEnd, record state { head = opened word })) kind.1 (λ word. refl) refl
+    ∙ through (plain_at kind.1) _ go _ (λ name.
+    end_law CommandEnd (record state { head = opened name.0 }) (in_head state (opened name.0)) name.1 (λ word. refl) refl
+    ∙ through (end_at name.1) (λ rest. Ok (opened name.0, rest)) go (λ rest. on (in_head state (opened name.0)) rest) (λ rest. refl)))
 
 size_law : (counted : Bool) (state : State) (words : List Word) → told_by (VarSize counted) state words ≡ (size_at words >>= λ found. told_by (VarCode counted found.0) state found.1)
 unfolding size_at word_at
@@ -102,8 +102,8 @@ code_law counted size state words =
     let go : (ℕ × List Code) × List Word → Result Meaning VcdFault = λ found. told_by (VarReference counted size found.0.0) (with_codes state found.0.1) found.1 in
     word_law (VarCode counted size) state (λ word. with_code size word state.head.codes >>= λ (code, codes). Ok (VarReference counted size code, with_codes state codes)) words (λ word. refl) refl
     ∙ through (word_at words) (λ word. with_code size word.0 state.head.codes >>= λ code. Ok (code, word.1)) go _ (λ word.
-        sym (through (with_code size word.0 state.head.codes) (λ (code, codes). Ok (VarReference counted size code, with_codes state codes)) (λ next. on next word.1) (λ code. go (code, word.1)) (λ code. refl))
-        ∙ through (with_code size word.0 state.head.codes) (λ code. Ok (code, word.1)) go (λ code. go (code, word.1)) (λ code. refl))
+    sym (through (with_code size word.0 state.head.codes) (λ (code, codes). Ok (VarReference counted size code, with_codes state codes)) (λ next. on next word.1) (λ code. go (code, word.1)) (λ code. refl))
+    ∙ through (with_code size word.0 state.head.codes) (λ code. Ok (code, word.1)) go (λ code. go (code, word.1)) (λ code. refl))
 
 -- a variable
 variable_law : (state : State) (words : List Word) → told_by VarType state words ≡ (variable_at state.head words >>= λ found. on (in_head state found.0) found.1)
@@ -112,16 +112,16 @@ variable_law state words =
     let go : Head × List Word → Result Meaning VcdFault = λ found. on (in_head state found.0) found.1 in
     plain_law VarType state (λ word. (VarSize (is_counted word.bytes), state)) words (λ word. refl) refl
     ∙ through (plain_at words) _ go _ (λ kind.
-        size_law (is_counted kind.0.bytes) state kind.1
-        ∙ through (size_at kind.1) _ go _ (λ size.
-            code_law (is_counted kind.0.bytes) size.0 state size.1
-            ∙ through (code_at size.0 state.head.codes size.1) _ go _ (λ code.
-                let at : State = with_codes state code.0.1 in
-                let declared : Word → Head = λ word. with_var (is_counted kind.0.bytes) size.0 code.0.0 word.bytes at.head in
-                plain_law (VarReference (is_counted kind.0.bytes) size.0 code.0.0) at (λ word. (PassedCommand, record at { head = declared word })) code.1 (λ word. refl) refl
-                ∙ through (plain_at code.1) _ go _ (λ reference.
-                    passed_law PassedCommand InHead (record at { head = declared reference.0 }) reference.1 (λ word. refl) refl
-                    ∙ through (behind_end reference.1) (λ rest. Ok (declared reference.0, rest)) go (λ rest. on (in_head state (declared reference.0)) rest) (λ rest. refl)))))
+    size_law (is_counted kind.0.bytes) state kind.1
+    ∙ through (size_at kind.1) _ go _ (λ size.
+    code_law (is_counted kind.0.bytes) size.0 state size.1
+    ∙ through (code_at size.0 state.head.codes size.1) _ go _ (λ code.
+    let at : State = with_codes state code.0.1 in
+    let declared : Word → Head = λ word. with_var (is_counted kind.0.bytes) size.0 code.0.0 word.bytes at.head in
+    plain_law (VarReference (is_counted kind.0.bytes) size.0 code.0.0) at (λ word. (PassedCommand, record at { head = declared word })) code.1 (λ word. refl) refl
+    ∙ through (plain_at code.1) _ go _ (λ reference.
+    passed_law PassedCommand InHead (record at { head = declared reference.0 }) reference.1 (λ word. refl) refl
+    ∙ through (behind_end reference.1) (λ rest. Ok (declared reference.0, rest)) go (λ rest. on (in_head state (declared reference.0)) rest) (λ rest. refl)))))
 
 -- a scope that is closed
 closed_law : (state : State) (word : Word) (words : List Word)
@@ -132,9 +132,9 @@ closed_law state word words =
     let go : Head × List Word → Result Meaning VcdFault = λ found. on (in_head state found.0) found.1 in
     let begun : Result (Place × State) VcdFault = Ok (CommandEnd, record state { head = without_scope state.head }) in
     by_test (nat_le 1 (length state.head.nest)) begun (Err (BadWord word.at)) (end_at words >>= λ behind. Ok (without_scope state.head, behind)) (Err (BadWord word.at)) (λ next. on next words) go
-        (end_law CommandEnd (record state { head = without_scope state.head }) (in_head state (without_scope state.head)) words (λ word. refl) refl
-        ∙ through (end_at words) (λ behind. Ok (without_scope state.head, behind)) go (λ rest. on (in_head state (without_scope state.head)) rest) (λ rest. refl))
-        refl
+    (end_law CommandEnd (record state { head = without_scope state.head }) (in_head state (without_scope state.head)) words (λ word. refl) refl
+    ∙ through (end_at words) (λ behind. Ok (without_scope state.head, behind)) go (λ rest. on (in_head state (without_scope state.head)) rest) (λ rest. refl))
+    refl
 
 last_by : (state : State) (word : Word) (words : List Word) (b : Bool) → b ≡ false → (step : Result (Place × State) VcdFault)
     → (cond b (Ok (HeadEnd, state)) step >>= λ next. on next words) ≡ (step >>= λ next. on next words)
@@ -150,11 +150,11 @@ command_law state word words other =
     let run : Place × State → Result Meaning VcdFault = λ next. on next words in
     last_by state word words (is_keyword (codes "$enddefinitions") word) other _
     ∙ by_test (is_keyword (codes "$scope") word) _ _ _ _ run go (opened_law state words)
-      (by_test (is_keyword (codes "$upscope") word) _ _ _ _ run go (closed_law state word words)
-      (by_test (is_keyword (codes "$var") word) _ _ _ _ run go (variable_law state words)
-      (by_test (begins_with 36 word.bytes && not (is_end word)) _ _ _ _ run go
-        (passed_law PassedCommand InHead state words (λ word. refl) refl ∙ through (behind_end words) (λ rest. Ok (state.head, rest)) go (λ rest. on (in_head state state.head) rest) (λ rest. refl))
-        refl)))
+    (by_test (is_keyword (codes "$upscope") word) _ _ _ _ run go (closed_law state word words)
+    (by_test (is_keyword (codes "$var") word) _ _ _ _ run go (variable_law state words)
+    (by_test (begins_with 36 word.bytes && not (is_end word)) _ _ _ _ run go
+    (passed_law PassedCommand InHead state words (λ word. refl) refl ∙ through (behind_end words) (λ rest. Ok (state.head, rest)) go (λ rest. on (in_head state state.head) rest) (λ rest. refl))
+    refl)))
 
 -- the last command of the head
 pub head_end_law : (state : State) (word : Word) (words : List Word) → is_keyword (codes "$enddefinitions") word ≡ true
@@ -182,7 +182,7 @@ vector_law state at digits words =
     let go : Story × List Word → Result Meaning VcdFault = λ found. on (in_story state found.0) found.1 in
     word_law (VectorCode at digits) state (λ word. told state (changed state.head.codes state.story at digits word.at word.bytes)) words (λ word. refl) refl
     ∙ through (word_at words) (λ code. changed state.head.codes state.story at digits code.0.at code.0.bytes >>= λ after. Ok (after, code.1)) go _ (λ code.
-        told_law state (changed state.head.codes state.story at digits code.0.at code.0.bytes) code.1)
+    told_law state (changed state.head.codes state.story at digits code.0.at code.0.bytes) code.1)
 
 -- a change
 change_by : (state : State) (word : Word) (bytes : List ℕ) (words : List Word)
@@ -196,9 +196,9 @@ change_by state word (first ∷ rest) words =
     (by_test (is_value first && has_bytes rest) _ _ _ _ run go (told_law state (changed state.head.codes state.story word.at (first ∷ []) (word.at + 1) rest) words)
     (by_test (is_vector first && are_digits rest) _ _ _ _ run go (vector_law state word.at rest words)
     (by_test (is_passed first) _ _ _ _ run go
-      (word_law PassedCode state (λ word. Ok (InChanges, state)) words (λ word. refl) refl ∙ through (word_at words) (λ code. Ok (state.story, code.1)) go (λ code. on (in_story state state.story) code.1) (λ code. refl))
+    (word_law PassedCode state (λ word. Ok (InChanges, state)) words (λ word. refl) refl ∙ through (word_at words) (λ code. Ok (state.story, code.1)) go (λ code. on (in_story state state.story) code.1) (λ code. refl))
     (by_test (is_keyword (codes "$comment") word) _ _ _ _ run go
-      (passed_law Comment InChanges state words (λ word. refl) refl ∙ through (behind_end words) (λ behind. Ok (state.story, behind)) go (λ behind. on (in_story state state.story) behind) (λ behind. refl))
+    (passed_law Comment InChanges state words (λ word. refl) refl ∙ through (behind_end words) (λ behind. Ok (state.story, behind)) go (λ behind. on (in_story state state.story) behind) (λ behind. refl))
     (by_test (is_dump word) _ _ _ _ run go refl refl)))))
 
 pub change_law : (state : State) (word : Word) (words : List Word)

@@ -1,5 +1,5 @@
 -- The words of a text, from left to right.
-use Rattle.std.proofs.Common.{◌≡◌, ℕ, suc, ◌+◌, ◌-◌, ◌<◌, ◌≤◌, Bool, true, false, cond, List, [], ◌∷◌, length, take, drop, get_or, refl, sym, ◌∙◌, ap, arith, length-drop}
+use Rattle.std.proofs.Common.{◌≡◌, ℕ, suc, ◌+◌, ◌<◌, ◌≤◌, Bool, true, false, cond, List, [], ◌∷◌, length, take, drop, get_or, refl, sym, ◌∙◌, ap, arith}
 use Rattle.std.specs.Prelude.{not}
 use Rattle.std.specs.List.{prefix_len, position_or_len}
 use Rattle.std.proofs.Math.Numerals.{one-add}
@@ -70,7 +70,7 @@ blanks_stop text some =
 -- the first word, and what follows it
 pub first_word : (at : ℕ) (rest text : List ℕ) → text ≡ drop (prefix_len is_blank rest) rest → 0 < length text
     → words_from false at rest ≡ record { at = at + prefix_len is_blank rest; bytes = take (position_or_len is_blank text) text }
-      ∷ words_from false (at + prefix_len is_blank rest + position_or_len is_blank text) (drop (position_or_len is_blank text) text)
+    ∷ words_from false (at + prefix_len is_blank rest + position_or_len is_blank text) (drop (position_or_len is_blank text) text)
 first_word at rest text is some =
     let some' : 0 < length (drop (prefix_len is_blank rest) rest) = rw is at some in
     let stops : is_blank (get_or text 0 0) ≡ false = rw is (blanks_stop rest some') in

@@ -1,6 +1,7 @@
 pub mod Changes
 pub mod Columns
 pub mod Commands
+pub mod Examples
 pub mod Head
 pub mod Kept
 pub mod Meaning

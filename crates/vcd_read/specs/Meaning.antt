@@ -1,5 +1,5 @@
 -- What a value change dump file means: IEEE Std 1364-2005, section 18.2, "Four-state VCD file format".
-use Rattle.std.specs.Prelude.{ℕ, ◌+◌, Bool, not, List, [], ◌∷◌, length, Option, Some, None, Result, Ok, Err, codes, nat_le, ◌==◌, ◌&&◌, if◌then◌else◌}
+use Rattle.std.specs.Prelude.{ℕ, ◌+◌, Bool, not, List, [], ◌∷◌, length, Result, Ok, Err, codes, nat_le, ◌==◌, ◌&&◌, if◌then◌else◌}
 use Rattle.text_core.specs.Digits.{number_of}
 use Rattle.vcd_read.specs.declared.fault.VcdFault.{VcdFault}
 use Rattle.vcd_read.specs.declared.fault.VcdFault.TheVariants.{TooLong, BadWord, CutShort, NoEndDefinitions}
@@ -63,7 +63,7 @@ command state word =
     if is_keyword (codes "$enddefinitions") word then Ok (HeadEnd, state)
     else if is_keyword (codes "$scope") word then Ok (ScopeType, state)
     else if is_keyword (codes "$upscope") word then
-      (if nat_le 1 (length state.head.nest) then Ok (CommandEnd, record state { head = without_scope state.head }) else Err (BadWord word.at))
+    (if nat_le 1 (length state.head.nest) then Ok (CommandEnd, record state { head = without_scope state.head }) else Err (BadWord word.at))
     else if is_keyword (codes "$var") word then Ok (VarType, state)
     else if begins_with 36 word.bytes && not (is_end word) then Ok (PassedCommand, state)
     else Err (BadWord word.at)

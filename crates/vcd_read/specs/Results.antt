@@ -4,7 +4,6 @@ use Rattle.vcd_read.specs.declared.fault.VcdFault.{VcdFault}
 use Rattle.vcd_read.specs.declared.fault.VcdFault.TheVariants.{NoMemory}
 
 infixl 10 ◌>>=◌
-
 -- one step after another, up to the first fault
 abbrev pub ◌>>=◌ : {A B : Type 0} → Result A VcdFault → (A → Result B VcdFault) → Result B VcdFault
 (Ok x) >>= f = f x

@@ -6,6 +6,7 @@ mod changes;
 mod codes;
 mod fault;
 mod head;
+mod laws;
 mod numbers;
 mod read;
 mod variable;
@@ -13,6 +14,7 @@ mod vcd;
 mod words;
 
 pub use fault::VcdFault;
+pub use laws::examples;
 pub use read::read_vcd;
 pub use variable::VcdVar;
 pub use vcd::Vcd;

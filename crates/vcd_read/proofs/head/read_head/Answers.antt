@@ -22,7 +22,7 @@ returns-in_err-end c =
     let last : is_keyword (codes "$enddefinitions") (word_of c.in-Some.word) ≡ true = cc in
     let p = err_from_is_err_and c.from_residual.result c.from_residual.ensures.1 in
     rw (p.1, p.2) (fault_leads c.in_err-end.field-0.0 (told_by InChanges state) (end_at c.next_word.new.self) _ c.in_err-end.ensures.rest
-      (sym c.loop-word.invariant ∙ ap (told_by InHead state) c.in-Some.ensures.word ∙ head_end_law state (word_of c.in-Some.word) c.next_word.new.self last))
+    (sym c.loop-word.invariant ∙ ap (told_by InHead state) c.in-Some.ensures.word ∙ head_end_law state (word_of c.in-Some.word) c.next_word.new.self last))
 
 pub returns-then-is : goal.returns-then-is
 returns-then-is c =
@@ -47,4 +47,4 @@ returns-in_err-command c =
     let other : is_keyword (codes "$enddefinitions") (word_of c.in-Some.word) ≡ false = cc in
     let p = err_from_is_err_and c.from_residual-in_err-command.result c.from_residual-in_err-command.ensures.1 in
     rw (p.1, p.2) (fault_leads c.in_err-command.field-0.0 on (command_at c.loop-word.head (word_of c.in-Some.word) c.next_word.new.self) _ c.in_err-command.ensures.head
-      (sym c.loop-word.invariant ∙ ap (told_by InHead state) c.in-Some.ensures.word ∙ command_law state (word_of c.in-Some.word) c.next_word.new.self other))
+    (sym c.loop-word.invariant ∙ ap (told_by InHead state) c.in-Some.ensures.word ∙ command_law state (word_of c.in-Some.word) c.next_word.new.self other))

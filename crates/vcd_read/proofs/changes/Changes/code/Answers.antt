@@ -1,9 +1,7 @@
-use Rattle.std.proofs.Common.{◌≡◌, ◌<◌, ◌≤◌, ◌+◌, ◌-◌, ◌++◌, ◌∷◌, [], length, get_or, ap, sym, ◌∙◌, rules, arith}
-use Rattle.std.specs.Prelude.{slice_get, slice_index, slice_range, Some}
+use Rattle.std.proofs.Common.{◌≡◌, length, ap, sym, ◌∙◌, arith}
+use Rattle.std.specs.Prelude.{slice_get}
 use Rattle.std.specs.Option.{option_map}
 use Rattle.vcd_read.specs.Changes.{Story, Change}
-use Rattle.vcd_read.specs.Columns.{changes_of, start_at}
-use Rattle.vcd_read.specs.declared.changes.Row.{Row}
 use Rattle.vcd_read.proofs.Rows.{length-changes_of, is_row}
 use Rattle.vcd_read.proofs.changes.Changes.code.Goals as goal
 

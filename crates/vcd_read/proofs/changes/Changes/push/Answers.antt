@@ -1,8 +1,5 @@
-use Rattle.std.proofs.Common.{◌≡◌, ◌<◌, ◌≤◌, ◌+◌, ◌-◌, ◌++◌, ◌∷◌, [], length, get_or, ap, sym, ◌∙◌, rules, arith}
-use Rattle.std.specs.Prelude.{slice_get, slice_index, slice_range, Some}
-use Rattle.std.specs.Option.{option_map}
-use Rattle.vcd_read.specs.Changes.{Story, Change}
-use Rattle.vcd_read.specs.Columns.{changes_of, start_at}
+use Rattle.std.proofs.Common.{◌≡◌, ◌+◌, ◌-◌, ◌++◌, ◌∷◌, [], length, ap, rules}
+use Rattle.vcd_read.specs.Changes.{Story}
 use Rattle.vcd_read.specs.declared.changes.Row.{Row}
 use Rattle.vcd_read.proofs.Rows.{columns-push, pushed}
 use Rattle.vcd_read.proofs.changes.Changes.push.Goals as goal
@@ -24,4 +21,4 @@ returns c =
     let step : row.step ≡ length s.times.items - 1 = search rules in
     let ends : row.end ≡ length s.digits.items + length c.args.digits.now = search rules in
     rw (c.in_ok-extend_from_slice.ensures.items, put, pushed s.time s.times.items s.digits.items c.args.digits.now s.rows.items row c.self.invariant step ends)
-      (ap (λ (s : Story). record { time = s.time; changes = s.changes ++ record { time = s.time; code = c.args.code; digits = c.args.digits.now } ∷ [] }) c.self.view_is)
+    (ap (λ (s : Story). record { time = s.time; changes = s.changes ++ record { time = s.time; code = c.args.code; digits = c.args.digits.now } ∷ [] }) c.self.view_is)
