@@ -1,4 +1,4 @@
--- What a value change dump file means: IEEE Std 1364-2005, section 18.2, "Four-state VCD file format".
+-- What a value change dump file means: IEEE Std 1364-2005, section 18.2, the format of four-state files.
 use Rattle.std.specs.Prelude.{ℕ, ◌+◌, Bool, not, List, [], ◌∷◌, length, Result, Ok, Err, codes, nat_le, ◌==◌, ◌&&◌, if◌then◌else◌}
 use Rattle.text_core.specs.Digits.{number_of}
 use Rattle.vcd_read.specs.declared.fault.VcdFault.{VcdFault}

@@ -19,8 +19,8 @@ const MOST_BYTES: usize = 64 * 1024 * 1024;
 /// one answer that no clause ties to a cause.
 ///
 /// Goes over the text once, and finds codes by hash. A change takes 12 bytes and its digits, each different time 8, a
-/// variable its path, its name and about 60 bytes, and a scope its path. The list of changes reserves 5 bytes for each
-/// byte of the text, and touches what it uses.
+/// variable its path, its name, its code and about 130 bytes, and a scope its path. The list of changes reserves 5 bytes
+/// for each byte of the text, and touches what it uses.
 pub fn read_vcd(alloc: Global, text: &[u8]) -> Result<Vcd, VcdFault>
     ensures meaning { Gives (λ vcd. vcd) result (meaning text.now) }
     ensures kept { IfOk result IsVcd }

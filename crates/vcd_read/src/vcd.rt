@@ -15,7 +15,7 @@ use text_core::Text;
 /// It keeps that it has at most 2^26 changes, that their times do not fall, that variables of one code have one size,
 /// and that the code of each change is declared and its digits are value characters, at least one and no more than
 /// that size.
-#[derive(Drop)]
+#[derive(Debug, Drop)]
 pub struct Vcd {
     scopes: Vec<Text>,
     vars: Vec<VcdVar>,
