@@ -5,6 +5,7 @@ mod exprs;
 mod fault;
 mod ints;
 mod items;
+mod laws;
 mod members;
 mod modules;
 mod source;
@@ -12,4 +13,5 @@ mod stmts;
 mod words;
 
 pub use fault::TextFault;
-pub use source::{one_answer, read_source};
+pub use laws::{one_answer, one_place, one_spelling, spells_the_sample};
+pub use source::read_source;

@@ -1,8 +1,8 @@
-ghost use Rattle.std.specs.Prelude.{◌≡◌, ◌≤◌, ◌<◌, ◌-◌, ◌^◌, IfOk, IfErr, ℕ, List, length, drop};
+ghost use Rattle.std.specs.Prelude.{◌≡◌, ◌≤◌, ◌<◌, ◌-◌, ◌^◌, IfOk, IfErr, length, drop};
 ghost use Rattle.gen_token.specs.Words.{placed};
 ghost use Rattle.gen_tree.specs.Places.{line_of};
 ghost use Rattle.gen_tree.specs.View.{source_of};
-ghost use Rattle.gen_text.specs.Source.{IsSourceText, Reads, IsCause, IsRead, IsReadCause, end_line, HasOneAnswer};
+ghost use Rattle.gen_text.specs.Source.{IsSourceText, Reads, IsCause, IsRead, IsReadCause, end_line};
 
 use crate::TextFault;
 use crate::fault::ReadFault;
@@ -84,9 +84,3 @@ fn end_line(text: &[u8]) -> u32
     }
     line
 }
-
-/// A law: a text is read as one source at most, has no fault but want of memory where it is read, and one other fault at
-/// most.
-pub fn one_answer()
-    ensures { (text : List ℕ) → HasOneAnswer text }
-{}
