@@ -1,5 +1,5 @@
 -- A text has one reading or one fault.
-use Rattle.std.proofs.Common.{◌≡◌, ◌≢◌, ◌≤◌, ◌<◌, ◌-◌, ℕ, zero, suc, ◌+◌, Bool, true, false, not, List, [], ◌∷◌, ◌++◌, length, get_or, drop, drop_at, length-append, Option, Some, None, is_some, is_none, Result, Ok, Err, IfOk, IfErr, refl, sym, ap, subst, ◌∙◌, arith, inl, inr}
+use Rattle.std.proofs.Common.{◌≡◌, ◌≢◌, ◌≤◌, ◌<◌, ◌-◌, ℕ, zero, suc, ◌+◌, true, false, not, List, [], ◌∷◌, ◌++◌, length, get_or, drop, drop_at, length-append, Some, None, is_none, Result, Ok, Err, IfOk, IfErr, refl, sym, ap, subst, ◌∙◌, arith, inl, inr}
 use Rattle.std.specs.List.{list_all, position, position_from}
 use Rattle.std.proofs.lemmas.Iterator.Adapters.{position_from-zero}
 use Rattle.gen_token.specs.Bytes.{is_text_byte}
@@ -19,7 +19,6 @@ use Rattle.gen_text.specs.declared.fault.TextFault.TheVariants as faults
 use Rattle.gen_text.specs.declared.fault.ReadFault.{ReadFault}
 use Rattle.gen_text.specs.declared.fault.ReadFault.TheVariants as read_faults
 use Rattle.gen_text.specs.Faults.{Fails, text_fault_of}
-use Rattle.gen_text.specs.Reading.{source_at}
 use Rattle.gen_text.specs.Source.{IsSourceText, Reads, end_line, IsBadSyntax, IsCause, IsRead, IsReadCause, HasOneAnswer}
 use Rattle.gen_text.proofs.WordsRead.{test}
 use Rattle.gen_text.proofs.Loops.{placed_length}
@@ -43,7 +42,7 @@ none_from n [] = refl
 none_from n (byte ∷ text) = elim (test (is_text_byte byte)) [
   | inl e ↦ rw e (none_from (n + 1) text)
   | inr e ↦ rw e refl
-  ]
+]
 
 -- no other byte stands in a text of text bytes, and in no other text
 pub all_text : (text : List ℕ) → is_none (position (λ byte. not (is_text_byte byte)) text) ≡ list_all is_text_byte text
@@ -80,6 +79,7 @@ one_line tokens end line other f g =
   where
     drop_front : (a b : List Tok) → drop (length a) (a ++ b) ≡ b
     drop_front a b = drop_at a b (length a) refl
+
     same_end : (a b c d : List Tok) → a ++ b ≡ c ++ d → length b ≡ length d → b ≡ d
     same_end a b c d e l =
         let front : length a ≡ length c = omega (arith, l, simp length-append at (ap length e)) in

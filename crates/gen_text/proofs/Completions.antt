@@ -1,16 +1,15 @@
 -- The machine stops at the first token with which no list goes on: what stands before it has a completion. Each symbol has one
 -- completion, which completes it whatever stands behind it.
-use Rattle.std.proofs.Common.{◌≡◌, ◌≤◌, ◌<◌, ◌+◌, ℕ, zero, suc, Bool, true, false, cond, List, [], ◌∷◌, ◌++◌, length, Option, Some, None, refl, sym, ap, subst, ◌∙◌, arith, suc-add, add-suc, append_assoc, option_and_then, ◌⊎◌, inl, inr}
+use Rattle.std.proofs.Common.{◌≡◌, ◌≤◌, ◌+◌, ℕ, zero, suc, true, false, List, [], ◌∷◌, ◌++◌, length, Option, Some, None, refl, sym, ap, ◌∙◌, arith, suc-add, add-suc, ◌⊎◌, inl, inr}
 use Rattle.gen_token.specs.declared.Keyword.{Keyword}
 use Rattle.gen_token.specs.declared.Keyword.TheVariants as keyword
 use Rattle.gen_token.specs.declared.Mark.{Mark}
 use Rattle.gen_token.specs.declared.Mark.TheVariants as mark
 use Rattle.gen_token.specs.Words.{Word, Name, Number, Literal, Reserved, Sign, Tok}
 use Rattle.gen_tree.specs.declared.Mode.{Mode}
-use Rattle.gen_tree.specs.declared.Mode.TheVariants as mode
 use Rattle.gen_tree.specs.Brackets.{Side, opens, closes, neither, side, room_by, room_after, room_left, Within}
 use Rattle.gen_tree.specs.Grammar.{assign_mark}
-use Rattle.gen_text.proofs.Machine.{Fixed, key, sign, fixed_word, Symbol, need, need_name, an_int, an_int_op, a_cmp, an_index, a_literal, a_dot, an_op, a_prim, an_expr, a_slice, a_stmt, stmts_end, an_else, a_param, another_param, params_end, params, a_conn, conns_end, an_item, items_end, else_items, a_port, ports_end, a_module, Move, may_end, settle, run, run_by, at_end, End, accepted, stopped}
+use Rattle.gen_text.proofs.Machine.{Fixed, fixed_word, Symbol, need, need_name, an_int, an_int_op, a_cmp, an_index, a_literal, a_dot, an_op, a_prim, an_expr, a_slice, a_stmt, stmts_end, an_else, a_param, another_param, params_end, params, a_conn, conns_end, an_item, items_end, else_items, a_port, ports_end, a_module, may_end, settle, run, run_by, at_end, accepted, stopped}
 use Rattle.gen_text.proofs.WordsRead.{test, is_itself}
 use Rattle.gen_text.proofs.Moves.{shifted}
 
@@ -158,7 +157,7 @@ at_the_end [] left e = absurd cc
 at_the_end (symbol ∷ stack) left e = elim (test (may_end symbol)) [
   | inl m ↦ at_the_end stack left (rw m at e)
   | inr m ↦ let h : stopped 0 ≡ stopped left = rw m at e in cc
-  ]
+]
 
 here : (m : Mode) (room left : ℕ) (stack : List Symbol) (t : Tok) (ts : List Tok) → suc (length ts) ≡ left → Why m room stack [] (t ∷ ts) → Halt m room stack (t ∷ ts) left
 here m room left stack t ts count why = record {

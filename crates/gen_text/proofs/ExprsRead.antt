@@ -1,21 +1,19 @@
 -- An expression is read as it is spelled.
-use Rattle.std.proofs.Common.{◌≡◌, ◌≤◌, ◌-◌, ℕ, zero, suc, Bool, true, false, cond, List, [], ◌∷◌, ◌++◌, length, Option, Some, None, Result, Ok, Err, refl, sym, ap, subst, ◌∙◌, arith, append-nil, append_assoc, ◌⊎◌, inl, inr}
+use Rattle.std.proofs.Common.{◌≡◌, ℕ, zero, suc, Bool, true, false, cond, List, [], ◌∷◌, Option, Some, None, Ok, Err, refl, subst, arith, append-nil, append_assoc, inl, inr}
 use Rattle.gen_token.specs.declared.Keyword.TheVariants as keyword
 use Rattle.gen_token.specs.declared.Mark.TheVariants as mark
 use Rattle.gen_token.specs.Words.{Word, Name, Number, Literal, Reserved, Sign, Tok}
 use Rattle.gen_tree.specs.declared.UnOp.{UnOp}
-use Rattle.gen_tree.specs.declared.UnOp.TheVariants as un_op
 use Rattle.gen_tree.specs.declared.Op.{Op}
-use Rattle.gen_tree.specs.declared.Op.TheVariants as op
 use Rattle.gen_tree.specs.declared.Mode.{Mode}
 use Rattle.gen_tree.specs.declared.Mode.TheVariants as mode
 use Rattle.gen_tree.specs.Brackets.{room_after}
-use Rattle.gen_tree.specs.Tree.{Int, Fam, Lit, plain, bits, Expr, read, out, value, unary, binary, mux, zext, slice}
-use Rattle.gen_tree.specs.Grammar.{Single, Sym, Key, SpellsFam, SpellsLit, SpellsRead, SpellsTwo, SpellsPrim, SpellsExpr, op_mark, un_op_word}
+use Rattle.gen_tree.specs.Tree.{Fam, Expr, read, out, value, unary, binary, mux, zext, slice}
+use Rattle.gen_tree.specs.Grammar.{Sym, SpellsFam, SpellsLit, SpellsRead, SpellsPrim, SpellsExpr, op_mark, un_op_word}
 use Rattle.gen_text.specs.Forms.{is_mark, LitForm, a_plain, a_bits, no_lit, lit_form, op_form, PrimForm, a_name, a_lit, a_bracket, a_unary, a_cat, a_mux, a_zext, prim_form}
-use Rattle.gen_text.specs.Reading.{Read, ◌>>=◌, seen, mark_at, within, open_at, begins, rest_of, some_at, name_at, int_at, fam_rest_at, bits_at, lit_by, lit_at, dot_at, read_of, read_at, op_at, bracket_at, unary_at, cat_at, zext_at, mux_at, prim_by, prim_step, bounds_at, slice_at, expr_step, expr_at}
-use Rattle.gen_text.proofs.Machine.{Fixed, key, sign, Symbol, need, an_int, an_expr, a_prim, an_op, a_slice, an_index, a_dot, a_literal, Move, shift, skip, stuck, step, lead, lit_lead, prim_lead, if_some, may_end, settle, settle_by, at_end, run}
-use Rattle.gen_text.proofs.Moves.{Comes, Reads, after, then_read, then_word, then_seen, maps, done, begins as takes_first, passes, passes_end, refuses, refuses_end, refuses_full}
+use Rattle.gen_text.specs.Reading.{Read, some_at, bits_at, lit_by, lit_at, dot_at, read_of, read_at, op_at, bracket_at, unary_at, cat_at, zext_at, mux_at, prim_by, prim_step, bounds_at, slice_at, expr_step, expr_at}
+use Rattle.gen_text.proofs.Machine.{sign, Symbol, need, an_int, an_expr, a_prim, an_op, a_slice, an_index, a_dot, a_literal, lead, prim_lead, settle, settle_by, at_end, run}
+use Rattle.gen_text.proofs.Moves.{Comes, Reads, after, then_read, then_word, then_seen, done, begins as takes_first, passes, passes_end, refuses, refuses_end}
 use Rattle.gen_text.proofs.WordsRead.{is_mark_is, test, word_reads, then_open, name_reads}
 use Rattle.gen_text.proofs.IntsRead.{inner_reads, fam_rest_reads}
 
@@ -141,10 +139,10 @@ dot_reads : (m : Mode) (room : ℕ) (f : Fam) (from ts : List Tok) → SpellsFam
 dot_reads m room f from [] gf = passes_end refl gf
 dot_reads m room f from (t ∷ ts) gf = elim (test (is_mark mark.Dot t.word)) [
   | inl e ↦
-    let is : t.word ≡ Sign mark.Dot = is_mark_is mark.Dot t.word e in
-    rw e (takes_first (rw e refl) (rw is refl) (then_seen _ (name_reads room ts) (λ q rest gq lq. (t ∷ ts, gf, (ts, (is, refl), gq)))))
+      let is : t.word ≡ Sign mark.Dot = is_mark_is mark.Dot t.word e in
+      rw e (takes_first (rw e refl) (rw is refl) (then_seen _ (name_reads room ts) (λ q rest gq lq. (t ∷ ts, gf, (ts, (is, refl), gq)))))
   | inr e ↦ rw e (passes (rw e refl) gf)
-  ]
+]
 
 read_of_spells : (m : Mode) (f : Fam) (q : Option (List ℕ)) (ts rest : List Tok) → SpellsRead m f q ts rest → SpellsPrim m (read_of f q) ts rest
 read_of_spells m f None ts rest h = h

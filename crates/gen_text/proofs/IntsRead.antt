@@ -1,6 +1,5 @@
 -- An integer, and a name with an index, are read as they are spelled.
-use Rattle.std.proofs.Common.{◌≡◌, ◌-◌, ℕ, zero, suc, Bool, true, false, cond, List, [], ◌∷◌, ◌++◌, length, Option, Some, None, Result, Ok, Err, refl, sym, ap, subst, ◌∙◌, arith, ◌⊎◌, inl, inr}
-use Rattle.gen_token.specs.declared.Mark.{Mark}
+use Rattle.std.proofs.Common.{◌≡◌, ◌-◌, ℕ, zero, suc, List, [], ◌∷◌, Option, Some, None, Err, refl, arith, inl, inr}
 use Rattle.gen_token.specs.declared.Mark.TheVariants as mark
 use Rattle.gen_token.specs.Words.{Word, Name, Number, Literal, Reserved, Sign, Tok}
 use Rattle.gen_tree.specs.declared.IntOp.{IntOp}
@@ -10,12 +9,12 @@ use Rattle.gen_tree.specs.declared.Cmp.TheVariants as cmp
 use Rattle.gen_tree.specs.declared.Mode.{Mode}
 use Rattle.gen_tree.specs.declared.Mode.TheVariants as mode
 use Rattle.gen_tree.specs.Brackets.{room_after}
-use Rattle.gen_tree.specs.Tree.{Int, num, var, bin, Fam}
-use Rattle.gen_tree.specs.Grammar.{Sym, Single, SpellsInt, SpellsIndex, SpellsFam, int_op_mark, cmp_mark, InSource}
+use Rattle.gen_tree.specs.Tree.{Int}
+use Rattle.gen_tree.specs.Grammar.{Sym, Single, SpellsInt, SpellsIndex, SpellsFam, int_op_mark, cmp_mark}
 use Rattle.gen_text.specs.Forms.{is_mark, IntForm, a_number, a_variable, a_group, no_int, int_form, int_op_form, cmp_form}
-use Rattle.gen_text.specs.Reading.{Read, ◌>>=◌, seen, behind, mark_at, within, begins, rest_of, some_at, int_at, int_step, int_by, group_at, int_op_at, cmp_at, inner_int, index_at, fam_of_name, fam_rest_at, fam_at, name_at}
-use Rattle.gen_text.proofs.Machine.{Fixed, key, sign, Symbol, need, need_name, an_int, an_int_op, a_cmp, an_index, fam_symbols, Move, shift, skip, stuck, step, lead, int_lead, if_some, may_end, run, End, accepted, stopped}
-use Rattle.gen_text.proofs.Moves.{Comes, Stops, Reads, ReadsOn, after, then_read, then_word, then_seen, done, begins as takes_first, passes, passes_end, refuses, refuses_end, refuses_full}
+use Rattle.gen_text.specs.Reading.{Read, some_at, int_at, int_step, int_by, group_at, int_op_at, cmp_at, inner_int, index_at, fam_rest_at, fam_at}
+use Rattle.gen_text.proofs.Machine.{sign, need, an_int, an_int_op, a_cmp, an_index, fam_symbols}
+use Rattle.gen_text.proofs.Moves.{Reads, then_read, then_word, then_seen, done, begins as takes_first, passes, passes_end, refuses, refuses_end, refuses_full}
 use Rattle.gen_text.proofs.WordsRead.{is_mark_is, test, word_reads, name_reads}
 
 -- what the form says of the word
@@ -147,10 +146,10 @@ pub index_reads : (m : Mode) (room : ℕ) (ts : List Tok) → Reads m room (an_i
 index_reads m room [] = passes_end refl refl
 index_reads m room (t ∷ ts) = elim (test (is_mark mark.Hash t.word)) [
   | inl e ↦
-    let is : t.word ≡ Sign mark.Hash = is_mark_is mark.Hash t.word e in
-    rw e (takes_first (rw e refl) (rw is refl) (then_seen _ (int_reads m room ts) (λ i rest gi li. (ts, (is, refl), gi))))
+      let is : t.word ≡ Sign mark.Hash = is_mark_is mark.Hash t.word e in
+      rw e (takes_first (rw e refl) (rw is refl) (then_seen _ (int_reads m room ts) (λ i rest gi li. (ts, (is, refl), gi))))
   | inr e ↦ rw e (passes (rw e refl) refl)
-  ]
+]
 
 pub fam_rest_reads : (m : Mode) (room : ℕ) (x : List ℕ) (from ts : List Tok) → Single (Name x) from ts
     → Reads m room (an_index ∷ []) ts room (λ f. SpellsFam m f from) (fam_rest_at m room x ts)

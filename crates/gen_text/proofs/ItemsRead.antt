@@ -1,22 +1,20 @@
 -- Parameters, connections and items are read as they are spelled.
-use Rattle.std.proofs.Common.{◌≡◌, ◌≤◌, ◌<◌, ◌-◌, ℕ, zero, suc, Bool, true, false, cond, List, [], ◌∷◌, ◌++◌, length, Option, Some, None, Result, Ok, Err, refl, sym, ap, subst, ◌∙◌, arith, ◌⊎◌, inl, inr}
-use Rattle.gen_token.specs.declared.Keyword.{Keyword}
+use Rattle.std.proofs.Common.{◌≡◌, ◌<◌, ◌-◌, ℕ, zero, suc, Bool, true, false, cond, List, [], ◌∷◌, ◌++◌, length, Option, Some, None, Result, Ok, Err, refl, arith, inl, inr}
 use Rattle.gen_token.specs.declared.Keyword.TheVariants as keyword
 use Rattle.gen_token.specs.declared.Mark.TheVariants as mark
 use Rattle.gen_token.specs.Words.{Word, Name, Number, Literal, Reserved, Sign, Tok}
-use Rattle.gen_tree.specs.declared.Mode.{Mode}
 use Rattle.gen_tree.specs.declared.Mode.TheVariants as mode
 use Rattle.gen_tree.specs.Brackets.{room_after}
-use Rattle.gen_tree.specs.Tree.{Int, Fam, Expr, Stmts, Param, Conn, Item, wire, reg, inst, comb, ff, repeat_items, given_items, Items, no_item, item, items, ElseItems, no_else_items, otherwise_items}
-use Rattle.gen_tree.specs.Grammar.{Span, ◌⨾◌, Single, Sym, Key, Each, Braces, SpellsStmts, SpellsParam, SpellsMoreParams, SpellsParams, SpellsConn, SpellsItem, SpellsItems, SpellsElseItems}
+use Rattle.gen_tree.specs.Tree.{Stmts, Param, Item, Items, items, no_else_items, otherwise_items}
+use Rattle.gen_tree.specs.Grammar.{Span, ◌⨾◌, Sym, Each, Braces, SpellsStmts, SpellsParam, SpellsParams, SpellsConn, SpellsItem, SpellsItems, SpellsElseItems}
 use Rattle.gen_text.specs.Forms.{is_mark, name_form, ItemForm, a_wire, a_reg, an_inst, a_block, a_for_item, a_gen_item, no_item_form, item_form}
-use Rattle.gen_text.specs.Reading.{Read, ◌>>=◌, seen, begins, until_by, until_at, each_by, each_at, body_by, mark_at, open_at, name_at, param_at, more_param_at, begins_param, param_list_at, params_in_at, params_at, conn_rest_at, conn_by, conn_at, conns_at, wire_at, reg_at, inst_at, block_of, block_at, inner_stmts, else_by, else_items_at, for_item_at, gen_item_at, item_by, item_step, items_until, item_at, inner_items}
-use Rattle.gen_text.proofs.Machine.{Fixed, key, sign, Symbol, need, need_name, an_int, an_index, an_expr, a_literal, stmts_end, a_param, another_param, params_end, params, a_conn, conns_end, an_item, items_end, else_items, fam_symbols, turn_symbols, given_symbols, body_symbols, param_symbols, conn_symbols, Move, shift, skip, stuck, step, lead, if_some, item_lead, settle, run, at_end}
+use Rattle.gen_text.specs.Reading.{Read, ◌>>=◌, seen, until_at, each_at, mark_at, open_at, param_at, more_param_at, begins_param, param_list_at, params_in_at, params_at, conn_by, conn_at, conns_at, wire_at, reg_at, inst_at, block_of, block_at, inner_stmts, for_item_at, gen_item_at, item_by, item_step, items_until, item_at}
+use Rattle.gen_text.proofs.Machine.{sign, Symbol, need, need_name, an_int, an_index, a_literal, stmts_end, a_param, another_param, params_end, params, a_conn, conns_end, an_item, items_end, else_items, fam_symbols, turn_symbols, given_symbols, body_symbols, param_symbols, conn_symbols, if_some, item_lead, settle, run, at_end}
 use Rattle.gen_text.proofs.Moves.{Comes, Reads, after, then_read, then_front, then_word, then_seen, maps, measured, done, begins as takes_first, passes, passes_end, refuses, refuses_end}
 use Rattle.gen_text.proofs.WordsRead.{test, is_mark_is, word_reads, then_open, name_reads, NameIs, name_is}
 use Rattle.gen_text.proofs.IntsRead.{int_reads, fam_reads}
 use Rattle.gen_text.proofs.ExprsRead.{lit_reads, expr_reads}
-use Rattle.gen_text.proofs.Lists.{EachReads, OneOf, each_reads, then_each, UntilOf, until_reads, opens_until, InsideBody, body_reads, ElseOf, else_reads, takes}
+use Rattle.gen_text.proofs.Lists.{EachReads, each_reads, then_each, UntilOf, until_reads, opens_until, InsideBody, body_reads, ElseOf, else_reads, takes}
 use Rattle.gen_text.proofs.Loops.{Shortens}
 use Rattle.gen_text.proofs.StmtsRead.{turns_reads, given_reads, inner_stmts_read}
 
@@ -47,10 +45,10 @@ pub more_param_reads : (room : ℕ) (ts : List Tok) → Reads mode.Source room (
 more_param_reads room [] = refuses_end refl
 more_param_reads room (t ∷ ts) = elim (test (is_mark mark.Comma t.word)) [
   | inl e ↦
-    let is : t.word ≡ Sign mark.Comma = is_mark_is mark.Comma t.word e in
-    rw e (takes_first (rw e refl) (rw is refl) (maps (λ p rest g. ((ts, (is, refl), g.0), omega (arith, g.1))) (measured (param_reads room ts))))
+      let is : t.word ≡ Sign mark.Comma = is_mark_is mark.Comma t.word e in
+      rw e (takes_first (rw e refl) (rw is refl) (maps (λ p rest g. ((ts, (is, refl), g.0), omega (arith, g.1))) (measured (param_reads room ts))))
   | inr e ↦ rw e (refuses (rw e refl))
-  ]
+]
 
 settle_more : (stack : List Symbol) (w : Word) → is_mark mark.Comma w ≡ true → settle mode.Source (params_end ∷ stack) w ≡ settle mode.Source (another_param ∷ params_end ∷ stack) w
 unfolding settle
@@ -95,10 +93,12 @@ params_flat room ts = first (open_at mark.LeftParen room ts)
     third : (p : Param) (o : Read (List Param)) → (seen (λ more. p ∷ more) o >>= λ ps. closing ps.0 ps.1) ≡ (o >>= λ more. closing (p ∷ more.0) more.1)
     third p (Err left) = refl
     third p (Ok more) = refl
+
     second : (o : Read Param) → ((o >>= λ p. seen (λ more. p.0 ∷ more) (more_of (room - 1) p.1)) >>= λ ps. closing ps.0 ps.1)
         ≡ (o >>= λ p. more_of (room - 1) p.1 >>= λ more. closing (p.0 ∷ more.0) more.1)
     second (Err left) = refl
     second (Ok p) = third p.0 (more_of (room - 1) p.1)
+
     first : (o : Result (List Tok) ℕ) → (o >>= λ t1. param_list_at (room - 1) t1 >>= λ ps. closing ps.0 ps.1)
         ≡ (o >>= λ t1. param_at (room - 1) t1 >>= λ p. more_of (room - 1) p.1 >>= λ more. closing (p.0 ∷ more.0) more.1)
     first (Err left) = refl
@@ -157,7 +157,7 @@ conns_read room ts =
     then_open mark.LeftBrace room ts _ refl (λ room2 room-is t1 g1 l1.
     let same : room - 1 ≡ room2 = omega arith in
     let whole : Reads mode.Source room2 (conns_end ∷ []) t1 (suc room2) (λ cs. (Each SpellsConn cs ⨾ Sym mark.RightBrace) t1) (until_at (conn_at room2) t1) =
-        until_reads mode.Source (suc (length t1)) room2 conns_end a_conn SpellsConn (conn_at room2) t1 (conns_of_list room2) (omega arith) in
+    until_reads mode.Source (suc (length t1)) room2 conns_end a_conn SpellsConn (conn_at room2) t1 (conns_of_list room2) (omega arith) in
     rw (same, room-is) (maps (λ cs rest g. (t1, g1, g)) whole))
 
 -- ---- items

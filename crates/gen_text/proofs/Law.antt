@@ -1,17 +1,17 @@
 -- One tree for each spelling; what is read is exactly what is spelled within the room; a fault is the first place.
-use Rattle.std.proofs.Common.{◌≡◌, ◌≤◌, ◌<◌, ◌+◌, ℕ, zero, suc, max, Bool, true, false, cond, List, [], ◌∷◌, ◌++◌, length, Option, Some, None, IsSome, option_and_then, Result, Ok, Err, refl, sym, ap, ap₂, subst, ◌∙◌, arith, append-nil, append_assoc, length-append, ◌⊎◌, inl, inr}
+use Rattle.std.proofs.Common.{◌≡◌, ◌≤◌, ◌<◌, ◌+◌, ℕ, zero, suc, cond, List, [], ◌∷◌, ◌++◌, length, Option, Some, None, IsSome, option_and_then, Result, Ok, Err, refl, sym, ap, ap₂, subst, ◌∙◌, arith, append-nil, append_assoc, length-append, inl, inr}
 use Rattle.std.proofs.lemmas.Bool.{cases_lt}
 use Rattle.gen_token.specs.declared.Keyword.TheVariants as keyword
-use Rattle.gen_token.specs.Words.{Word, Tok}
+use Rattle.gen_token.specs.Words.{Tok}
 use Rattle.gen_tree.specs.declared.Mode.TheVariants as mode
-use Rattle.gen_tree.specs.Brackets.{Side, opens, closes, neither, side, room_by, room_after, room_left, Within}
+use Rattle.gen_tree.specs.Brackets.{opens, side, room_after, room_left, Within}
 use Rattle.gen_tree.specs.Tree.{Module}
-use Rattle.gen_tree.specs.Grammar.{Each, SpellsModule, Spells}
+use Rattle.gen_tree.specs.Grammar.{SpellsModule, Spells}
 use Rattle.gen_tree.specs.Places.{IsSource, IsBad, FaultAt}
 use Rattle.gen_text.specs.Forms.{is_keyword}
 use Rattle.gen_text.specs.Reading.{Read, ◌>>=◌, none_left, module_at, source_by, source_at}
-use Rattle.gen_text.proofs.Machine.{Symbol, a_module, settle, run, run_by, at_end, End, accepted, stopped}
-use Rattle.gen_text.proofs.Moves.{Reads, Comes, Stops}
+use Rattle.gen_text.proofs.Machine.{Symbol, a_module, settle, run, run_by, at_end, accepted, stopped}
+use Rattle.gen_text.proofs.Moves.{Reads}
 use Rattle.gen_text.proofs.WordsRead.{test}
 use Rattle.gen_text.proofs.ModulesRead.{module_reads}
 use Rattle.gen_text.proofs.Depth.{each_depth, module_depth}
@@ -59,6 +59,7 @@ answers (suc n) room ts lt = by (λ t1 l. answers n room t1 l) (module_at room t
     put m t t1 c s (Ok []) g = absurd g.0
     put m t t1 c s (Ok (m2 ∷ more)) g = ((t ∷ t1, s, g.0), c ∙ g.1)
     put m t t1 c s (Err left) g = c ∙ g
+
     by : ((t1 : List Tok) → length t1 < n → Answer room t1 (source_by n room t1)) → (o : Read Module) → ReadsModule room ts o
         → Answer room ts (o >>= λ m. cond (none_left m.1) (Ok (m.0 ∷ [])) (source_by n room m.1 >>= λ more. Ok (m.0 ∷ more)))
     by next (Err left) g = g.reads.stops []
@@ -178,6 +179,7 @@ not_before S room ts left left2 f g lt = by f.bad (later f.good f.bad g.good g.b
   where
     shorter : length f.good < length g.good
     shorter = omega (arith, f.count, g.count, simp length-append at (ap length (sym f.parts ∙ g.parts)))
+
     by : (bad : List Tok) → Later f.good bad g.good g.bad → IsBad S room f.good bad → ⊥
     by [] l h = absurd (let e = l.back in cc)
     by (t ∷ rest) l (inl none) =
@@ -194,5 +196,5 @@ one_fault S room ts left left2 f g = elim (cases_lt left left2) [
   | inr le ↦ elim (cases_lt left2 left) [
     | inl lt ↦ absurd (not_before S room ts left left2 f g lt)
     | inr le2 ↦ omega arith
-    ]
   ]
+]

@@ -1,5 +1,5 @@
 -- Lists: as long as a member begins, or up to a closing brace; bodies in braces, and behind `else`.
-use Rattle.std.proofs.Common.{◌≡◌, ◌≤◌, ◌<◌, ◌-◌, le_trans, ℕ, zero, suc, Bool, true, false, cond, List, [], ◌∷◌, ◌++◌, length, Option, Some, None, Result, Ok, Err, refl, sym, ap, subst, ◌∙◌, arith, append-nil, append_assoc, ◌⊎◌, inl, inr}
+use Rattle.std.proofs.Common.{◌≡◌, ◌≤◌, ◌<◌, ℕ, zero, suc, Bool, true, false, cond, List, [], ◌∷◌, ◌++◌, length, Option, Some, None, Ok, Err, refl, sym, ap, subst, ◌∙◌, arith, append-nil, append_assoc, inl, inr}
 use Rattle.gen_token.specs.declared.Keyword.TheVariants as keyword
 use Rattle.gen_token.specs.declared.Mark.TheVariants as mark
 use Rattle.gen_token.specs.Words.{Word, Reserved, Sign, Tok}
@@ -7,10 +7,10 @@ use Rattle.gen_tree.specs.declared.Mode.{Mode}
 use Rattle.gen_tree.specs.declared.Mode.TheVariants as mode
 use Rattle.gen_tree.specs.Grammar.{Span, ◌⨾◌, Sym, Key, Each, Braces}
 use Rattle.gen_text.specs.Forms.{is_mark, is_keyword}
-use Rattle.gen_text.specs.Reading.{Read, ◌>>=◌, seen, begins, rest_of, until_by, until_at, each_by, each_at, open_at, body_by, else_by}
-use Rattle.gen_text.proofs.Machine.{Symbol, need, sign, Move, shift, skip, stuck, step, lead, until_step, body_symbols, may_end, settle, settle_by, run, at_end}
-use Rattle.gen_text.proofs.Moves.{Comes, Stops, Reads, after, then_read, then_word, then_seen, maps, done, begins as takes_first, passes, passes_end, refuses, refuses_end}
-use Rattle.gen_text.proofs.WordsRead.{test, word_reads, is_mark_is, is_keyword_is, then_open}
+use Rattle.gen_text.specs.Reading.{Read, ◌>>=◌, begins, rest_of, until_by, each_by, body_by, else_by}
+use Rattle.gen_text.proofs.Machine.{Symbol, shift, skip, step, lead, until_step, body_symbols, may_end, settle, run, at_end}
+use Rattle.gen_text.proofs.Moves.{Comes, Stops, Reads, after, then_read, then_seen, maps, done, begins as takes_first, passes, passes_end}
+use Rattle.gen_text.proofs.WordsRead.{test, is_mark_is, is_keyword_is, then_open}
 
 -- A list was read, and the symbol that it stands under is still to come, before a token that begins no other.
 abbrev EachReadsBy : {A : Type 0} → Mode → ℕ → Symbol → (List Tok → Bool) → (A → Span) → List Tok → Read (List A) → Type 0
@@ -32,12 +32,13 @@ each_reads m zero room symbol single goes S one ts h lt = absurd (omega arith)
 each_reads {A = A} m (suc n) room symbol single goes S one ts h lt = elim (test (goes ts)) [
   | inr e ↦ rw e (record { reads = (record { comes = λ stack. refl }, refl, omega arith, e) })
   | inl e ↦ rw e (first (λ t1 l. each_reads m n room symbol single goes S one t1 h (omega arith)) (h.opens ts e) (one ts) (h.reads ts))
-  ]
+]
   where
     second : (x : A) (t1 : List Tok) → Comes m room (symbol ∷ []) ts room (symbol ∷ []) t1 → S x ts t1 → length t1 < length ts → (o : Read (List A)) → EachReads m room symbol goes S t1 o
         → EachReads m room symbol goes S ts (o >>= λ more. Ok (x ∷ more.0, more.1))
     second x t1 c s l (Ok p) g = record { reads = (record { comes = λ stack. c.comes stack ∙ g.reads.0.comes stack }, (t1, s, g.reads.1), omega (arith, g.reads.2), g.reads.3) }
     second x t1 c s l (Err left) g = record { reads = record { stops = λ stack. c.comes stack ∙ g.reads.stops stack } }
+
     first : ((t1 : List Tok) → length t1 < length ts → EachReads m room symbol goes S t1 (each_by goes one n t1)) → Comes m room (symbol ∷ []) ts room (single ∷ symbol ∷ []) ts
         → (o : Read A) → Reads m room (single ∷ []) ts room (λ x rest. S x ts rest × (length rest < length ts)) o
         → EachReads m room symbol goes S ts (o >>= λ x. each_by goes one n x.1 >>= λ more. Ok (x.0 ∷ more.0, more.1))
@@ -63,7 +64,6 @@ pub then_each : {A B : Type 0} {m : Mode} {room : ℕ} {symbol symbol2 : Symbol}
 then_each {more = more} {o = Ok p} f g c k = after g.reads.2 (record { comes = λ stack. g.reads.0.comes (more ++ stack) ∙ (c p.1 g.reads.3).comes (more ++ stack) }) (k p.0 p.1 g.reads.1 g.reads.2)
 then_each {more = more} {o = Err left} f g c k = record { reads = record { stops = λ stack. g.reads.stops (more ++ stack) } }
 
-
 -- ---- up to a closing brace
 
 -- what one member of the list, and the symbol of the list, have to meet
@@ -83,14 +83,14 @@ until_reads m (suc n) room ends single S member [] h lt =
     done (gm.0, (t1, gx.0, gm.1), gm.2))))
 until_reads m (suc n) room ends single S member (t ∷ ts) h lt = elim (test (is_mark mark.RightBrace t.word)) [
   | inl eq ↦
-    let is : t.word ≡ Sign mark.RightBrace = is_mark_is mark.RightBrace t.word eq in
-    rw eq (takes_first (h.closes t.word eq) (rw is refl) (done (t ∷ ts, refl, (is, refl))))
+      let is : t.word ≡ Sign mark.RightBrace = is_mark_is mark.RightBrace t.word eq in
+      rw eq (takes_first (h.closes t.word eq) (rw is refl) (done (t ∷ ts, refl, (is, refl))))
   | inr eq ↦
-    rw eq (after (omega arith) (h.opens (t ∷ ts) eq) (
-    then_read _ (h.reads (t ∷ ts)) (λ x t1 gx lx.
-    then_read _ (until_reads m n room ends single S member t1 h (omega (arith, gx.1))) (λ more rest gm lm.
-    done (gm.0, (t1, gx.0, gm.1), gm.2)))))
-  ]
+      rw eq (after (omega arith) (h.opens (t ∷ ts) eq) (
+      then_read _ (h.reads (t ∷ ts)) (λ x t1 gx lx.
+      then_read _ (until_reads m n room ends single S member t1 h (omega (arith, gx.1))) (λ more rest gm lm.
+      done (gm.0, (t1, gx.0, gm.1), gm.2)))))
+]
 
 -- a list whose symbol goes where a member's symbol goes
 settle_until : (m : Mode) (ends single : Symbol) (f : Option (List Symbol)) (stack : List Symbol) (w : Word) → step m ends w ≡ until_step w f ends → step m single w ≡ lead f [] → is_mark mark.RightBrace w ≡ false
@@ -145,12 +145,12 @@ pub else_reads : {A B : Type 0} (symbol ends : Symbol) (S : A → Span) (T : B �
 else_reads symbol ends S T none some room inner [] e h = passes_end e.ends_so (e.nothing [])
 else_reads symbol ends S T none some room inner (t ∷ ts) e h = elim (test (is_keyword keyword.Else t.word)) [
   | inl eq ↦
-    let is : t.word ≡ Reserved keyword.Else = is_keyword_is keyword.Else t.word eq in
-    rw eq (takes_first (e.steps t.word ∙ rw eq refl) (rw is refl) (
-    then_seen _ (body_reads ends S room inner ts h) (λ b rest gb lb.
-    e.something b (t ∷ ts) rest (ts, (is, refl), gb))))
+      let is : t.word ≡ Reserved keyword.Else = is_keyword_is keyword.Else t.word eq in
+      rw eq (takes_first (e.steps t.word ∙ rw eq refl) (rw is refl) (
+      then_seen _ (body_reads ends S room inner ts h) (λ b rest gb lb.
+      e.something b (t ∷ ts) rest (ts, (is, refl), gb))))
   | inr eq ↦ rw eq (passes (e.steps t.word ∙ rw eq refl) (e.nothing (t ∷ ts)))
-  ]
+]
 
 -- what a reader of a member takes is shorter
 pub takes : {A : Type 0} (m : Mode) (room : ℕ) (more : List Symbol) (S : A → Span) (ts : List Tok) (x : A) (rest : List Tok) (o : Read A) → Reads m room more ts room (λ x rest. S x ts rest × (length rest < length ts)) o → o ≡ Ok (x, rest) → length rest < length ts

@@ -1,10 +1,9 @@
 -- Loops that read lists.
-use Rattle.std.proofs.Common.{◌≡◌, ◌<◌, ◌-◌, ℕ, zero, suc, Bool, true, false, cond, List, [], ◌∷◌, ◌++◌, length, map, Result, Ok, Err, refl, sym, ap, subst, ◌∙◌, arith, append_assoc, append-nil}
+use Rattle.std.proofs.Common.{◌≡◌, ◌<◌, ◌-◌, ℕ, zero, suc, Bool, true, false, cond, List, [], ◌∷◌, ◌++◌, length, Result, Ok, Err, refl, sym, ap, subst, ◌∙◌, arith, append_assoc, append-nil}
 use Rattle.std.proofs.lemmas.List.{length-map}
 use Rattle.gen_token.specs.declared.Placed as code
 use Rattle.gen_token.specs.declared.Mark.TheVariants as mark
 use Rattle.gen_token.specs.Words.{Tok, placed}
-use Rattle.gen_tree.specs.Tree.{Module}
 use Rattle.gen_text.specs.declared.fault.ReadFault.{ReadFault}
 use Rattle.gen_text.specs.declared.fault.ReadFault.TheVariants as faults
 use Rattle.gen_text.specs.Faults.{Fails}

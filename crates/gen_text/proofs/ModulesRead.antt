@@ -1,19 +1,19 @@
 -- Ports and modules are read as they are spelled.
-use Rattle.std.proofs.Common.{◌≡◌, ◌≤◌, ◌<◌, ◌-◌, ℕ, zero, suc, Bool, true, false, cond, List, [], ◌∷◌, ◌++◌, length, Option, Some, None, is_some, Result, Ok, Err, refl, sym, ap, subst, ◌∙◌, arith, ◌⊎◌, inl, inr}
+use Rattle.std.proofs.Common.{◌≡◌, ◌<◌, ◌-◌, ℕ, suc, Bool, true, false, List, [], ◌∷◌, length, Option, Some, None, is_some, Result, Ok, Err, refl, arith, inl, inr}
 use Rattle.gen_token.specs.declared.Keyword.TheVariants as keyword
 use Rattle.gen_token.specs.declared.Mark.TheVariants as mark
 use Rattle.gen_token.specs.Words.{Word, Name, Number, Literal, Reserved, Sign, Tok}
 use Rattle.gen_tree.specs.declared.Mode.TheVariants as mode
 use Rattle.gen_tree.specs.Brackets.{room_after}
 use Rattle.gen_tree.specs.Tree.{Param, Items, Port, Module}
-use Rattle.gen_tree.specs.Grammar.{Span, ◌⨾◌, Single, Sym, Key, Each, SpellsItems, SpellsPort, SpellsModule, direction}
-use Rattle.gen_text.specs.Forms.{is_mark, is_keyword, port_form, item_form}
-use Rattle.gen_text.specs.Reading.{Read, ◌>>=◌, begins, each_by, each_at, open_at, params_at, items_until, item_at, port_at, port_by, port_rest_at, begins_port, ports_at, content_at, module_at, module_rest_at, module_body_at}
-use Rattle.gen_text.proofs.Machine.{Symbol, need, sign, need_name, an_int, params, a_port, ports_end, items_end, a_module, port_symbols, module_symbols, if_some, step, settle, run, at_end}
-use Rattle.gen_text.proofs.Moves.{Comes, Stops, Reads, after, then_read, then_word, maps, done, begins as takes_first, refuses, refuses_end}
+use Rattle.gen_tree.specs.Grammar.{SpellsPort, SpellsModule, direction}
+use Rattle.gen_text.specs.Forms.{is_keyword, port_form}
+use Rattle.gen_text.specs.Reading.{Read, ◌>>=◌, each_at, open_at, params_at, items_until, item_at, port_at, port_by, port_rest_at, begins_port, content_at, module_at, module_rest_at, module_body_at}
+use Rattle.gen_text.proofs.Machine.{Symbol, sign, a_port, ports_end, items_end, a_module, port_symbols, module_symbols, settle, run, at_end}
+use Rattle.gen_text.proofs.Moves.{Comes, Reads, then_read, then_word, done, begins as takes_first, refuses, refuses_end}
 use Rattle.gen_text.proofs.WordsRead.{test, is_keyword_is, word_reads, then_open, name_reads}
 use Rattle.gen_text.proofs.IntsRead.{int_reads}
-use Rattle.gen_text.proofs.Lists.{EachReads, OneOf, each_reads, then_each, takes}
+use Rattle.gen_text.proofs.Lists.{EachReads, each_reads, then_each, takes}
 use Rattle.gen_text.proofs.Loops.{Shortens}
 use Rattle.gen_text.proofs.ItemsRead.{params_read, items_read}
 
@@ -108,14 +108,17 @@ module_flat room line x ts = first (params_at room ts)
     fourth : (pars : List Param) (ports : List Port) (o : Read Items) → ((o >>= λ body. both ports body.0 body.1) >>= λ content. named line x pars content.0 content.1) ≡ (o >>= λ body. named_so line x pars ports body.0 body.1)
     fourth pars ports (Err left) = refl
     fourth pars ports (Ok body) = refl
+
     third : (pars : List Param) (o : Read (List Port)) → ((o >>= λ ports. with_ports room ports.0 ports.1) >>= λ content. named line x pars content.0 content.1)
         ≡ (o >>= λ ports. items_until (item_at (room - 1)) ports.1 >>= λ body. named_so line x pars ports.0 body.0 body.1)
     third pars (Err left) = refl
     third pars (Ok ports) = fourth pars ports.0 (items_until (item_at (room - 1)) ports.1)
+
     second : (pars : List Param) (o : Result (List Tok) ℕ) → (((o >>= λ t. each_at begins_port (port_at (room - 1)) t) >>= λ ports. with_ports room ports.0 ports.1) >>= λ content. named line x pars content.0 content.1)
         ≡ (o >>= λ t. each_at begins_port (port_at (room - 1)) t >>= λ ports. items_until (item_at (room - 1)) ports.1 >>= λ body. named_so line x pars ports.0 body.0 body.1)
     second pars (Err left) = refl
     second pars (Ok t) = third pars (each_at begins_port (port_at (room - 1)) t)
+
     first : (o : Read (List Param)) → (o >>= λ pars. content_at room pars.1 >>= λ content. named line x pars.0 content.0 content.1)
         ≡ (o >>= λ pars. open_at mark.LeftBrace room pars.1 >>= λ t. each_at begins_port (port_at (room - 1)) t >>= λ ports. items_until (item_at (room - 1)) ports.1 >>= λ body. named_so line x pars.0 ports.0 body.0 body.1)
     first (Err left) = refl
@@ -139,10 +142,10 @@ unfolding module_at
 module_reads room [] = refuses_end refl
 module_reads room (t ∷ ts) = elim (test (is_keyword keyword.Module t.word)) [
   | inl e ↦
-    let is : t.word ≡ Reserved keyword.Module = is_keyword_is keyword.Module t.word e in
-    rw e (takes_first (rw e refl) (rw is refl) (module_rest_reads room t ts is))
+      let is : t.word ≡ Reserved keyword.Module = is_keyword_is keyword.Module t.word e in
+      rw e (takes_first (rw e refl) (rw is refl) (module_rest_reads room t ts is))
   | inr e ↦ rw e (refuses (rw e refl))
-  ]
+]
 
 pub ports_shorten : (room : ℕ) → Shortens (port_at room)
 ports_shorten room = record { shortens = λ ts x rest e. takes mode.Source room _ SpellsPort ts x rest _ (port_reads room ts) e }

@@ -1,10 +1,10 @@
 -- How the machine goes over one token, and over what a reader reads.
-use Rattle.std.proofs.Common.{◌≡◌, ◌≤◌, ◌<◌, le_trans, le_refl, ℕ, zero, suc, Bool, true, false, cond, List, [], ◌∷◌, ◌++◌, length, Option, Some, None, Result, Ok, Err, refl, sym, ap, subst, ◌∙◌, arith, append_assoc}
+use Rattle.std.proofs.Common.{◌≡◌, ◌≤◌, le_trans, ℕ, suc, true, false, List, [], ◌∷◌, ◌++◌, length, Some, None, Result, Ok, Err, refl, ◌∙◌, arith, append_assoc}
 use Rattle.gen_token.specs.Words.{Tok}
 use Rattle.gen_tree.specs.declared.Mode.{Mode}
 use Rattle.gen_tree.specs.Brackets.{room_after}
 use Rattle.gen_text.specs.Reading.{Read, ◌>>=◌, seen}
-use Rattle.gen_text.proofs.Machine.{Symbol, Move, shift, skip, stuck, step, may_end, settle, settle_by, run, run_by, at_end, End, accepted, stopped}
+use Rattle.gen_text.proofs.Machine.{Symbol, shift, skip, stuck, step, may_end, settle, run, at_end, stopped}
 
 pub shifted : (m : Mode) (room room2 : ℕ) (symbol : Symbol) (stack more : List Symbol) (t : Tok) (ts : List Tok) → step m symbol t.word ≡ shift more → room_after room t.word ≡ Some room2
     → run m room (symbol ∷ stack) (t ∷ ts) ≡ run m room2 (more ++ stack) ts

@@ -1,10 +1,9 @@
 -- What a tree spells is read as that tree: integers and expressions.
-use Rattle.std.proofs.Common.{◌≡◌, ◌≤◌, ◌-◌, ℕ, zero, suc, max, Bool, true, false, cond, List, [], ◌∷◌, ◌++◌, length, Option, Some, None, Result, Ok, Err, refl, sym, ap, subst, ◌∙◌, arith}
+use Rattle.std.proofs.Common.{◌≡◌, ◌≤◌, ◌-◌, ℕ, zero, suc, Bool, true, false, List, [], ◌∷◌, Option, Some, None, Ok, refl, ◌∙◌, arith}
 use Rattle.gen_token.specs.declared.Keyword.{Keyword}
-use Rattle.gen_token.specs.declared.Keyword.TheVariants as keyword
 use Rattle.gen_token.specs.declared.Mark.{Mark}
 use Rattle.gen_token.specs.declared.Mark.TheVariants as mark
-use Rattle.gen_token.specs.Words.{Word, Name, Number, Literal, Reserved, Sign, Tok}
+use Rattle.gen_token.specs.Words.{Word, Name, Sign, Tok}
 use Rattle.gen_tree.specs.declared.IntOp.{IntOp}
 use Rattle.gen_tree.specs.declared.IntOp.TheVariants as int_op
 use Rattle.gen_tree.specs.declared.Cmp.{Cmp}
@@ -16,9 +15,9 @@ use Rattle.gen_tree.specs.declared.Op.TheVariants as op
 use Rattle.gen_tree.specs.declared.Mode.{Mode}
 use Rattle.gen_tree.specs.declared.Mode.TheVariants as mode
 use Rattle.gen_tree.specs.Tree.{Int, num, var, bin, Fam, Lit, plain, bits, Expr, read, out, value, unary, binary, mux, zext, slice}
-use Rattle.gen_tree.specs.Grammar.{Single, Sym, Key, SpellsInt, SpellsIndex, SpellsFam, SpellsLit, SpellsRead, SpellsTwo, SpellsPrim, SpellsExpr, int_op_mark, cmp_mark, op_mark, un_op_word}
-use Rattle.gen_text.specs.Forms.{is_mark, is_keyword}
-use Rattle.gen_text.specs.Reading.{Read, ◌>>=◌, seen, behind, mark_at, keyword_at, begins, rest_of, name_at, within, open_at, int_at, int_by, int_op_at, cmp_at, index_at, fam_rest_at, fam_at, bits_at, lit_at, dot_at, read_at, op_at, prim_step, slice_at, expr_step, expr_at, inner_expr}
+use Rattle.gen_tree.specs.Grammar.{Single, Sym, Key, SpellsInt, SpellsIndex, SpellsFam, SpellsLit, SpellsTwo, SpellsPrim, SpellsExpr, int_op_mark, cmp_mark, op_mark}
+use Rattle.gen_text.specs.Forms.{is_mark}
+use Rattle.gen_text.specs.Reading.{behind, mark_at, keyword_at, begins, rest_of, name_at, open_at, int_at, int_op_at, cmp_at, index_at, fam_rest_at, fam_at, lit_at, op_at, prim_step, expr_step, expr_at, inner_expr}
 use Rattle.gen_text.proofs.Machine.{Fixed, key, sign, fixed_word, is_fixed}
 use Rattle.gen_text.proofs.WordsRead.{is_itself}
 use Rattle.gen_text.proofs.Depth.{int_depth, index_depth, lit_depth, expr_depth}
@@ -254,10 +253,17 @@ mux_only c a b oc oa ob = record { only = λ m room ts rest le h s d. by m room 
     by m room [] rest le h = absurd h.1
     by m zero (t ∷ ts) rest le h = absurd (omega arith)
     by m (suc room) (t ∷ ts) rest le (t1, w, (t2, s1, (t3, sc, (t4, s2, (t5, sa, (t6, s3, (t7, sb, s4))))))) =
-        rw (w.0, w.1, mark_only mark.LeftParen t1 t2 s1,
-          oc.only m room t2 t3 (omega arith) sc (follows_comma t3 t4 s2), mark_only mark.Comma t3 t4 s2,
-          oa.only m room t4 t5 (omega arith) sa (follows_comma t5 t6 s3), mark_only mark.Comma t5 t6 s3,
-          ob.only m room t6 t7 (omega arith) sb (follows_close t7 rest s4), mark_only mark.RightParen t7 rest s4) refl
+        rw (
+          w.0,
+          w.1,
+          mark_only mark.LeftParen t1 t2 s1,
+          oc.only m room t2 t3 (omega arith) sc (follows_comma t3 t4 s2),
+          mark_only mark.Comma t3 t4 s2,
+          oa.only m room t4 t5 (omega arith) sa (follows_comma t5 t6 s3),
+          mark_only mark.Comma t5 t6 s3,
+          ob.only m room t6 t7 (omega arith) sb (follows_close t7 rest s4),
+          mark_only mark.RightParen t7 rest s4,
+        ) refl
 
 slice_only : (e : Expr) (i j : Int) → PrimOnly e → ExprOnly (slice e i j)
 slice_only e i j p = record { only = λ m room ts rest le h f. by m room ts rest le h }
@@ -266,8 +272,16 @@ slice_only e i j p = record { only = λ m room ts rest le h f. by m room ts rest
     by m zero ts rest le h = absurd (omega arith)
     by m (suc room) ts rest le (t1, sp, (t2, w, (t3, si, (t4, w2, (t5, sj, w3))))) =
         let next = next_is (sign mark.LeftBracket) t1 t2 w in
-        expr_opened m (suc room) ts ∙ rw (p.only m (suc room) ts t1 (omega arith) sp (not_next (is_mark mark.Hash) (Sign mark.LeftBracket) t1 t2 refl w) (not_next (is_mark mark.Dot) (Sign mark.LeftBracket) t1 t2 refl w), next.0,
-          mark_only mark.LeftBracket t1 t2 w, less_one room, int_only m i room t2 t3 (omega arith) si, mark_only mark.Colon t3 t4 w2, int_only m j room t4 t5 (omega arith) sj, mark_only mark.RightBracket t5 rest w3) refl
+        expr_opened m (suc room) ts ∙ rw (
+          p.only m (suc room) ts t1 (omega arith) sp (not_next (is_mark mark.Hash) (Sign mark.LeftBracket) t1 t2 refl w) (not_next (is_mark mark.Dot) (Sign mark.LeftBracket) t1 t2 refl w),
+          next.0,
+          mark_only mark.LeftBracket t1 t2 w,
+          less_one room,
+          int_only m i room t2 t3 (omega arith) si,
+          mark_only mark.Colon t3 t4 w2,
+          int_only m j room t4 t5 (omega arith) sj,
+          mark_only mark.RightBracket t5 rest w3,
+        ) refl
 
 both : (e : Expr) → PrimOnly e × ExprOnly e
 both (read f) = (read_only f, from_prim (read f) (λ m ts rest h. h) (read_only f))

@@ -1,20 +1,19 @@
 -- What a tree spells is read as that tree: parameters, connections and items.
-use Rattle.std.proofs.Common.{◌≡◌, ◌≤◌, ◌<◌, ◌-◌, ℕ, zero, suc, max, Bool, true, false, cond, List, [], ◌∷◌, ◌++◌, length, Option, Some, None, Result, Ok, Err, refl, sym, ap, subst, ◌∙◌, arith}
+use Rattle.std.proofs.Common.{◌≡◌, ◌≤◌, ◌<◌, ℕ, zero, suc, Bool, true, false, cond, List, [], ◌∷◌, length, Ok, refl, ap, ◌∙◌, arith}
 use Rattle.gen_token.specs.declared.Keyword.TheVariants as keyword
 use Rattle.gen_token.specs.declared.Mark.TheVariants as mark
 use Rattle.gen_token.specs.Words.{Word, Name, Reserved, Sign, Tok}
-use Rattle.gen_tree.specs.declared.Cmp.{Cmp}
 use Rattle.gen_tree.specs.declared.Mode.TheVariants as mode
 use Rattle.gen_tree.specs.Tree.{Int, Fam, Lit, Stmts, Param, Conn, Item, wire, reg, inst, comb, ff, repeat_items, given_items, Items, no_item, item, items, ElseItems, no_else_items, otherwise_items}
-use Rattle.gen_tree.specs.Grammar.{Span, ◌⨾◌, Single, Sym, Key, Each, Braces, SpellsParam, SpellsMoreParams, SpellsParams, SpellsConn, SpellsItem, SpellsItems, SpellsElseItems}
+use Rattle.gen_tree.specs.Grammar.{Span, ◌⨾◌, Sym, Each, Braces, SpellsParam, SpellsParams, SpellsConn, SpellsItem, SpellsItems, SpellsElseItems}
 use Rattle.gen_text.specs.Forms.{is_mark, is_keyword}
-use Rattle.gen_text.specs.Reading.{Read, ◌>>=◌, seen, behind, begins, rest_of, until_by, until_at, each_by, each_at, param_at, more_param_at, begins_param, params_in_at, params_at, conn_at, conns_at, body_by, else_items_at, item_step, items_until, item_at, inner_items}
-use Rattle.gen_text.proofs.Machine.{key, sign, an_item}
+use Rattle.gen_text.specs.Reading.{begins, until_at, each_at, param_at, more_param_at, begins_param, params_in_at, params_at, conn_at, conns_at, body_by, else_items_at, item_step, items_until, item_at, inner_items}
+use Rattle.gen_text.proofs.Machine.{key, sign}
 use Rattle.gen_text.proofs.Lists.{each_only, until_only, takes}
 use Rattle.gen_text.proofs.ItemsRead.{conn_reads, item_reads, more_param_reads, params_flat}
-use Rattle.gen_text.proofs.Loops.{Shortens, Bodies}
-use Rattle.gen_text.proofs.Depth.{int_depth, index_depth, lit_depth, expr_depth, stmts_depth, each_depth, param_depth, params_depth, conn_depth, item_depth, items_depth, else_items_depth}
-use Rattle.gen_text.proofs.OnlyExprs.{mark_only, key_only, not_next, next_is, name_only, less_one, int_only, fam_only, lit_only, source_expr_only}
+use Rattle.gen_text.proofs.Loops.{Bodies}
+use Rattle.gen_text.proofs.Depth.{each_depth, param_depth, params_depth, conn_depth, item_depth, items_depth, else_items_depth}
+use Rattle.gen_text.proofs.OnlyExprs.{mark_only, not_next, next_is, name_only, less_one, int_only, fam_only, lit_only, source_expr_only}
 use Rattle.gen_text.proofs.OnlyStmts.{turns_only, given_only, block_only}
 
 pub within_each : {A : Type 0} (S : A → Span) (f : A → ℕ) (room : ℕ) (xs : List A) (ts rest : List Tok) → each_depth f xs ≤ room → Each S xs ts rest → Each (λ x ts rest. S x ts rest × (f x ≤ room)) xs ts rest
@@ -40,7 +39,7 @@ params_only (p ∷ ps) zero ts rest le h ne = absurd (omega arith)
 params_only (p ∷ ps) (suc room) ts rest le (t1, w, (t2, sp, (t3, ss, w2))) ne =
     let first : param_at room t1 ≡ Ok (p, t2) = param_only p room t1 t2 (omega arith) sp in
     let more : each_at begins_param (more_param_at room) t2 ≡ Ok (ps, t3) =
-        each_only ps (suc (length t2)) begins_param (λ p ts rest. More p ts rest × (param_depth p ≤ room)) (more_param_at room) t2 t3 (more_only room) (not_next (is_mark mark.Comma) (Sign mark.RightParen) t3 rest refl w2) (omega arith) (within_each More param_depth room ps t2 t3 (omega arith) ss) in
+    each_only ps (suc (length t2)) begins_param (λ p ts rest. More p ts rest × (param_depth p ≤ room)) (more_param_at room) t2 t3 (more_only room) (not_next (is_mark mark.Comma) (Sign mark.RightParen) t3 rest refl w2) (omega arith) (within_each More param_depth room ps t2 t3 (omega arith) ss) in
     let next = next_is (sign mark.LeftParen) ts t1 w in
     let inside : params_in_at (suc room) ts ≡ Ok (p ∷ ps, rest) = params_flat (suc room) ts ∙ rw (mark_only mark.LeftParen ts t1 w, less_one room, first, more, mark_only mark.RightParen t3 rest w2) refl in
     ap (λ b. cond b (params_in_at (suc room) ts) (Ok ([], ts))) next.0 ∙ inside
@@ -124,7 +123,7 @@ AreRead room b ts mid = Each (λ i ts rest. SpellsItem i ts rest × (item_at roo
 until_items : (b : Items) (room : ℕ) (ts mid rest : List Tok) → AreRead room b ts mid → Sym mark.RightBrace mid rest → items_until (item_at room) ts ≡ Ok (b, rest)
 until_items b room ts mid rest h s =
     let all : until_at (item_at room) ts ≡ Ok (list_of b, rest) =
-        until_only (list_of b) (suc (length ts)) SpellsItem (item_at room) ts mid rest (λ i ts rest g e. (item_not (is_mark mark.RightBrace) i ts rest no_brace g, item_shorter room i ts rest e)) h (next_is (sign mark.RightBrace) mid rest s) (omega arith) in
+    until_only (list_of b) (suc (length ts)) SpellsItem (item_at room) ts mid rest (λ i ts rest g e. (item_not (is_mark mark.RightBrace) i ts rest no_brace g, item_shorter room i ts rest e)) h (next_is (sign mark.RightBrace) mid rest s) (omega arith) in
     rw (all, list_is b) refl
 
 body_only : (b : Items) (room : ℕ) (ts t1 mid rest : List Tok) → Sym mark.LeftBrace ts t1 → AreRead room b t1 mid → Sym mark.RightBrace mid rest
@@ -141,15 +140,32 @@ wire_only line f w room (t ∷ ts) rest le (ln, (t1, k, (t2, sf, (t3, s1, (t4, s
 reg_only : (line : ℕ) (f : Fam) (w : Int) (l : Lit) (room : ℕ) (ts rest : List Tok) → item_depth (reg line f w l) ≤ room → SpellsItem (reg line f w l) ts rest → item_step room (inner_items room) ts ≡ Ok (reg line f w l, rest)
 reg_only line f w l room [] rest le h = absurd h.0
 reg_only line f w l room (t ∷ ts) rest le (ln, (t1, k, (t2, sf, (t3, s1, (t4, sw, (t5, s2, (t6, sl, s3))))))) =
-    rw (k.0, k.1, ln, fam_only f room t1 t2 (omega arith) sf (not_next (is_mark mark.Hash) (Sign mark.Colon) t2 t3 refl s1), mark_only mark.Colon t2 t3 s1, int_only mode.Source w room t3 t4 (omega arith) sw,
-      mark_only mark.Equals t4 t5 s2, lit_only mode.Source l room t5 t6 (omega arith) sl, mark_only mark.Semicolon t6 rest s3) refl
+    rw (
+      k.0,
+      k.1,
+      ln,
+      fam_only f room t1 t2 (omega arith) sf (not_next (is_mark mark.Hash) (Sign mark.Colon) t2 t3 refl s1),
+      mark_only mark.Colon t2 t3 s1,
+      int_only mode.Source w room t3 t4 (omega arith) sw,
+      mark_only mark.Equals t4 t5 s2,
+      lit_only mode.Source l room t5 t6 (omega arith) sl,
+      mark_only mark.Semicolon t6 rest s3,
+    ) refl
 
 inst_only : (line : ℕ) (f : Fam) (x : List ℕ) (args : List Param) (conns : List Conn) (room : ℕ) (ts rest : List Tok) → item_depth (inst line f x args conns) ≤ room → SpellsItem (inst line f x args conns) ts rest
     → item_step room (inner_items room) ts ≡ Ok (inst line f x args conns, rest)
 inst_only line f x args conns room [] rest le h = absurd h.0
 inst_only line f x args conns room (t ∷ ts) rest le (ln, (t1, k, (t2, sf, (t3, s1, (t4, n, (t5, sp, (t6, s2, more))))))) =
-    rw (k.0, k.1, ln, fam_only f room t1 t2 (omega arith) sf (not_next (is_mark mark.Hash) (Sign mark.Colon) t2 t3 refl s1), mark_only mark.Colon t2 t3 s1, name_only x t3 t4 n,
-      params_only args room t4 t5 (omega arith) sp (not_next (is_mark mark.LeftParen) (Sign mark.LeftBrace) t5 t6 refl s2), conns_only conns room t5 rest (omega arith) (t6, s2, more)) refl
+    rw (
+      k.0,
+      k.1,
+      ln,
+      fam_only f room t1 t2 (omega arith) sf (not_next (is_mark mark.Hash) (Sign mark.Colon) t2 t3 refl s1),
+      mark_only mark.Colon t2 t3 s1,
+      name_only x t3 t4 n,
+      params_only args room t4 t5 (omega arith) sp (not_next (is_mark mark.LeftParen) (Sign mark.LeftBrace) t5 t6 refl s2),
+      conns_only conns room t5 rest (omega arith) (t6, s2, more),
+    ) refl
 
 comb_only : (line : ℕ) (b : Stmts) (room : ℕ) (ts rest : List Tok) → item_depth (comb line b) ≤ room → SpellsItem (comb line b) ts rest → item_step room (inner_items room) ts ≡ Ok (comb line b, rest)
 comb_only line b room [] rest le h = absurd h.0
@@ -175,8 +191,13 @@ mutual
   item_only (given_items line a c b first second) zero (t ∷ ts) rest le h ne = absurd (omega arith)
   item_only (given_items line a c b first second) (suc room) (t ∷ ts) rest le (ln, (t1, head, (t4, (t2, w2, (t3, sa, w3)), sb))) ne =
       let g = given_only a c b (suc room) t ts t1 (omega arith) head in
-      rw (g.0, ln, g.1, body_only first room t1 t2 t3 t4 w2 (items_only first room t2 t3 t4 (omega arith) sa w3) w3,
-        else_only second (suc room) t4 rest (omega arith) sb ne) refl
+      rw (
+        g.0,
+        ln,
+        g.1,
+        body_only first room t1 t2 t3 t4 w2 (items_only first room t2 t3 t4 (omega arith) sa w3) w3,
+        else_only second (suc room) t4 rest (omega arith) sb ne,
+      ) refl
 
   items_only : (b : Items) (room : ℕ) (ts mid rest : List Tok) → items_depth b ≤ room → SpellsItems b ts mid → Sym mark.RightBrace mid rest → AreRead room b ts mid
   items_only no_item room ts mid rest le h w = h

@@ -1,17 +1,16 @@
 -- What a tree spells is read as that tree: modules.
-use Rattle.std.proofs.Common.{◌≡◌, ◌≤◌, ◌<◌, ◌-◌, ℕ, zero, suc, max, Bool, true, false, cond, List, [], ◌∷◌, ◌++◌, length, Option, Some, None, is_some, Result, Ok, Err, refl, sym, ap, subst, ◌∙◌, arith}
-use Rattle.gen_token.specs.declared.Keyword.TheVariants as keyword
+use Rattle.std.proofs.Common.{◌≡◌, ◌≤◌, ◌<◌, ℕ, zero, suc, Bool, true, false, List, [], ◌∷◌, length, is_some, Ok, refl, sym, ap, ◌∙◌, arith}
 use Rattle.gen_token.specs.declared.Mark.TheVariants as mark
-use Rattle.gen_token.specs.Words.{Word, Name, Reserved, Sign, Tok}
+use Rattle.gen_token.specs.Words.{Reserved, Sign, Tok}
 use Rattle.gen_tree.specs.declared.Mode.TheVariants as mode
 use Rattle.gen_tree.specs.Tree.{Items, no_item, item, Port, Module}
-use Rattle.gen_tree.specs.Grammar.{Span, ◌⨾◌, Single, Sym, Key, Each, SpellsItem, SpellsItems, SpellsPort, SpellsModule, direction}
-use Rattle.gen_text.specs.Forms.{is_mark, is_keyword, port_form}
-use Rattle.gen_text.specs.Reading.{Read, ◌>>=◌, begins, each_by, each_at, port_at, port_by, begins_port, module_at, none_left, source_by, source_at}
+use Rattle.gen_tree.specs.Grammar.{Sym, Key, Each, SpellsItems, SpellsPort, SpellsModule, direction}
+use Rattle.gen_text.specs.Forms.{is_mark, port_form}
+use Rattle.gen_text.specs.Reading.{port_at, begins_port, module_at, none_left, source_by}
 use Rattle.gen_text.proofs.Lists.{each_only, takes}
 use Rattle.gen_text.proofs.ModulesRead.{port_reads, module_reads, module_flat}
-use Rattle.gen_text.proofs.Depth.{int_depth, each_depth, params_depth, port_depth, items_depth, module_depth}
-use Rattle.gen_text.proofs.OnlyExprs.{mark_only, key_only, not_next, next_is, name_only, less_one, int_only}
+use Rattle.gen_text.proofs.Depth.{each_depth, port_depth, module_depth}
+use Rattle.gen_text.proofs.OnlyExprs.{mark_only, not_next, name_only, less_one, int_only}
 use Rattle.gen_text.proofs.OnlyItems.{within_each, params_only, NoItem, item_not, items_until_only}
 
 port_begins : (output : Bool) (ts rest : List Tok) → Key (direction output) ts rest → begins_port ts ≡ true
@@ -43,9 +42,18 @@ unfolding module_at
 module_only m room [] rest le h = absurd h.0
 module_only m zero (t ∷ ts) rest le h = absurd (omega arith)
 module_only m (suc room) (t ∷ ts) rest le (ln, (t1, w, (t2, x, (t3, ps, (t4, o, (t5, qs, (t6, is, c))))))) =
-    rw (w.0, w.1, ln, name_only m.name t1 t2 x, module_flat (suc room) m.line m.name t2, params_only m.params (suc room) t2 t3 (omega arith) ps (not_next (is_mark mark.LeftParen) (Sign mark.LeftBrace) t3 t4 refl o), mark_only mark.LeftBrace t3 t4 o, less_one room,
+    rw (
+      w.0,
+      w.1,
+      ln,
+      name_only m.name t1 t2 x,
+      module_flat (suc room) m.line m.name t2,
+      params_only m.params (suc room) t2 t3 (omega arith) ps (not_next (is_mark mark.LeftParen) (Sign mark.LeftBrace) t3 t4 refl o),
+      mark_only mark.LeftBrace t3 t4 o,
+      less_one room,
       each_only m.ports (suc (length t4)) begins_port (λ p ts rest. SpellsPort p ts rest × (port_depth p ≤ room)) (port_at room) t4 t5 (port_only room) (items_no_port m.items t5 t6 rest is c) (omega arith) (within_each SpellsPort port_depth room m.ports t4 t5 (omega arith) qs),
-      items_until_only m.items room t5 t6 rest (omega arith) is c) refl
+      items_until_only m.items room t5 t6 rest (omega arith) is c,
+    ) refl
 
 pub module_shorter : (m : Module) (room : ℕ) (ts rest : List Tok) → module_at room ts ≡ Ok (m, rest) → length rest < length ts
 module_shorter m room ts rest e = takes mode.Source room _ SpellsModule ts m rest _ (module_reads room ts) e

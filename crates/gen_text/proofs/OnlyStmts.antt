@@ -1,19 +1,19 @@
 -- What a tree spells is read as that tree: statements.
-use Rattle.std.proofs.Common.{◌≡◌, ◌≤◌, ◌<◌, ◌-◌, ℕ, zero, suc, max, Bool, true, false, cond, List, [], ◌∷◌, ◌++◌, length, Option, Some, None, Result, Ok, Err, refl, sym, ap, subst, ◌∙◌, arith}
+use Rattle.std.proofs.Common.{◌≡◌, ◌≤◌, ◌<◌, ℕ, zero, suc, max, Bool, true, false, List, [], ◌∷◌, length, Ok, refl, ap, ◌∙◌, arith}
 use Rattle.gen_token.specs.declared.Keyword.TheVariants as keyword
 use Rattle.gen_token.specs.declared.Mark.TheVariants as mark
 use Rattle.gen_token.specs.Words.{Word, Name, Reserved, Sign, Tok}
 use Rattle.gen_tree.specs.declared.Cmp.{Cmp}
 use Rattle.gen_tree.specs.declared.Mode.TheVariants as mode
 use Rattle.gen_tree.specs.Tree.{Int, Fam, Expr, Stmt, assign, bind, choose, repeat, given, Stmts, no_stmt, stmt, stmts, Else, no_else, otherwise}
-use Rattle.gen_tree.specs.Grammar.{◌⨾◌, Single, Sym, Key, Each, Braces, SpellsTurns, SpellsGiven, SpellsStmt, SpellsStmts, SpellsElse, assign_mark}
+use Rattle.gen_tree.specs.Grammar.{Sym, Each, Braces, SpellsTurns, SpellsGiven, SpellsStmt, SpellsStmts, SpellsElse}
 use Rattle.gen_text.specs.Forms.{is_mark, is_keyword}
-use Rattle.gen_text.specs.Reading.{Read, ◌>>=◌, seen, behind, begins, rest_of, until_by, until_at, turns_at, given_at, body_by, else_by, else_at, stmt_step, stmts_until, stmt_at, inner_stmts}
-use Rattle.gen_text.proofs.Machine.{key, sign, a_stmt}
+use Rattle.gen_text.specs.Reading.{begins, until_at, turns_at, given_at, body_by, else_at, stmt_step, stmt_at, inner_stmts}
+use Rattle.gen_text.proofs.Machine.{key, sign}
 use Rattle.gen_text.proofs.Lists.{until_only, takes}
 use Rattle.gen_text.proofs.StmtsRead.{stmt_reads}
 use Rattle.gen_text.proofs.Loops.{Shortens, Bodies}
-use Rattle.gen_text.proofs.Depth.{int_depth, index_depth, expr_depth, stmt_depth, stmts_depth, else_depth}
+use Rattle.gen_text.proofs.Depth.{int_depth, stmt_depth, stmts_depth, else_depth}
 use Rattle.gen_text.proofs.OnlyExprs.{mark_only, key_only, not_next, next_is, name_only, less_one, cmp_only, int_only, fam_rest_only, fam_only, source_expr_only}
 
 pub stmt_opened : (clocked : Bool) (room : ℕ) (ts : List Tok) → stmt_at clocked room ts ≡ stmt_step clocked room (inner_stmts clocked room) ts
@@ -77,7 +77,7 @@ body_only : (clocked : Bool) (b : Stmts) (room : ℕ) (ts t1 mid rest : List Tok
     → body_by (suc room) (inner_stmts clocked (suc room)) ts ≡ Ok (b, rest)
 body_only clocked b room ts t1 mid rest s1 h s2 =
     let all : until_at (stmt_at clocked room) t1 ≡ Ok (list_of b, rest) =
-        until_only (list_of b) (suc (length t1)) (SpellsStmt clocked) (stmt_at clocked room) t1 mid rest (λ s ts rest g e. (not_brace clocked s ts rest g, stmt_shorter clocked room s ts rest e)) h (next_is (sign mark.RightBrace) mid rest s2) (omega arith) in
+    until_only (list_of b) (suc (length t1)) (SpellsStmt clocked) (stmt_at clocked room) t1 mid rest (λ s ts rest g e. (not_brace clocked s ts rest g, stmt_shorter clocked room s ts rest e)) h (next_is (sign mark.RightBrace) mid rest s2) (omega arith) in
     rw (mark_only mark.LeftBrace ts t1 s1, all, list_is b) refl
 
 -- ---- statements
@@ -85,17 +85,38 @@ body_only clocked b room ts t1 mid rest s1 h s2 =
 assign_only : (clocked : Bool) (line : ℕ) (f : Fam) (e : Expr) (room : ℕ) (ts rest : List Tok) → stmt_depth (assign line f e) ≤ room → SpellsStmt clocked (assign line f e) ts rest → stmt_step clocked room (inner_stmts clocked room) ts ≡ Ok (assign line f e, rest)
 assign_only clocked line f e room [] rest le h = absurd h.0
 assign_only true line f e room (t ∷ ts) rest le (ln, (t1, (t0, w, si), (t2, w2, (t3, se, w3)))) =
-    rw (w.0, w.1, ln, fam_rest_only mode.Source f room t0 t1 (omega arith) si (not_next (is_mark mark.Hash) (Sign mark.LessEquals) t1 t2 refl w2), mark_only mark.LessEquals t1 t2 w2,
-      source_expr_only e room t2 t3 rest (Sign mark.Semicolon) (omega arith) se refl refl refl w3, mark_only mark.Semicolon t3 rest w3) refl
+    rw (
+      w.0,
+      w.1,
+      ln,
+      fam_rest_only mode.Source f room t0 t1 (omega arith) si (not_next (is_mark mark.Hash) (Sign mark.LessEquals) t1 t2 refl w2),
+      mark_only mark.LessEquals t1 t2 w2,
+      source_expr_only e room t2 t3 rest (Sign mark.Semicolon) (omega arith) se refl refl refl w3,
+      mark_only mark.Semicolon t3 rest w3,
+    ) refl
 assign_only false line f e room (t ∷ ts) rest le (ln, (t1, (t0, w, si), (t2, w2, (t3, se, w3)))) =
-    rw (w.0, w.1, ln, fam_rest_only mode.Source f room t0 t1 (omega arith) si (not_next (is_mark mark.Hash) (Sign mark.Equals) t1 t2 refl w2), mark_only mark.Equals t1 t2 w2,
-      source_expr_only e room t2 t3 rest (Sign mark.Semicolon) (omega arith) se refl refl refl w3, mark_only mark.Semicolon t3 rest w3) refl
+    rw (
+      w.0,
+      w.1,
+      ln,
+      fam_rest_only mode.Source f room t0 t1 (omega arith) si (not_next (is_mark mark.Hash) (Sign mark.Equals) t1 t2 refl w2),
+      mark_only mark.Equals t1 t2 w2,
+      source_expr_only e room t2 t3 rest (Sign mark.Semicolon) (omega arith) se refl refl refl w3,
+      mark_only mark.Semicolon t3 rest w3,
+    ) refl
 
 let_only : (clocked : Bool) (line : ℕ) (f : Fam) (e : Expr) (room : ℕ) (ts rest : List Tok) → stmt_depth (bind line f e) ≤ room → SpellsStmt clocked (bind line f e) ts rest → stmt_step clocked room (inner_stmts clocked room) ts ≡ Ok (bind line f e, rest)
 let_only clocked line f e room [] rest le h = absurd h.0
 let_only clocked line f e room (t ∷ ts) rest le (ln, (t0, w, (t1, sf, (t2, w2, (t3, se, w3))))) =
-    rw (w.0, w.1, ln, fam_only f room t0 t1 (omega arith) sf (not_next (is_mark mark.Hash) (Sign mark.Equals) t1 t2 refl w2), mark_only mark.Equals t1 t2 w2,
-      source_expr_only e room t2 t3 rest (Sign mark.Semicolon) (omega arith) se refl refl refl w3, mark_only mark.Semicolon t3 rest w3) refl
+    rw (
+      w.0,
+      w.1,
+      ln,
+      fam_only f room t0 t1 (omega arith) sf (not_next (is_mark mark.Hash) (Sign mark.Equals) t1 t2 refl w2),
+      mark_only mark.Equals t1 t2 w2,
+      source_expr_only e room t2 t3 rest (Sign mark.Semicolon) (omega arith) se refl refl refl w3,
+      mark_only mark.Semicolon t3 rest w3,
+    ) refl
 
 mutual
   stmt_only : (s : Stmt) (clocked : Bool) (room : ℕ) (ts rest : List Tok) → stmt_depth s ≤ room → SpellsStmt clocked s ts rest → begins (is_keyword keyword.Else) rest ≡ false → stmt_step clocked room (inner_stmts clocked room) ts ≡ Ok (s, rest)
@@ -104,9 +125,14 @@ mutual
   stmt_only (choose line c a b) clocked room [] rest le h ne = absurd h.0
   stmt_only (choose line c a b) clocked zero (t ∷ ts) rest le h ne = absurd (omega arith)
   stmt_only (choose line c a b) clocked (suc room) (t ∷ ts) rest le (ln, (t1, w, (t2, sc, (t5, (t3, w2, (t4, sa, w3)), sb)))) ne =
-      rw (w.0, w.1, ln, source_expr_only c (suc room) t1 t2 t3 (Sign mark.LeftBrace) (omega arith) sc refl refl refl w2,
+      rw (
+        w.0,
+        w.1,
+        ln,
+        source_expr_only c (suc room) t1 t2 t3 (Sign mark.LeftBrace) (omega arith) sc refl refl refl w2,
         body_only clocked a room t2 t3 t4 t5 w2 (stmts_only a clocked room t3 t4 t5 (omega arith) sa w3) w3,
-        else_only b clocked (suc room) t5 rest (omega arith) sb ne) refl
+        else_only b clocked (suc room) t5 rest (omega arith) sb ne,
+      ) refl
   stmt_only (repeat line x a b body) clocked room [] rest le h ne = absurd h.0
   stmt_only (repeat line x a b body) clocked zero (t ∷ ts) rest le h ne = absurd (omega arith)
   stmt_only (repeat line x a b body) clocked (suc room) (t ∷ ts) rest le (ln, (t1, head, (t2, w2, (t3, sb, w3)))) ne =
@@ -116,8 +142,13 @@ mutual
   stmt_only (given line a c b first second) clocked zero (t ∷ ts) rest le h ne = absurd (omega arith)
   stmt_only (given line a c b first second) clocked (suc room) (t ∷ ts) rest le (ln, (t1, head, (t4, (t2, w2, (t3, sa, w3)), sb))) ne =
       let g = given_only a c b (suc room) t ts t1 (omega arith) head in
-      rw (g.0, ln, g.1, body_only clocked first room t1 t2 t3 t4 w2 (stmts_only first clocked room t2 t3 t4 (omega arith) sa w3) w3,
-        else_only second clocked (suc room) t4 rest (omega arith) sb ne) refl
+      rw (
+        g.0,
+        ln,
+        g.1,
+        body_only clocked first room t1 t2 t3 t4 w2 (stmts_only first clocked room t2 t3 t4 (omega arith) sa w3) w3,
+        else_only second clocked (suc room) t4 rest (omega arith) sb ne,
+      ) refl
 
   stmts_only : (b : Stmts) (clocked : Bool) (room : ℕ) (ts mid rest : List Tok) → stmts_depth b ≤ room → SpellsStmts clocked b ts mid → Sym mark.RightBrace mid rest → AreRead clocked room b ts mid
   stmts_only no_stmt clocked room ts mid rest le h w = h

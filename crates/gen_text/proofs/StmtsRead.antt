@@ -1,18 +1,16 @@
 -- Statements are read as they are spelled.
-use Rattle.std.proofs.Common.{◌≡◌, ◌≤◌, ◌<◌, ◌-◌, ℕ, zero, suc, Bool, true, false, cond, List, [], ◌∷◌, ◌++◌, length, Option, Some, None, Result, Ok, Err, refl, sym, ap, subst, ◌∙◌, arith}
+use Rattle.std.proofs.Common.{◌≡◌, ◌<◌, ℕ, zero, suc, Bool, true, false, List, [], ◌∷◌, ◌++◌, length, Some, Err, refl, arith}
 use Rattle.gen_token.specs.declared.Keyword.TheVariants as keyword
 use Rattle.gen_token.specs.declared.Mark.TheVariants as mark
 use Rattle.gen_token.specs.Words.{Word, Name, Number, Literal, Reserved, Sign, Tok}
-use Rattle.gen_tree.specs.declared.Cmp.{Cmp}
-use Rattle.gen_tree.specs.declared.Mode.{Mode}
 use Rattle.gen_tree.specs.declared.Mode.TheVariants as mode
 use Rattle.gen_tree.specs.Brackets.{room_after}
-use Rattle.gen_tree.specs.Tree.{Int, Fam, Expr, Stmt, assign, bind, choose, repeat, given, Stmts, no_stmt, stmt, stmts, Else, no_else, otherwise}
-use Rattle.gen_tree.specs.Grammar.{Span, ◌⨾◌, Single, Sym, Key, Each, Braces, SpellsTurns, SpellsGiven, SpellsStmt, SpellsStmts, SpellsElse, assign_mark}
-use Rattle.gen_text.specs.Forms.{is_mark, is_keyword, StmtForm, an_assign, a_let, an_if, a_for, a_gen, no_stmt_form, stmt_form}
-use Rattle.gen_text.specs.Reading.{Read, ◌>>=◌, seen, begins, until_by, until_at, body_by, else_by, else_at, turns_at, given_at, assign_at, let_at, if_at, for_at, gen_at, stmt_by, stmt_step, stmts_until, stmt_at, inner_stmts, expr_at}
-use Rattle.gen_text.proofs.Machine.{Fixed, key, sign, Symbol, need, need_name, an_int, a_cmp, an_index, an_expr, a_stmt, stmts_end, an_else, fam_symbols, turn_symbols, given_symbols, body_symbols, Move, shift, skip, stuck, step, lead, stmt_lead, run}
-use Rattle.gen_text.proofs.Moves.{Comes, Reads, after, then_read, then_front, then_word, then_seen, maps, done, begins as takes_first, refuses, refuses_end}
+use Rattle.gen_tree.specs.Tree.{Stmt, Stmts, stmts, no_else, otherwise}
+use Rattle.gen_tree.specs.Grammar.{Each, SpellsTurns, SpellsGiven, SpellsStmt, SpellsStmts, SpellsElse, assign_mark}
+use Rattle.gen_text.specs.Forms.{StmtForm, an_assign, a_let, an_if, a_for, a_gen, no_stmt_form, stmt_form}
+use Rattle.gen_text.specs.Reading.{Read, turns_at, given_at, assign_at, let_at, if_at, for_at, gen_at, stmt_by, stmt_step, stmts_until, stmt_at, inner_stmts}
+use Rattle.gen_text.proofs.Machine.{key, sign, need, need_name, an_index, an_expr, a_stmt, stmts_end, an_else, fam_symbols, turn_symbols, given_symbols, body_symbols, stmt_lead}
+use Rattle.gen_text.proofs.Moves.{Reads, then_read, then_front, then_word, then_seen, done, begins as takes_first, refuses, refuses_end}
 use Rattle.gen_text.proofs.WordsRead.{word_reads, then_open, name_reads}
 use Rattle.gen_text.proofs.IntsRead.{int_reads, inner_reads, cmp_reads, fam_rest_reads, fam_reads}
 use Rattle.gen_text.proofs.ExprsRead.{expr_reads}
@@ -28,7 +26,7 @@ turns_reads room t ts is =
     then_read _ (int_reads mode.Source room t2) (λ a t3 ga la.
     then_word _ (word_reads (sign mark.DotDot) room room t3 refl) (λ t4 g4 l4.
     then_read _ (int_reads mode.Source room t4) (λ b rest gb lb.
-    done (ts, (is, refl), (t1, gx, (t2, g2, (t3, ga, (t4, g4, gb)))))))))) 
+    done (ts, (is, refl), (t1, gx, (t2, g2, (t3, ga, (t4, g4, gb))))))))))
 
 pub given_reads : (room : ℕ) (t : Tok) (ts : List Tok) → t.word ≡ Reserved keyword.Gen
     → Reads mode.Source room given_symbols ts room (λ h. SpellsGiven h.0 h.1 h.2 (t ∷ ts)) (given_at room ts)

@@ -1,19 +1,18 @@
 -- One word.
-use Rattle.std.proofs.Common.{◌≡◌, ◌≤◌, ℕ, zero, suc, Bool, true, false, cond, List, [], ◌∷◌, ◌++◌, length, Option, Some, None, Result, Ok, Err, refl, sym, ap, subst, ◌∙◌, arith, ◌⊎◌, inl, inr}
-use denote.Enum.Bare.{sameb, same_true, true_same}
+use Rattle.std.proofs.Common.{◌≡◌, ◌≤◌, ℕ, zero, suc, Bool, true, false, List, [], ◌∷◌, ◌++◌, length, Option, Some, None, refl, ap, arith, ◌⊎◌, inl, inr}
+use denote.Enum.Bare.{same_true, true_same}
 use Rattle.gen_token.specs.contracts.Keyword as keyword_enum
 use Rattle.gen_token.specs.contracts.Mark as mark_enum
 use Rattle.gen_token.specs.declared.Keyword.{Keyword}
 use Rattle.gen_token.specs.declared.Mark.{Mark}
-use Rattle.gen_token.specs.declared.Mark.TheVariants as mark
 use Rattle.gen_token.specs.Words.{Word, Name, Number, Literal, Reserved, Sign, Tok}
 use Rattle.gen_tree.specs.declared.Mode.{Mode}
-use Rattle.gen_tree.specs.Brackets.{Side, opens, closes, neither, side, room_by, room_after}
-use Rattle.gen_tree.specs.Grammar.{Single, Sym, Key}
+use Rattle.gen_tree.specs.Brackets.{opens, side, room_by}
+use Rattle.gen_tree.specs.Grammar.{Single, Sym}
 use Rattle.gen_text.specs.Forms.{is_mark, is_keyword, name_form}
-use Rattle.gen_text.specs.Reading.{Read, ◌>>=◌, behind, mark_at, keyword_at, within, open_at, begins, rest_of, some_at, first_as, name_at}
-use Rattle.gen_text.proofs.Machine.{Fixed, key, sign, fixed_word, is_fixed, Symbol, need, need_name, Move, shift, skip, stuck, step, lead, if_some, may_end, run, End, accepted, stopped}
-use Rattle.gen_text.proofs.Moves.{shifted, halted, full, ended, Comes, Stops, Reads, ReadsOn, then_word, done, begins as takes_first, refuses, refuses_end}
+use Rattle.gen_text.specs.Reading.{Read, ◌>>=◌, behind, open_at, some_at, name_at}
+use Rattle.gen_text.proofs.Machine.{Fixed, key, sign, fixed_word, is_fixed, Symbol, need, need_name, run}
+use Rattle.gen_text.proofs.Moves.{shifted, halted, full, ended, Stops, Reads, ReadsOn, then_word, done, begins as takes_first, refuses, refuses_end}
 
 pub is_mark_is : (m : Mark) (w : Word) → is_mark m w ≡ true → w ≡ Sign m
 is_mark_is m (Name x) e = absurd cc
@@ -46,21 +45,21 @@ pub word_reads : {m : Mode} (f : Fixed) (room room2 : ℕ) (ts : List Tok) → r
 word_reads {m = m} f room room2 [] h = record { reads = record { stops = λ stack. ended m room (need f) stack refl } }
 word_reads {m = m} f room room2 (t ∷ ts) h = elim (test (is_fixed f t.word)) [
   | inl e ↦
-    let is : t.word ≡ fixed_word f = is_fixed_is f t.word e in
-    let moved : (stack : List Symbol) → run m room (need f ∷ stack) (t ∷ ts) ≡ run m room2 stack ts = λ stack. shifted m room room2 (need f) stack [] t ts (rw e refl) (rw is h) in
-    rw e (record { reads = (record { comes = moved }, (is, refl), omega arith) })
+      let is : t.word ≡ fixed_word f = is_fixed_is f t.word e in
+      let moved : (stack : List Symbol) → run m room (need f ∷ stack) (t ∷ ts) ≡ run m room2 stack ts = λ stack. shifted m room room2 (need f) stack [] t ts (rw e refl) (rw is h) in
+      rw e (record { reads = (record { comes = moved }, (is, refl), omega arith) })
   | inr e ↦ rw e (record { reads = record { stops = λ stack. halted m room (need f) stack t ts (rw e refl) } })
-  ]
+]
 
 -- a bracket where there is no room
 open_full : (m : Mode) (k : Mark) (ts : List Tok) → side (Sign k) ≡ opens → Stops m zero (need (sign k) ∷ []) ts (length ts)
 open_full m k [] h = record { stops = λ stack. ended m zero (need (sign k)) stack refl }
 open_full m k (t ∷ ts) h = elim (test (is_mark k t.word)) [
   | inl e ↦
-    let is : t.word ≡ Sign k = is_mark_is k t.word e in
-    record { stops = λ stack. full m zero (need (sign k)) stack [] t ts (rw e refl) (rw (is, h) refl) }
+      let is : t.word ≡ Sign k = is_mark_is k t.word e in
+      record { stops = λ stack. full m zero (need (sign k)) stack [] t ts (rw e refl) (rw (is, h) refl) }
   | inr e ↦ record { stops = λ stack. halted m zero (need (sign k)) stack t ts (rw e refl) }
-  ]
+]
 
 -- an opening bracket, and what stands behind it, which is read only where there is room
 pub then_open : {B : Type 0} {m : Mode} (k : Mark) (room : ℕ) (ts : List Tok) {more : List Symbol} {room3 : ℕ} {Q : B → List Tok → Type 0} (f : List Tok → Read B)

@@ -1,5 +1,5 @@
 -- What the trees that the code makes stand for.
-use Rattle.std.proofs.Common.{◌≡◌, ℕ, List, [], ◌∷◌, map, Option, Some, None, Vec, Global, refl, ap, ap₂, ◌∙◌}
+use Rattle.std.proofs.Common.{◌≡◌, ℕ, List, map, Option, Some, None, Vec, Global, refl, ap, ap₂, ◌∙◌}
 use Rattle.gen_tree.specs.declared.expr.Cmp.{Cmp}
 use Rattle.gen_tree.specs.declared.expr.Int as code_int
 use Rattle.gen_tree.specs.declared.expr.Fam as code_fam
@@ -13,7 +13,7 @@ use Rattle.gen_tree.specs.declared.item.Conn as code_conn
 use Rattle.gen_tree.specs.declared.item.Item as code_item
 use Rattle.gen_tree.specs.declared.item.Item.TheBlock.{hidden-the_row-Item-0}
 use Rattle.gen_tree.specs.declared.item.Item.TheVariants as code_items
-use Rattle.gen_tree.specs.Tree.{Stmt, assign, bind, choose, repeat, given, stmt, no_else, otherwise, wire, reg, inst, comb, ff, repeat_items, given_items, item, no_else_items, otherwise_items}
+use Rattle.gen_tree.specs.Tree.{assign, bind, choose, repeat, given, stmt, no_else, otherwise, wire, reg, inst, comb, ff, repeat_items, given_items, item, no_else_items, otherwise_items}
 use Rattle.gen_tree.specs.View.{int_of, fam_of, lit_of, expr_of, stmt_of, row_of, held_of, stmts_of, else_of, param_of, conn_of, item_of, item_row_of, item_held_of, items_of, else_items_of}
 
 -- ---- statements

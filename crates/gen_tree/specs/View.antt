@@ -1,5 +1,5 @@
 -- The trees of the code, as trees of the grammar.
-use Rattle.std.specs.Prelude.{ℕ, List, [], ◌∷◌, Option, Some, None, option_map, Vec, map}
+use Rattle.std.specs.Prelude.{List, Option, Some, None, option_map, Vec, map}
 use Rattle.gen_tree.specs.declared.expr.Int as code_int
 use Rattle.gen_tree.specs.declared.expr.Int.TheVariants as ints
 use Rattle.gen_tree.specs.declared.expr.Fam as code_fam

@@ -1,4 +1,4 @@
-use Rattle.std.proofs.Common.{ℕ, ◌+◌, ◌*◌}
+use Rattle.std.proofs.Common.{◌+◌, ◌*◌}
 use Rattle.gen_text.proofs.exprs.+exprs.Given as goal
 
 abbrev pub decreases-expr : goal.decreases-expr

@@ -1,4 +1,4 @@
-use Rattle.std.proofs.Common.{◌≡◌, ◌-◌, false, true, map, sym, ap, ◌∙◌, arith}
+use Rattle.std.proofs.Common.{◌≡◌, ◌-◌, false, true, map, sym, ◌∙◌}
 use Rattle.std.proofs.lemmas.List.{map-append}
 use Rattle.std.proofs.lemmas.Result.{err_from_is_err_and}
 use Rattle.gen_token.specs.declared.Mark.TheVariants as mark
@@ -6,7 +6,7 @@ use Rattle.gen_token.specs.Words.{placed}
 use Rattle.gen_tree.specs.Tree.{items}
 use Rattle.gen_tree.specs.View.{item_of}
 use Rattle.gen_text.specs.Forms.{is_mark}
-use Rattle.gen_text.specs.Reading.{begins, item_at, inner_items, body_by}
+use Rattle.gen_text.specs.Reading.{begins, item_at}
 use Rattle.gen_text.proofs.Loops.{body_begins, body_turn, body_fails, body_ends, closes_not, shorter}
 use Rattle.gen_text.proofs.OnlyItems.{item_opened, items_bodies}
 use Rattle.gen_text.proofs.items.+items.Goals as goal

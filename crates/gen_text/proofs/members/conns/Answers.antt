@@ -1,11 +1,11 @@
-use Rattle.std.proofs.Common.{◌≡◌, ◌-◌, true, false, map, sym, ◌∙◌, arith, refl}
+use Rattle.std.proofs.Common.{◌≡◌, ◌-◌, true, false, map, sym, ◌∙◌}
 use Rattle.std.proofs.lemmas.List.{map-append}
 use Rattle.std.proofs.lemmas.Result.{err_from_is_err_and}
 use Rattle.gen_token.specs.declared.Mark.TheVariants as mark
 use Rattle.gen_token.specs.Words.{placed}
 use Rattle.gen_tree.specs.View.{conn_of}
 use Rattle.gen_text.specs.Forms.{is_mark}
-use Rattle.gen_text.specs.Reading.{begins, until_at, conn_at, conns_at}
+use Rattle.gen_text.specs.Reading.{begins, until_at, conn_at}
 use Rattle.gen_text.proofs.Loops.{front_none, until_turn, until_fails, until_ends, closes_not, shorter}
 use Rattle.gen_text.proofs.ItemsRead.{conns_shorten}
 use Rattle.gen_text.proofs.members.conns.Goals as goal

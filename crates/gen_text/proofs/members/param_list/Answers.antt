@@ -1,9 +1,9 @@
-use Rattle.std.proofs.Common.{◌≡◌, true, false, map, sym, ◌∙◌, arith, refl}
+use Rattle.std.proofs.Common.{◌≡◌, true, false, map, sym, ◌∙◌}
 use Rattle.std.proofs.lemmas.List.{map-append}
 use Rattle.std.proofs.lemmas.Result.{err_from_is_err_and}
 use Rattle.gen_token.specs.Words.{placed}
 use Rattle.gen_tree.specs.View.{param_of}
-use Rattle.gen_text.specs.Reading.{each_at, begins_param, more_param_at, param_list_at}
+use Rattle.gen_text.specs.Reading.{each_at, begins_param, more_param_at}
 use Rattle.gen_text.proofs.Loops.{list_begins, each_turn, each_fails, each_ends, shorter}
 use Rattle.gen_text.proofs.ItemsRead.{params_shorten}
 use Rattle.gen_text.proofs.members.param_list.Goals as goal

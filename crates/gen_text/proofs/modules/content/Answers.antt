@@ -1,4 +1,4 @@
-use Rattle.std.proofs.Common.{◌≡◌, ◌-◌, true, false, map, sym, ap, ◌∙◌, arith, refl}
+use Rattle.std.proofs.Common.{◌≡◌, ◌-◌, true, false, map, sym, ap, ◌∙◌, refl}
 use Rattle.std.proofs.lemmas.List.{map-append}
 use Rattle.std.proofs.lemmas.Result.{err_from_is_err_and}
 use Rattle.gen_token.specs.declared.Mark.TheVariants as mark
@@ -6,7 +6,7 @@ use Rattle.gen_token.specs.Words.{placed}
 use Rattle.gen_tree.specs.Tree.{items}
 use Rattle.gen_tree.specs.View.{item_of}
 use Rattle.gen_text.specs.Forms.{is_mark}
-use Rattle.gen_text.specs.Reading.{begins, seen, until_at, item_at, items_until}
+use Rattle.gen_text.specs.Reading.{begins, seen, until_at, item_at}
 use Rattle.gen_text.proofs.Loops.{front_none, body_turn, body_fails, body_ends, closes_not, shorter, fails_then}
 use Rattle.gen_text.proofs.OnlyItems.{item_opened, items_bodies}
 use Rattle.gen_text.proofs.modules.content.Goals as goal

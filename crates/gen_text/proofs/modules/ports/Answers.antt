@@ -1,9 +1,9 @@
-use Rattle.std.proofs.Common.{◌≡◌, ◌-◌, true, false, map, sym, ◌∙◌, arith}
+use Rattle.std.proofs.Common.{◌≡◌, ◌-◌, true, false, map, sym, ◌∙◌}
 use Rattle.std.proofs.lemmas.List.{map-append}
 use Rattle.std.proofs.lemmas.Result.{err_from_is_err_and}
 use Rattle.gen_token.specs.Words.{placed}
 use Rattle.gen_tree.specs.View.{port_of}
-use Rattle.gen_text.specs.Reading.{each_at, begins_port, port_at, ports_at}
+use Rattle.gen_text.specs.Reading.{each_at, begins_port, port_at}
 use Rattle.gen_text.proofs.Loops.{front_none, each_turn, each_fails, each_ends, shorter}
 use Rattle.gen_text.proofs.ModulesRead.{ports_shorten}
 use Rattle.gen_text.proofs.modules.ports.Goals as goal

@@ -1,4 +1,4 @@
-use Rattle.std.proofs.Common.{◌≡◌, ℕ, ◌+◌, ◌*◌, ◌-◌, length, map}
+use Rattle.std.proofs.Common.{◌≡◌, ◌+◌, ◌*◌, ◌-◌, length, map}
 use Rattle.gen_token.specs.Words.{placed}
 use Rattle.gen_tree.specs.Tree.{stmts}
 use Rattle.gen_tree.specs.View.{stmt_of}
