@@ -1,0 +1,90 @@
+-- The whole numbers of elaboration, and the names that have one.
+use Rattle.std.specs.Prelude.{ℕ, Bool, ◌&&◌, not, ℤ, pos, negsuc, ◌+ℤ◌, ◌-ℤ◌, ◌*ℤ◌, int_lt, int_le, List, [], ◌∷◌, ◌++◌, Option, Some, None, bytes_eq, if◌then◌else◌, nat_le, codes, decimal}
+use Rattle.gen_tree.specs.declared.IntOp.{IntOp}
+use Rattle.gen_tree.specs.declared.IntOp.TheVariants as int_op
+use Rattle.gen_tree.specs.declared.Cmp.{Cmp}
+use Rattle.gen_tree.specs.declared.Cmp.TheVariants as cmp
+use Rattle.gen_tree.specs.Tree.{Int, num, var, bin, Fam}
+use Rattle.elab_core.specs.Walk.{Walk, Gives, Faulty, ◌>>=◌, and_then, UnknownParameter, ElabRange}
+
+abbrev pub Name : Type 0
+Name = List ℕ
+
+abbrev pub apply_op : IntOp → ℤ → ℤ → ℤ
+apply_op int_op.Add a b = a +ℤ b
+apply_op int_op.Sub a b = a -ℤ b
+apply_op int_op.Mul a b = a *ℤ b
+
+abbrev pub holds : Cmp → ℤ → ℤ → Bool
+holds cmp.Eq a b = int_le a b && int_le b a
+holds cmp.Ne a b = not (int_le a b && int_le b a)
+holds cmp.Lt a b = int_lt a b
+holds cmp.Le a b = int_le a b
+
+-- from -2^62 to 2^62
+abbrev pub in_range : ℤ → Bool
+in_range n = int_le (negsuc 4611686018427387903) n && int_le n (pos 4611686018427387904)
+
+-- the parameters and loop variables that have a number at a place: the parameters in order, then the loops from outer to
+-- inner, without those that are hidden
+abbrev pub Gens : Type 0
+Gens = List (Name × ℤ)
+
+abbrev pub find : Gens → Name → Option ℤ
+find [] x = None
+find (g ∷ gens) x = if bytes_eq g.0 x then Some g.1 else find gens x
+
+-- all but the one of this name
+abbrev pub without : Name → Gens → Gens
+without x [] = []
+without x (g ∷ gens) = if bytes_eq g.0 x then without x gens else g ∷ without x gens
+
+-- the name gets a number, and an outer one of that name is hidden
+abbrev pub bound : Name → ℤ → Gens → Gens
+bound x n gens = without x gens ++ (x, n) ∷ []
+
+-- what a name stands for; it is a fault if it stands for nothing
+abbrev pub named : ℕ → Name → Option ℤ → Walk ℤ
+named line x None = Faulty (UnknownParameter line x)
+named line x (Some n) = Gives n
+
+-- a result that leaves the range is a fault
+abbrev pub ranged : ℕ → ℤ → Walk ℤ
+ranged line n = if in_range n then Gives n else Faulty (ElabRange line)
+
+-- an integer's number, with the faults on this line
+unfoldable pub number : ℕ → Gens → Int → Walk ℤ
+number line gens (num n) = ranged line (pos n)
+number line gens (var x) = named line x (find gens x)
+number line gens (bin op a b) = do
+  m ← number line gens a
+  n ← number line gens b
+  ranged line (apply_op op m n)
+
+-- `t#2`; a negative index is a fault
+abbrev pub family : ℕ → Name → ℤ → Walk Name
+family line x (pos n) = Gives (x ++ (codes "#" ++ decimal n))
+family line x (negsuc n) = Faulty (ElabRange line)
+
+unfoldable pub index_name : ℕ → Gens → Name → Option Int → Walk Name
+index_name line gens x None = Gives x
+index_name line gens x (Some i) = and_then (number line gens i) (family line x)
+
+-- the name of a member of a family, or a plain name
+abbrev pub fam_name : ℕ → Gens → Fam → Walk Name
+fam_name line gens fam = index_name line gens fam.name fam.index
+
+-- two numbers, the left one first
+unfoldable pub two_numbers : ℕ → Gens → Int → Int → Walk (ℤ × ℤ)
+two_numbers line gens a b = do
+  m ← number line gens a
+  n ← number line gens b
+  Gives (m, n)
+
+abbrev pub turns_of : ℤ → ℕ
+turns_of (pos n) = n
+turns_of (negsuc n) = 0
+
+-- how many turns a loop has from the first bound to below the second: at most 4,096
+abbrev pub turn_count : ℕ → ℤ → ℤ → Walk ℕ
+turn_count line from to = if nat_le (turns_of (to -ℤ from)) 4096 then Gives (turns_of (to -ℤ from)) else Faulty (ElabRange line)

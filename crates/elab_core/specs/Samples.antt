@@ -1,0 +1,124 @@
+-- Small sources, elaborated by hand.
+use Rattle.std.specs.Prelude.{◌≡◌, ℕ, true, false, ℤ, pos, List, [], ◌∷◌, map, Option, Some, None, Result, Ok, Err, codes}
+use Rattle.gen_tree.specs.declared.Op.TheVariants as op
+use Rattle.gen_tree.specs.declared.UnOp.TheVariants as un_op
+use Rattle.gen_tree.specs.Tree.{Int, num, var, Fam, plain, Expr, read, out, value, unary, binary, zext, Stmt, assign, choose, repeat, Stmts, no_stmt, stmt, no_else, Conn, inst, comb, no_item, item, Module}
+use Rattle.elab_core.specs.Walk.{Fault, UnknownModule, UnknownParameter, ElabRange, TooDeep}
+use Rattle.elab_core.specs.Numbers.{Name, Gens}
+use Rattle.elab_core.specs.Elaborated.{Instance}
+use Rattle.elab_core.specs.Design.{Slot, variants_of, variant_of, slots_of, cells, elab}
+
+abbrev plainly : Name → Fam
+plainly x = record { name = x; index = None }
+
+abbrev member : Name → Int → Fam
+member x i = record { name = x; index = Some i }
+
+abbrev reads : Name → Expr
+reads x = read (plainly x)
+
+abbrev two : Stmt → Stmt → Stmts
+two a b = stmt a (stmt b no_stmt)
+
+abbrev one_of : Stmt → Stmts
+one_of a = stmt a no_stmt
+
+-- 1: module D(N = 3) {
+-- 2:   input a : 4;
+-- 3:   output s : 4;
+-- 4:   comb { s = 4'h0; for i in 0..N {
+-- 5:     s = (s + a); } } }
+abbrev pub loops : Module
+loops = record {
+  line = 1;
+  name = codes "D";
+  params = record { name = codes "N"; value = num 3 } ∷ [];
+  ports = record { line = 2; output = false; name = codes "a"; width = num 4 } ∷ record { line = 3; output = true; name = codes "s"; width = num 4 } ∷ [];
+  items = item (comb 4 (two (assign 4 (plainly (codes "s")) (value (plain 4 0))) (repeat 4 (codes "i") (num 0) (var (codes "N")) (one_of (assign 5 (plainly (codes "s")) (binary op.Add (reads (codes "s")) (reads (codes "a")))))))) no_item;
+}
+
+-- the lines and generator variables of the slots
+abbrev heads : List Slot → List (ℕ × Gens)
+heads slots = map (λ s. (s.line, s.gens)) slots
+
+abbrev slots_in : List Module → Result (List Instance) Fault → List Slot
+slots_in modules (Ok instances) = slots_of modules instances
+slots_in modules (Err fault) = []
+
+abbrev three : Name × ℤ
+three = (codes "N", pos 3)
+
+abbrev pub loops_is_elaborated : Type 0
+loops_is_elaborated =
+    heads (slots_in (loops ∷ []) (elab (loops ∷ []) (codes "D") []))
+    ≡ (4, three ∷ []) ∷ (5, three ∷ (codes "i", pos 0) ∷ []) ∷ (5, three ∷ (codes "i", pos 1) ∷ []) ∷ (5, three ∷ (codes "i", pos 2) ∷ []) ∷ []
+
+-- with N = 4097 the loop of line 4 has a turn too many; a parameter that is none has line 0
+abbrev pub loops_is_refused : Type 0
+loops_is_refused =
+    (elab (loops ∷ []) (codes "D") ((codes "N", pos 4097) ∷ []) ≡ Err (ElabRange 4))
+    × (elab (loops ∷ []) (codes "D") ((codes "M", pos 1) ∷ []) ≡ Err (UnknownParameter 0 (codes "M")))
+
+-- module X { inst u : X { } }
+abbrev pub endless : Module
+endless = record { line = 1; name = codes "X"; params = []; ports = []; items = item (inst 1 (plainly (codes "u")) (codes "X") [] []) no_item }
+
+abbrev pub endless_is_refused : Type 0
+endless_is_refused =
+    (elab (endless ∷ []) (codes "X") [] ≡ Err (TooDeep 1 (codes "u")))
+    × (elab (endless ∷ []) (codes "Y") [] ≡ Err (UnknownModule 0 (codes "Y")))
+
+-- 1:  module L(W = 4) {
+-- 2:    input a : W;
+-- 3:    output y : W;
+-- 4:    comb { y = a; if a { y = ~(a); } } }
+-- 5:  module C { input a : 4;
+-- 6:    inst u#0 : L { a = a; }
+-- 7:    inst u#1 : L { a = u#0.y; }
+-- 8:    inst v : L(W = 8) { a = zext(a, 8); } }
+abbrev pub leaf : Module
+leaf = record {
+  line = 1;
+  name = codes "L";
+  params = record { name = codes "W"; value = num 4 } ∷ [];
+  ports = record { line = 2; output = false; name = codes "a"; width = var (codes "W") } ∷ record { line = 3; output = true; name = codes "y"; width = var (codes "W") } ∷ [];
+  items = item (comb 4 (two (assign 4 (plainly (codes "y")) (reads (codes "a"))) (choose 4 (reads (codes "a")) (one_of (assign 4 (plainly (codes "y")) (unary un_op.Not (reads (codes "a"))))) no_else))) no_item;
+}
+
+abbrev joined : ℕ → Expr → Conn
+joined line e = record { line = line; port = codes "a"; value = e }
+
+abbrev pub family : Module
+family = record {
+  line = 5;
+  name = codes "C";
+  params = [];
+  ports = record { line = 5; output = false; name = codes "a"; width = num 4 } ∷ [];
+  items =
+      item (inst 6 (member (codes "u") (num 0)) (codes "L") [] (joined 6 (reads (codes "a")) ∷ []))
+      (item (inst 7 (member (codes "u") (num 1)) (codes "L") [] (joined 7 (out (member (codes "u") (num 0)) (codes "y")) ∷ []))
+      (item (inst 8 (plainly (codes "v")) (codes "L") (record { name = codes "W"; value = num 8 } ∷ []) (joined 8 (zext (reads (codes "a")) (num 8)) ∷ [])) no_item));
+}
+
+abbrev instances_in : Result (List Instance) Fault → List Instance
+instances_in (Ok instances) = instances
+instances_in (Err fault) = []
+
+abbrev family_instances : List Instance
+family_instances = instances_in (elab (leaf ∷ family ∷ []) (codes "C") [])
+
+-- each instance in preorder: its path, the number of its parent, the number of its variant
+abbrev shapes : List Instance → List (Name × Option ℕ × ℕ)
+shapes instances = map (λ i. (i.path, i.parent, variant_of i (variants_of instances))) instances
+
+-- the variants and lines of slots
+abbrev where_from : List Slot → List (ℕ × ℕ)
+where_from slots = map (λ s. (s.variant, s.line)) slots
+
+abbrev pub family_is_elaborated : Type 0
+family_is_elaborated =
+    (shapes family_instances
+    ≡ (codes "C", None, 0) ∷ (codes "C.u#0", Some 0, 1) ∷ (codes "C.u#1", Some 0, 1) ∷ (codes "C.v", Some 0, 2) ∷ [])
+    × (where_from (slots_of (leaf ∷ family ∷ []) family_instances)
+    ≡ (1, 4) ∷ (1, 4) ∷ (1, 4) ∷ (2, 4) ∷ (2, 4) ∷ (2, 4) ∷ [])
+    × (cells family_instances ≡ 18)

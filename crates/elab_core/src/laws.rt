@@ -1,0 +1,19 @@
+ghost use Rattle.std.specs.Prelude.{List};
+ghost use Rattle.gen_tree.specs.Tree.{Module};
+ghost use Rattle.elab_core.specs.Laws.{IsFirstFault};
+ghost use Rattle.elab_core.specs.Numbers.{Name, Gens};
+ghost use Rattle.elab_core.specs.Samples.{loops_is_elaborated, loops_is_refused, endless_is_refused, family_is_elaborated};
+
+/// A law: the fault of a walk is that of the first of its events that has one, with the counts of those before it.
+pub fn first_faulty_event()
+    ensures { (modules : List Module) (top : Name) (rest : Gens) → IsFirstFault modules top rest }
+{}
+
+/// Small sources, elaborated by hand: a loop with its slots and generator variables, and its refusals; an instance below itself;
+/// a family of instances with its variants and slots.
+pub fn elaborates_the_samples()
+    ensures loops { loops_is_elaborated }
+    ensures loops_refused { loops_is_refused }
+    ensures endless { endless_is_refused }
+    ensures family { family_is_elaborated }
+{}
