@@ -4,5 +4,6 @@ pub mod Elaborated
 pub mod Events
 pub mod Laws
 pub mod Numbers
+pub mod Replace
 pub mod Samples
 pub mod Walk
