@@ -1,3 +1,4 @@
 pub mod EventLaws
 pub mod Replacing
+pub mod ReplacingItems
 pub mod SampleWalks

@@ -1,22 +1,20 @@
 -- Elaboration with a list of names and numbers is elaboration by substitution: numbers, expressions and statements.
-use Rattle.std.proofs.Common.{◌≡◌, ℕ, zero, suc, ◌+◌, ◌<◌, ◌≤◌, max, Bool, true, false, ◌&&◌, T, ◌≤ℤ◌, ℤ, pos, negsuc, ◌+ℤ◌, ◌-ℤ◌, int_le, List, [], ◌∷◌, ◌++◌, Option, Some, None, option_map, if◌then◌else◌, bytes_eq, refl, sym, ap, ap₂, ◌∙◌, subst, arith, nat_le, leb-true, le-leb}
-use Rattle.gen_tree.specs.declared.IntOp.{IntOp}
-use Rattle.gen_tree.specs.declared.IntOp.TheVariants as int_op
+use Rattle.std.proofs.Common.{◌≡◌, ℕ, zero, suc, ◌<◌, ◌≤◌, Bool, true, false, ◌&&◌, T, ◌≤ℤ◌, ℤ, pos, negsuc, ◌+ℤ◌, ◌-ℤ◌, int_le, [], ◌∷◌, ◌++◌, Option, Some, None, option_map, if◌then◌else◌, bytes_eq, refl, sym, ap, ap₂, ◌∙◌, subst, arith, nat_le, leb-true, le-leb}
 use Rattle.gen_tree.specs.Tree as tree
 use Rattle.gen_tree.specs.Tree.{Int, num, var, bin, Fam, Lit, plain, bits, read, out, value, unary, binary, mux, zext, slice, assign, bind, choose, repeat, given, Stmts, no_stmt, stmt, no_else, otherwise}
 use Rattle.std.proofs.lemmas.Int.{ints}
 use lib.Signed.{le_z_yes}
 use Rattle.std.proofs.lemmas.Slice.Eq.{bytes_eq-Decides}
-use Rattle.elab_core.specs.Walk.{Walk, Gives, Faulty, Counted, ElabRange, UnknownParameter, and_then, counts, Parts, Statements, Turns}
-use Rattle.elab_core.specs.Numbers.{Name, Gens, find, without, bound, apply_op, in_range, ranged, named, number, family, index_name, fam_name, two_numbers, turn_count, turns_of, holds}
-use Rattle.elab_core.specs.Elaborated.{Literal, Expr, Read, Out, Value, Unary, Binary, Mux, Zext, Slice, Assign, Let, If, Body, Done, Else, Otherwise, added}
+use Rattle.elab_core.specs.Walk.{Walk, Gives, Faulty, Counted, ElabRange, and_then, counts, Parts, Statements, Turns}
+use Rattle.elab_core.specs.Numbers.{Name, Gens, find, without, bound, apply_op, in_range, IsInRange, AreInRange, ranged, named, number, family, index_name, fam_name, two_numbers, turn_count, turns_of, holds}
+use Rattle.elab_core.specs.Elaborated.{Read, Out, Value, Unary, Binary, Mux, Zext, Slice, Assign, Let, If, Body, Done, Otherwise, added}
 use Rattle.elab_core.specs.Elab.{literal, expr, turns, statement, statements, else_body, else_statements}
 use Rattle.elab_core.specs.Replace.{Numbers, as_int, or_name, put, put_fam, put_lit, put_expr, but, put_stmt, put_stmts, put_else, only_this, closed_stmt, closed_stmts, closed_else, closed_else_stmts, closed_body, loops_stmt, loops_stmts, loops_else}
 
 -- ---- what a walk gives
 
 -- whatever comes out of the walk is so
-pub Yields : {A : Type 0} → (A → Type 0) → Walk A → Type 0
+unfoldable pub Yields : {A : Type 0} → (A → Type 0) → Walk A → Type 0
 Yields P (Gives a) = P a
 Yields P (Faulty fault) = Unit {0}
 Yields P (Counted what line w) = Yields P w
@@ -29,18 +27,11 @@ same_then P (Counted what line w) f g y h = ap (Counted what line) (same_then P 
 
 -- ---- numbers in range
 
-abbrev pub IsInRange : ℤ → Type 0
-IsInRange n = in_range n ≡ true
-
-abbrev pub AreInRange : Gens → Type 0
-AreInRange [] = Unit {0}
-AreInRange (g ∷ gens) = IsInRange g.1 × AreInRange gens
-
-abbrev IsFine : Option ℤ → Type 0
+abbrev pub IsFine : Option ℤ → Type 0
 IsFine None = Unit {0}
 IsFine (Some n) = IsInRange n
 
-fine_find : (gens : Gens) (x : Name) → AreInRange gens → IsFine (find gens x)
+pub fine_find : (gens : Gens) (x : Name) → AreInRange gens → IsFine (find gens x)
 fine_find [] x h = tt
 fine_find (g ∷ gens) x h = elim (bytes_eq g.0 x) as (λ b. IsFine (if b then Some g.1 else find gens x)) [ true ↦ h.0 | false ↦ fine_find gens x h.1 ]
 
@@ -48,11 +39,11 @@ fine_without : (x : Name) (gens : Gens) → AreInRange gens → AreInRange (with
 fine_without x [] h = tt
 fine_without x (g ∷ gens) h = elim (bytes_eq g.0 x) as (λ b. AreInRange (if b then without x gens else g ∷ without x gens)) [ true ↦ fine_without x gens h.1 | false ↦ (h.0, fine_without x gens h.1) ]
 
-fine_behind : (gens : Gens) (x : Name) (k : ℤ) → AreInRange gens → IsInRange k → AreInRange (gens ++ (x, k) ∷ [])
+pub fine_behind : (gens : Gens) (x : Name) (k : ℤ) → AreInRange gens → IsInRange k → AreInRange (gens ++ (x, k) ∷ [])
 fine_behind [] x k h p = (p, tt)
 fine_behind (g ∷ gens) x k h p = (h.0, fine_behind gens x k h.1 p)
 
-fine_bound : (x : Name) (k : ℤ) (gens : Gens) → AreInRange gens → IsInRange k → AreInRange (bound x k gens)
+pub fine_bound : (x : Name) (k : ℤ) (gens : Gens) → AreInRange gens → IsInRange k → AreInRange (bound x k gens)
 fine_bound x k gens h p = fine_behind (without x gens) x k (fine_without x gens h) p
 
 -- ---- a number in range, as a source writes it, has its number
@@ -70,7 +61,7 @@ next_in n h = let p : n ≤ 4611686018427387903 = leb-true n 4611686018427387903
 nothing_less : (n : ℕ) → pos 0 -ℤ pos (suc n) ≡ negsuc n
 nothing_less n = grind (arith, ints)
 
-written : (line : ℕ) (n : ℤ) → IsInRange n → number line [] (as_int n) ≡ Gives n
+pub written : (line : ℕ) (n : ℤ) → IsInRange n → number line [] (as_int n) ≡ Gives n
 unfolding number and_then
 written line (pos n) h = ranged_in line (pos n) h
 written line (negsuc n) h = ap (λ w. and_then w (λ m. ranged line (pos 0 -ℤ m))) (ranged_in line (pos (suc n)) (next_in n h)) ∙ ap (ranged line) (nothing_less n) ∙ ranged_in line (negsuc n) h
@@ -88,19 +79,19 @@ number_put line gens (num n) h = refl
 number_put line gens (var x) h = named_put line x (find gens x) (fine_find gens x h)
 number_put line gens (bin op a b) h = ap₂ (λ v w. and_then v (λ m. and_then w (λ n. ranged line (apply_op op m n)))) (number_put line gens a h) (number_put line gens b h)
 
-index_put : (line : ℕ) (gens : Gens) (x : Name) (o : Option Int) → AreInRange gens → index_name line gens x o ≡ index_name line [] x (option_map (put (find gens)) o)
+pub index_put : (line : ℕ) (gens : Gens) (x : Name) (o : Option Int) → AreInRange gens → index_name line gens x o ≡ index_name line [] x (option_map (put (find gens)) o)
 unfolding index_name
 index_put line gens x None h = refl
 index_put line gens x (Some t) h = ap (λ w. and_then w (family line x)) (number_put line gens t h)
 
-fam_put : (line : ℕ) (gens : Gens) (f : Fam) → AreInRange gens → fam_name line gens f ≡ fam_name line [] (put_fam (find gens) f)
+pub fam_put : (line : ℕ) (gens : Gens) (f : Fam) → AreInRange gens → fam_name line gens f ≡ fam_name line [] (put_fam (find gens) f)
 fam_put line gens f h = index_put line gens f.name f.index h
 
-two_put : (line : ℕ) (gens : Gens) (a b : Int) → AreInRange gens → two_numbers line gens a b ≡ two_numbers line [] (put (find gens) a) (put (find gens) b)
+pub two_put : (line : ℕ) (gens : Gens) (a b : Int) → AreInRange gens → two_numbers line gens a b ≡ two_numbers line [] (put (find gens) a) (put (find gens) b)
 unfolding two_numbers
 two_put line gens a b h = ap₂ (λ v w. and_then v (λ m. and_then w (λ n. Gives (m, n)))) (number_put line gens a h) (number_put line gens b h)
 
-lit_put : (line : ℕ) (gens : Gens) (l : Lit) → AreInRange gens → literal line gens l ≡ literal line [] (put_lit (find gens) l)
+pub lit_put : (line : ℕ) (gens : Gens) (l : Lit) → AreInRange gens → literal line gens l ≡ literal line [] (put_lit (find gens) l)
 unfolding literal
 lit_put line gens (plain w v) h = refl
 lit_put line gens (bits w v) h = ap (λ w. and_then w (λ pair. Gives (record { width = pair.0; value = pair.1 }))) (two_put line gens w v h)
@@ -118,11 +109,11 @@ expr_put line gens (slice e t l) h = ap₂ (λ v w. and_then (counts Parts line)
 
 -- ---- two replacements, one after the other
 
-abbrev or_then : Option ℤ → Option ℤ → Option ℤ
+abbrev pub or_then : Option ℤ → Option ℤ → Option ℤ
 or_then (Some n) o = Some n
 or_then None o = o
 
-abbrev both : Numbers → Numbers → Numbers
+abbrev pub both : Numbers → Numbers → Numbers
 both σ τ y = or_then (σ y) (τ y)
 
 number_stays : (τ : Numbers) (n : ℤ) → put τ (as_int n) ≡ as_int n
@@ -133,7 +124,7 @@ name_twice : (τ : Numbers) (x : Name) (o : Option ℤ) → put τ (or_name o x)
 name_twice τ x None = refl
 name_twice τ x (Some n) = number_stays τ n
 
-put_twice : (σ τ : Numbers) (t : Int) → put τ (put σ t) ≡ put (both σ τ) t
+pub put_twice : (σ τ : Numbers) (t : Int) → put τ (put σ t) ≡ put (both σ τ) t
 put_twice σ τ (num n) = refl
 put_twice σ τ (var x) = name_twice τ x (σ x)
 put_twice σ τ (bin op a b) = ap₂ (bin op) (put_twice σ τ a) (put_twice σ τ b)
@@ -142,14 +133,14 @@ index_twice : (σ τ : Numbers) (o : Option Int) → option_map (put τ) (option
 index_twice σ τ None = refl
 index_twice σ τ (Some t) = ap (λ s. Some s) (put_twice σ τ t)
 
-fam_twice : (σ τ : Numbers) (f : Fam) → put_fam τ (put_fam σ f) ≡ put_fam (both σ τ) f
+pub fam_twice : (σ τ : Numbers) (f : Fam) → put_fam τ (put_fam σ f) ≡ put_fam (both σ τ) f
 fam_twice σ τ f = λ i. record { name = f.name; index = index_twice σ τ f.index i }
 
-lit_twice : (σ τ : Numbers) (l : Lit) → put_lit τ (put_lit σ l) ≡ put_lit (both σ τ) l
+pub lit_twice : (σ τ : Numbers) (l : Lit) → put_lit τ (put_lit σ l) ≡ put_lit (both σ τ) l
 lit_twice σ τ (plain w v) = refl
 lit_twice σ τ (bits w v) = ap₂ bits (put_twice σ τ w) (put_twice σ τ v)
 
-expr_twice : (σ τ : Numbers) (e : tree.Expr) → put_expr τ (put_expr σ e) ≡ put_expr (both σ τ) e
+pub expr_twice : (σ τ : Numbers) (e : tree.Expr) → put_expr τ (put_expr σ e) ≡ put_expr (both σ τ) e
 expr_twice σ τ (read f) = ap (λ g. read g) (fam_twice σ τ f)
 expr_twice σ τ (out f q) = ap (λ g. out g q) (fam_twice σ τ f)
 expr_twice σ τ (value l) = ap (λ k. value k) (lit_twice σ τ l)
@@ -163,11 +154,12 @@ but_at : (b : Bool) (o p : Option ℤ) → or_then (if b then None else o) (if b
 but_at true o p = refl
 but_at false o p = refl
 
-but_both : (x : Name) (σ τ : Numbers) → both (but x σ) (but x τ) ≡ but x (both σ τ)
+pub but_both : (x : Name) (σ τ : Numbers) → both (but x σ) (but x τ) ≡ but x (both σ τ)
 but_both x σ τ = λ i y. but_at (bytes_eq x y) (σ y) (τ y) i
 
 mutual
   unfolding put_stmt
+
   stmt_twice : (σ τ : Numbers) (s : tree.Stmt) → put_stmt τ (put_stmt σ s) ≡ put_stmt (both σ τ) s
   stmt_twice σ τ (assign line f e) = ap₂ (λ g k. assign line g k) (fam_twice σ τ f) (expr_twice σ τ e)
   stmt_twice σ τ (bind line f e) = ap₂ (λ g k. bind line g k) (fam_twice σ τ f) (expr_twice σ τ e)
@@ -175,7 +167,7 @@ mutual
   stmt_twice σ τ (repeat line x from to body) = λ i. repeat line x (put_twice σ τ from i) (put_twice σ τ to i) ((stmts_twice (but x σ) (but x τ) body ∙ ap (λ ρ. put_stmts ρ body) (but_both x σ τ)) i)
   stmt_twice σ τ (given line left c right first second) = λ i. given line (put_twice σ τ left i) c (put_twice σ τ right i) (stmts_twice σ τ first i) (else_twice σ τ second i)
 
-  stmts_twice : (σ τ : Numbers) (body : Stmts) → put_stmts τ (put_stmts σ body) ≡ put_stmts (both σ τ) body
+  pub stmts_twice : (σ τ : Numbers) (body : Stmts) → put_stmts τ (put_stmts σ body) ≡ put_stmts (both σ τ) body
   stmts_twice σ τ no_stmt = refl
   stmts_twice σ τ (stmt s rest) = ap₂ stmt (stmt_twice σ τ s) (stmts_twice σ τ rest)
 
@@ -199,9 +191,10 @@ bound_at : (x : Name) (k : ℤ) (gens : Gens) (y : Name) → or_then (but x (fin
 bound_at x k [] y = elim (bytes_eq x y) as (λ b. or_then (if b then None else None) (if b then Some k else None) ≡ (if b then Some k else None)) [ true ↦ refl | false ↦ refl ]
 bound_at x k (g ∷ gens) y =
     let P : Bool → Type 0 = λ a. bytes_eq g.0 x ≡ a → or_then (but x (find (g ∷ gens)) y) (only_this x k y) ≡ find ((if a then without x gens else g ∷ without x gens) ++ (x, k) ∷ []) y in
-    let q : P (bytes_eq g.0 x) = elim (bytes_eq g.0 x) as P
-      [ true ↦ λ e. at_first (bytes_eq g.0 y) (bytes_eq x y) g.1 (find gens y) (only_this x k y) (ap (λ z. bytes_eq z y) ((bytes_eq-Decides g.0 x).0 e)) ∙ bound_at x k gens y
-      | false ↦ λ e. at_other (bytes_eq g.0 y) (bytes_eq x y) g.1 (find gens y) (only_this x k y) (find (bound x k gens) y) (λ h. apart g.0 x y e h (bytes_eq x y) refl) (bound_at x k gens y) ] in q refl
+    let q : P (bytes_eq g.0 x) = elim (bytes_eq g.0 x) as P [
+      | true ↦ λ e. at_first (bytes_eq g.0 y) (bytes_eq x y) g.1 (find gens y) (only_this x k y) (ap (λ z. bytes_eq z y) ((bytes_eq-Decides g.0 x).0 e)) ∙ bound_at x k gens y
+      | false ↦ λ e. at_other (bytes_eq g.0 y) (bytes_eq x y) g.1 (find gens y) (only_this x k y) (find (bound x k gens) y) (λ h. apart g.0 x y e h (bytes_eq x y) refl) (bound_at x k gens y)
+    ] in q refl
   where
     apart : (u v w : Name) → bytes_eq u v ≡ false → bytes_eq u w ≡ true → (c : Bool) → bytes_eq v w ≡ c → c ≡ false
     apart u v w e h false p = refl
@@ -209,7 +202,7 @@ bound_at x k (g ∷ gens) y =
         let same : u ≡ v = (bytes_eq-Decides u w).0 h ∙ sym ((bytes_eq-Decides v w).0 p) in
         let yes' : bytes_eq u v ≡ true = (bytes_eq-Decides u v).1 same in absurd (cc)
 
-bound_find : (x : Name) (k : ℤ) (gens : Gens) → both (but x (find gens)) (only_this x k) ≡ find (bound x k gens)
+pub bound_find : (x : Name) (k : ℤ) (gens : Gens) → both (but x (find gens)) (only_this x k) ≡ find (bound x k gens)
 bound_find x k gens = λ i y. bound_at x k gens y i
 
 pub turn_twice : (x : Name) (k : ℤ) (gens : Gens) (body : Stmts) → put_stmts (only_this x k) (put_stmts (but x (find gens)) body) ≡ put_stmts (find (bound x k gens)) body
@@ -217,13 +210,13 @@ turn_twice x k gens body = stmts_twice (but x (find gens)) (only_this x k) body 
 
 -- ---- what walks yield
 
-yields_then : {A B : Type 0} (P : A → Type 0) (Q : B → Type 0) (w : Walk A) (f : A → Walk B) → Yields P w → ((a : A) → P a → Yields Q (f a)) → Yields Q (and_then w f)
+pub yields_then : {A B : Type 0} (P : A → Type 0) (Q : B → Type 0) (w : Walk A) (f : A → Walk B) → Yields P w → ((a : A) → P a → Yields Q (f a)) → Yields Q (and_then w f)
 unfolding and_then Yields
 yields_then P Q (Gives a) f y h = h a y
 yields_then P Q (Faulty fault) f y h = tt
 yields_then P Q (Counted what line w) f y h = yields_then P Q w f y h
 
-ranged_yields : (line : ℕ) (n : ℤ) → Yields IsInRange (ranged line n)
+pub ranged_yields : (line : ℕ) (n : ℤ) → Yields IsInRange (ranged line n)
 unfolding Yields
 ranged_yields line n = in_case (in_range n) refl
   where
@@ -239,22 +232,22 @@ named_yields line x (Some n) h = h
 anything : {A : Type 0} → A → Type 0
 anything a = Unit {0}
 
-number_yields : (line : ℕ) (gens : Gens) (t : Int) → AreInRange gens → Yields IsInRange (number line gens t)
+pub number_yields : (line : ℕ) (gens : Gens) (t : Int) → AreInRange gens → Yields IsInRange (number line gens t)
 unfolding number
 number_yields line gens (num n) h = ranged_yields line (pos n)
 number_yields line gens (var x) h = named_yields line x (find gens x) (fine_find gens x h)
 number_yields line gens (bin op a b) h =
     yields_then IsInRange IsInRange (number line gens a) (λ m. and_then (number line gens b) (λ n. ranged line (apply_op op m n))) (number_yields line gens a h)
-      (λ m p. yields_then IsInRange IsInRange (number line gens b) (λ n. ranged line (apply_op op m n)) (number_yields line gens b h) (λ n q. ranged_yields line (apply_op op m n)))
+    (λ m p. yields_then IsInRange IsInRange (number line gens b) (λ n. ranged line (apply_op op m n)) (number_yields line gens b h) (λ n q. ranged_yields line (apply_op op m n)))
 
-abbrev Both : ℤ × ℤ → Type 0
+abbrev pub Both : ℤ × ℤ → Type 0
 Both pair = IsInRange pair.0 × IsInRange pair.1
 
-two_yields : (line : ℕ) (gens : Gens) (a b : Int) → AreInRange gens → Yields Both (two_numbers line gens a b)
+pub two_yields : (line : ℕ) (gens : Gens) (a b : Int) → AreInRange gens → Yields Both (two_numbers line gens a b)
 unfolding two_numbers Yields
 two_yields line gens a b h =
     yields_then IsInRange Both (number line gens a) (λ m. and_then (number line gens b) (λ n. Gives (m, n))) (number_yields line gens a h)
-      (λ m p. yields_then IsInRange Both (number line gens b) (λ n. Gives (m, n)) (number_yields line gens b h) (λ n q. (p, q)))
+    (λ m p. yields_then IsInRange Both (number line gens b) (λ n. Gives (m, n)) (number_yields line gens b h) (λ n q. (p, q)))
 
 -- ---- the turns of a loop have numbers in range
 
@@ -293,14 +286,14 @@ turn_in from to n i p q e h =
     let b : to ≤ℤ highest = below_highest to q in
     between (from +ℤ pos i) (omega (arith, ints)) (omega (arith, ints))
 
-turn_fine : (from to : ℤ) (i : ℕ) → IsInRange from → IsInRange to → i < turns_of (to -ℤ from) → IsInRange (from +ℤ pos i)
+pub turn_fine : (from to : ℤ) (i : ℕ) → IsInRange from → IsInRange to → i < turns_of (to -ℤ from) → IsInRange (from +ℤ pos i)
 turn_fine from to i p q h = by_sign (to -ℤ from) refl h
   where
     by_sign : (d : ℤ) → to -ℤ from ≡ d → i < turns_of d → IsInRange (from +ℤ pos i)
     by_sign (pos n) e k = turn_in from to n i p q e k
     by_sign (negsuc n) e k = absurd (omega arith)
 
-same_turns : {A : Type 0} (line : ℕ) (f g : ℤ → A → Walk A) (k : ℤ) (count : ℕ) (made : A) → ((i : ℕ) → i < count → (m : A) → f (k +ℤ pos i) m ≡ g (k +ℤ pos i) m) → turns line f k count made ≡ turns line g k count made
+pub same_turns : {A : Type 0} (line : ℕ) (f g : ℤ → A → Walk A) (k : ℤ) (count : ℕ) (made : A) → ((i : ℕ) → i < count → (m : A) → f (k +ℤ pos i) m ≡ g (k +ℤ pos i) m) → turns line f k count made ≡ turns line g k count made
 unfolding turns
 same_turns line f g k zero made h = refl
 same_turns line f g k (suc count) made h =
@@ -319,7 +312,6 @@ abbrev Below : ℕ → Type 0
 Below d = (body : Stmts) (gens : Gens) (made : Body) → AreInRange gens → loops_stmts body < d → statements body gens made ≡ closed_body d gens (put_stmts (find gens) body) made
 
 module _ (d : ℕ) (inner : Below d) where
-
   one_turn : (x : Name) (k : ℤ) (body : Stmts) (gens : Gens) (made : Body) → AreInRange gens → IsInRange k → loops_stmts body < d → statements body (bound x k gens) made ≡ closed_body d (bound x k gens) (put_stmts (only_this x k) (put_stmts (but x (find gens)) body)) made
   one_turn x k body gens made h p l = inner body (bound x k gens) made (fine_bound x k gens h p) l ∙ ap (λ b. closed_body d (bound x k gens) b made) (sym (turn_twice x k gens body))
 
@@ -343,6 +335,7 @@ module _ (d : ℕ) (inner : Below d) where
 
   mutual
     unfolding statement closed_stmt put_stmt loops_stmt
+
     stmt_level : (s : tree.Stmt) (gens : Gens) (made : Body) → AreInRange gens → loops_stmt s ≤ d → statement s gens made ≡ closed_stmt (closed_body d) gens (put_stmt (find gens) s) made
     stmt_level (assign line f e) gens made h l = ap₂ (λ v w. and_then (counts Statements line) (λ u. and_then v (λ x. and_then w (λ y. Gives (added made (Assign line gens x y)))))) (fam_put line gens f h) (expr_put line gens e h)
     stmt_level (bind line f e) gens made h l = ap₂ (λ v w. and_then (counts Statements line) (λ u. and_then v (λ x. and_then w (λ y. Gives (added made (Let line gens x y)))))) (fam_put line gens f h) (expr_put line gens e h)
@@ -359,7 +352,7 @@ module _ (d : ℕ) (inner : Below d) where
         let n : loops_else second ≤ d = omega arith in
         λ j. and_then (two_put line gens left right h j) (λ pair. if holds c pair.0 pair.1 then stmts_level first gens made h m j else else_stmts_level second gens made h n j)
 
-    stmts_level : (body : Stmts) (gens : Gens) (made : Body) → AreInRange gens → loops_stmts body ≤ d → statements body gens made ≡ closed_stmts (closed_body d) gens (put_stmts (find gens) body) made
+    pub stmts_level : (body : Stmts) (gens : Gens) (made : Body) → AreInRange gens → loops_stmts body ≤ d → statements body gens made ≡ closed_stmts (closed_body d) gens (put_stmts (find gens) body) made
     stmts_level no_stmt gens made h l = refl
     stmts_level (stmt s rest) gens made h l =
         let m : loops_stmt s ≤ d = omega arith in

@@ -1,3 +1,4 @@
+pub mod Closed
 pub mod Design
 pub mod Elab
 pub mod Elaborated

@@ -1,5 +1,5 @@
 -- The whole numbers of elaboration, and the names that have one.
-use Rattle.std.specs.Prelude.{ℕ, Bool, ◌&&◌, not, ℤ, pos, negsuc, ◌+ℤ◌, ◌-ℤ◌, ◌*ℤ◌, int_lt, int_le, List, [], ◌∷◌, ◌++◌, Option, Some, None, bytes_eq, if◌then◌else◌, nat_le, codes, decimal}
+use Rattle.std.specs.Prelude.{◌≡◌, ℕ, Bool, true, ◌&&◌, not, ℤ, pos, negsuc, ◌+ℤ◌, ◌-ℤ◌, ◌*ℤ◌, int_lt, int_le, List, [], ◌∷◌, ◌++◌, Option, Some, None, bytes_eq, if◌then◌else◌, nat_le, codes, decimal}
 use Rattle.gen_tree.specs.declared.IntOp.{IntOp}
 use Rattle.gen_tree.specs.declared.IntOp.TheVariants as int_op
 use Rattle.gen_tree.specs.declared.Cmp.{Cmp}
@@ -25,10 +25,17 @@ holds cmp.Le a b = int_le a b
 abbrev pub in_range : ℤ → Bool
 in_range n = int_le (negsuc 4611686018427387903) n && int_le n (pos 4611686018427387904)
 
+abbrev pub IsInRange : ℤ → Type 0
+IsInRange n = in_range n ≡ true
+
 -- the parameters and loop variables that have a number at a place: the parameters in order, then the loops from outer to
 -- inner, without those that are hidden
 abbrev pub Gens : Type 0
 Gens = List (Name × ℤ)
+
+abbrev pub AreInRange : Gens → Type 0
+AreInRange [] = Unit {0}
+AreInRange (g ∷ gens) = IsInRange g.1 × AreInRange gens
 
 abbrev pub find : Gens → Name → Option ℤ
 find [] x = None

@@ -1,12 +1,12 @@
 -- Names replaced by numbers in a source, and elaboration by it: no name is ever looked up.
-use Rattle.std.specs.Prelude.{ℕ, zero, suc, ◌+◌, max, Bool, true, false, ℤ, pos, negsuc, List, [], ◌∷◌, ◌++◌, length, map, Option, Some, None, option_map, if◌then◌else◌, bytes_eq, codes}
+use Rattle.std.specs.Prelude.{ℕ, zero, suc, max, ℤ, pos, negsuc, List, [], ◌∷◌, Option, Some, None, option_map, if◌then◌else◌, bytes_eq}
 use Rattle.gen_tree.specs.declared.IntOp.TheVariants as int_op
 use Rattle.gen_tree.specs.Tree as tree
 use Rattle.gen_tree.specs.Tree.{Int, num, var, bin, Fam, Lit, plain, bits, read, out, value, unary, binary, mux, zext, slice, assign, bind, choose, repeat, given, Stmts, no_stmt, stmt, no_else, otherwise, Param, wire, reg, inst, comb, ff, repeat_items, given_items, Items, no_item, item, ElseItems, no_else_items, otherwise_items, Port, Module}
-use Rattle.elab_core.specs.Walk.{Walk, Gives, Faulty, ◌>>=◌, and_then, counts, Instances, Statements, Signals, TooDeep}
-use Rattle.elab_core.specs.Numbers.{Name, Gens, find, bound, fam_name, two_numbers, turn_count, holds}
-use Rattle.elab_core.specs.Elaborated.{Assign, Let, If, Body, Done, Else, NoElse, Otherwise, added, Signal, Block, Instance}
-use Rattle.elab_core.specs.Elab.{expr, turns, module_named, asked, Asked, register, wire_signal, ports, count_outputs, Made, nothing, with_signal, with_block, with_child, Here, Enter, instances_of, top_values}
+use Rattle.elab_core.specs.Walk.{Walk, Gives, ◌>>=◌, counts, Statements}
+use Rattle.elab_core.specs.Numbers.{Name, Gens, bound, fam_name, two_numbers, turn_count, holds}
+use Rattle.elab_core.specs.Elaborated.{Assign, Let, If, Body, Done, Else, NoElse, Otherwise, added}
+use Rattle.elab_core.specs.Elab.{expr, turns}
 
 -- what a name stands for, if it is to be replaced
 abbrev pub Numbers : Type 0
@@ -101,7 +101,6 @@ only_this x n y = if bytes_eq x y then Some n else None
 
 -- `turn` is what the body of a loop's turn gives
 module _ (turn : Gens → Stmts → Body → Walk Body) where
-
   unfoldable mutual
     pub closed_stmt : Gens → tree.Stmt → Body → Walk Body
     closed_stmt shown (assign line f e) made = do
