@@ -5,4 +5,4 @@
 
 mod laws;
 
-pub use laws::{elaborates_the_samples, first_faulty_event};
+pub use laws::{by_substitution, elaborates_the_samples, first_faulty_event};
