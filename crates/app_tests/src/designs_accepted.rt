@@ -1,7 +1,7 @@
 //! Sources that are accepted, and the lines that they have.
 
 use crate::outcome::trail;
-use crate::worked_example::{STIMULUS, TEXT, padded_source};
+use crate::worked_example::{SOURCE, STIMULUS, TEXT, padded};
 use std::alloc::Global;
 use std::test::Fail;
 use text_core::NoMemory;
@@ -79,7 +79,7 @@ fn has_text(
 
 /// Whether the source of the worked example has its text where it has as many bytes as a source may have.
 fn has_text_where_longest(alloc: Global) -> Result<bool, NoMemory> {
-    let source = padded_source(alloc, 1_048_576)?;
+    let source = padded(alloc, SOURCE, b' ', 1_048_576)?;
     let outcome = trail(alloc, &source, STIMULUS.as_bytes(), "P")?;
     outcome.is(0, TEXT, &["P.hg", "P.stim"])
 }

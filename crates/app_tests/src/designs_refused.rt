@@ -1,7 +1,7 @@
 //! Sources that are not accepted.
 
 use crate::outcome::trail;
-use crate::worked_example::{STIMULUS, padded_source};
+use crate::worked_example::{SOURCE, STIMULUS, padded};
 use std::alloc::Global;
 use std::test::Fail;
 use text_core::NoMemory;
@@ -144,7 +144,7 @@ fn is_refused(alloc: Global, source: &[u8]) -> Result<bool, NoMemory> {
 
 /// Whether the source of the worked example is refused where it has a byte more than a source may have.
 fn is_refused_where_too_long(alloc: Global) -> Result<bool, NoMemory> {
-    let source = padded_source(alloc, 1_048_577)?;
+    let source = padded(alloc, SOURCE, b' ', 1_048_577)?;
     is_refused(alloc, &source)
 }
 

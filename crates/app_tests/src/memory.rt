@@ -8,6 +8,7 @@ use gen_text::read_source;
 use io_edge::MemSink;
 use std::alloc::Global;
 use std::test::Fail;
+use stim_text::read_stim;
 
 /// The form of the worked example.
 fn worked_form(alloc: Global) -> Result<FirstForm, Fail> {
@@ -16,11 +17,12 @@ fn worked_form(alloc: Global) -> Result<FirstForm, Fail> {
     Ok(form.ok_or("no form")?)
 }
 
-/// What the trail of a form writes over the rows of the worked example.
+/// What the trail of a form writes over the stimulus of the worked example.
 fn trail_of(alloc: Global, form: &FirstForm) -> Result<MemSink, Fail> {
-    let rows = form.read_rows(alloc, STIMULUS.as_bytes())?;
+    let ports = form.ports(alloc)?;
+    let stim = read_stim(alloc, STIMULUS.as_bytes(), &ports)?;
     let mut out = ample_sink(alloc)?;
-    form.write_trail(alloc, &rows, &mut out)?;
+    form.write_trail(alloc, &stim, &mut out)?;
     Ok(out)
 }
 

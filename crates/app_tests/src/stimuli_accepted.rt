@@ -1,13 +1,14 @@
-//! Stimuli that the inputs of the worked example take, and the lines that they have.
+//! Stimuli that the inputs of a design take, and the lines that they have.
 
-use crate::outcome::trail;
-use crate::worked_example::{SOURCE, long_stimulus};
+use crate::outcome::{command_of, file_of, files_of, outcome_of, trail};
+use crate::worked_example::{NO_INPUT, SOURCE, padded};
+use io_edge::MemSink;
 use std::alloc::Global;
 use std::test::Fail;
 use text_core::NoMemory;
 
 /// Stimuli for the one input `a` of 4 bits, and the text.
-static ACCEPTED: [(&str, &str); 7] = [
+static ACCEPTED: [(&str, &str); 8] = [
     ("a\n", ""),
     ("a", ""),
     (
@@ -30,6 +31,10 @@ static ACCEPTED: [(&str, &str); 7] = [
         "a\n15\n2\n",
         "0 6 P a=4'hf y=unset t=unset\n0 7 P a=4'hf y=unset t=4'h0\n1 6 P a=4'h2 y=unset t=unset\n1 7 P a=4'h2 y=unset t=4'h3\n",
     ),
+    (
+        "a\n0xF\n0x02\n",
+        "0 6 P a=4'hf y=unset t=unset\n0 7 P a=4'hf y=unset t=4'h0\n1 6 P a=4'h2 y=unset t=unset\n1 7 P a=4'h2 y=unset t=4'h3\n",
+    ),
 ];
 
 /// Whether the source of the worked example has this text over a stimulus.
@@ -38,15 +43,16 @@ fn has_text(alloc: Global, stimulus: &str, text: &str) -> Result<bool, NoMemory>
     outcome.is(0, text, &["P.hg", "P.stim"])
 }
 
-/// Whether the source of the worked example has two lines a cycle where there are as many rows as a stimulus may have.
-fn has_all_lines_where_longest(alloc: Global) -> Result<bool, NoMemory> {
-    let stimulus = long_stimulus(alloc, 1000)?;
-    let outcome = trail(alloc, SOURCE.as_bytes(), &stimulus, "P")?;
-    if outcome.status == 9 {
-        return Err(NoMemory);
-    }
-    let line_ends = outcome.out.bytes().iter().filter(|byte| **byte == b'\n');
-    Ok(outcome.status == 0 && line_ends.count() == 2000)
+/// Whether a stimulus of as many rows as a stimulus may have is accepted: the first line is taken, and the second finds no
+/// room.
+fn is_accepted_with_most_rows(alloc: Global) -> Result<bool, NoMemory> {
+    let words = command_of(alloc, "P")?;
+    let source = file_of(alloc, "P.hg", NO_INPUT.as_bytes())?;
+    let stimulus = file_of(alloc, "P.stim", &padded(alloc, "", b'\n', 1_000_001)?)?;
+    let files = files_of(alloc, source, stimulus, &[])?;
+    let out = MemSink::new(alloc, 14, Vec::new(alloc))?;
+    let outcome = outcome_of(alloc, &words, files, out);
+    outcome.is(8, "0 1 P y=unset\n", &["P.hg", "P.stim"])
 }
 
 #[test]
@@ -55,7 +61,7 @@ fn stimuli_that_the_inputs_take_have_their_lines(rt: HostRuntime) -> Result<(), 
         let has_its_text = has_text(rt.alloc(), stimulus, text)?;
         assert!(rt; has_its_text, "case {i}");
     }
-    let has_all_lines = has_all_lines_where_longest(rt.alloc())?;
-    assert!(rt; has_all_lines);
+    let accepted = is_accepted_with_most_rows(rt.alloc())?;
+    assert!(rt; accepted);
     Ok(())
 }

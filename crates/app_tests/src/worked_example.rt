@@ -2,7 +2,7 @@
 
 use crate::outcome::{file_of, files_of};
 use io_edge::MemFiles;
-use std::alloc::{AllocError, Global};
+use std::alloc::Global;
 use text_core::NoMemory;
 
 /// The source. Its statements stand in the lines 6 and 7.
@@ -39,21 +39,39 @@ pub(crate) fn worked_files(
     files_of(alloc, source, stimulus, failing)
 }
 
-/// The source with blanks behind it, of this many bytes in all.
-pub(crate) fn padded_source(alloc: Global, bytes: usize) -> Result<Vec<u8>, AllocError> {
-    let mut source = Vec::with_capacity(alloc, bytes)?;
-    source.extend_from_slice(SOURCE.as_bytes())?;
-    for _ in SOURCE.len()..bytes {
-        source.extend_from_slice(b" ")?;
-    }
-    Ok(source)
-}
+/// A source of one statement whose module has no input.
+pub(crate) static NO_INPUT: &str = "module P { output y : 4; comb { y = 4'h3; } }";
 
-/// A stimulus of this many cycles, each as the one of the worked example.
-pub(crate) fn long_stimulus(alloc: Global, cycles: usize) -> Result<Vec<u8>, AllocError> {
-    let mut stimulus = b"a\n".to_vec(alloc)?;
-    for _ in 0..cycles {
-        stimulus.extend_from_slice(b"15\n")?;
+/// A source whose module has two inputs.
+pub(crate) static TWO_INPUTS: &str =
+    "module P { input en : 1; input d : 8; output q : 8; comb { q = d; } }";
+
+/// A source whose module has seventeen inputs.
+pub(crate) static SEVENTEEN_INPUTS: &str = "\
+module P {
+  input a : 1; input b : 1; input c : 1; input d : 1; input e : 1; input f : 1;
+  input g : 1; input h : 1; input i : 1; input j : 1; input k : 1; input l : 1;
+  input m : 1; input n : 1; input o : 1; input p : 1; input q : 1;
+  output y : 1;
+  comb { y = a; }
+}
+";
+
+/// A text with one byte behind it, again and again, up to this many bytes in all.
+pub(crate) fn padded(
+    alloc: Global,
+    front: &str,
+    filler: u8,
+    bytes: usize,
+) -> Result<Vec<u8>, NoMemory> {
+    let mut text = Vec::with_capacity(alloc, bytes)?;
+    text.extend_from_slice(front.as_bytes())?;
+    let count = bytes.saturating_sub(front.len());
+    let block = vec![in alloc; filler; 1024]?;
+    for _ in 0..count / 1024 {
+        text.extend_from_slice(&block)?;
     }
-    Ok(stimulus)
+    let rest = vec![in alloc; filler; count % 1024]?;
+    text.extend_from_slice(&rest)?;
+    Ok(text)
 }

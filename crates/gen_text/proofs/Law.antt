@@ -137,6 +137,24 @@ read_fault room ts left e =
     let h : Halt mode.Source room (a_module ∷ []) ts left = halts mode.Source ts room left (a_module ∷ []) ((answer room ts).err left e) in
     record { good = h.good; bad = h.bad; parts = h.parts; count = h.count; completion = h.completion; begins = accepted_spelled (room + h.extra) (h.good ++ h.completion) h.begins; within = h.within; is_bad = bad_is room ts h.good h.bad left e h.parts h.within h.why }
 
+-- a bracket for which there is no room
+too_many : (good : List Tok) (room : ℕ) (t : Tok) (more : List Tok) → room_left room good ≡ Some 0 → side t.word ≡ opens → Within room (good ++ t ∷ more) → ⊥
+too_many [] room t more e h w = let z : room ≡ 0 = cc in let gone : room_after room t.word ≡ None = rw (z, h) refl in (let w2 : IsSome (option_and_then (λ r. room_left r more) None) = rw gone at w in absurd cc)
+too_many (g ∷ good) room t more e h w = by (λ r. too_many good r t more) (room_after room g.word) e w
+  where
+    by : ((r : ℕ) → room_left r good ≡ Some 0 → side t.word ≡ opens → Within r (good ++ t ∷ more) → ⊥) → (o : Option ℕ) → option_and_then (λ r. room_left r good) o ≡ Some 0 → IsSome (option_and_then (λ r. room_left r (good ++ t ∷ more)) o) → ⊥
+    by next None e w = absurd cc
+    by next (Some r) e w = next r e h w
+
+-- what is whole has no fault
+pub not_whole : (room : ℕ) (ts : List Tok) (modules : List Module) (left : ℕ) → Spells modules ts → Within room ts → FaultAt IsSource room ts left → ⊥
+not_whole room ts modules left s w f = by f.bad f.parts f.is_bad
+  where
+    by : (bad : List Tok) → ts ≡ f.good ++ bad → IsBad IsSource room f.good bad → ⊥
+    by [] parts bad = bad (modules, subst (λ (x : List Tok). Spells modules x) (parts ∙ append-nil f.good) s)
+    by (t ∷ rest) parts (inl none) = none rest (modules, subst (λ (x : List Tok). Spells modules x) parts s)
+    by (t ∷ rest) parts (inr deep) = too_many f.good room t rest deep.0 deep.1 (subst (λ (x : List Tok). Within room x) parts w)
+
 -- ---- the place is one
 
 -- of two cuts of one list, the later goes over the earlier
@@ -154,14 +172,6 @@ later (u ∷ a) b (t ∷ c) d e lt =
     let rest : a ++ b ≡ c ++ d = cc in
     let l : Later a b c d = later a b c d rest (omega arith) in
     record { first = l.first; between = l.between; front = ap₂ (λ x xs. x ∷ xs) (sym same) l.front; back = l.back }
-
-too_many : (good : List Tok) (room : ℕ) (t : Tok) (more : List Tok) → room_left room good ≡ Some 0 → side t.word ≡ opens → Within room (good ++ t ∷ more) → ⊥
-too_many [] room t more e h w = let z : room ≡ 0 = cc in let gone : room_after room t.word ≡ None = rw (z, h) refl in (let w2 : IsSome (option_and_then (λ r. room_left r more) None) = rw gone at w in absurd cc)
-too_many (g ∷ good) room t more e h w = by (λ r. too_many good r t more) (room_after room g.word) e w
-  where
-    by : ((r : ℕ) → room_left r good ≡ Some 0 → side t.word ≡ opens → Within r (good ++ t ∷ more) → ⊥) → (o : Option ℕ) → option_and_then (λ r. room_left r good) o ≡ Some 0 → IsSome (option_and_then (λ r. room_left r (good ++ t ∷ more)) o) → ⊥
-    by next None e w = absurd cc
-    by next (Some r) e w = next r e h w
 
 not_before : (S : List Tok → Type 0) (room : ℕ) (ts : List Tok) (left left2 : ℕ) → FaultAt S room ts left → FaultAt S room ts left2 → left2 < left → ⊥
 not_before S room ts left left2 f g lt = by f.bad (later f.good f.bad g.good g.bad (sym f.parts ∙ g.parts) shorter) f.is_bad

@@ -1,3 +1,4 @@
+pub mod Answers
 pub mod Completions
 pub mod Depth
 pub mod ExprsRead
@@ -13,6 +14,7 @@ pub mod OnlyExprs
 pub mod OnlyItems
 pub mod OnlyModules
 pub mod OnlyStmts
+pub mod Sample
 pub mod SourceLoop
 pub mod StmtsRead
 pub mod WordsRead

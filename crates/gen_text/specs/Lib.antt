@@ -1,3 +1,5 @@
 pub mod Faults
 pub mod Forms
+pub mod Laws
 pub mod Reading
+pub mod Source

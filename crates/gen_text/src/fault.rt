@@ -1,6 +1,8 @@
 ghost use Rattle.std.specs.Prelude.{◌≡◌};
+ghost use Rattle.gen_text.specs.Faults.{text_fault_of};
 ghost use Rattle.gen_text.specs.declared.fault.ReadFault.TheVariants as read_faults;
 
+use gen_token::TokenFault;
 use std::alloc::{AllocError, AllocFailed};
 use text_core::NoMemory;
 
@@ -51,5 +53,16 @@ impl<T: Drop> From<AllocFailed<T>> for ReadFault {
 
     fn from(_: AllocFailed<T>) -> Self {
         ReadFault::NoMemory
+    }
+}
+
+impl From<TokenFault> for TextFault {
+    ghost from_gives = { λ fault e. e ≡ text_fault_of fault };
+
+    fn from(fault: TokenFault) -> Self {
+        match fault {
+            TokenFault::BadToken { line } => TextFault::BadToken { line },
+            TokenFault::NoMemory => TextFault::NoMemory,
+        }
     }
 }

@@ -5,9 +5,13 @@ mod exprs;
 mod fault;
 mod ints;
 mod items;
+mod laws;
 mod members;
 mod modules;
+mod source;
 mod stmts;
 mod words;
 
 pub use fault::TextFault;
+pub use laws::{one_answer, one_place, one_spelling, spells_the_sample};
+pub use source::read_source;

@@ -1,0 +1,8 @@
+mod Binds
+mod WordLemmas
+mod CodeLemmas
+mod Leading
+mod Rows
+mod States
+mod Keeping
+mod Wholes

@@ -1,0 +1,10 @@
+pub mod Changes
+pub mod Columns
+pub mod Commands
+pub mod Examples
+pub mod Head
+pub mod Kept
+pub mod Meaning
+pub mod Results
+pub mod Seen
+pub mod Words
