@@ -222,11 +222,11 @@ one_answer files row a b (Trail r) (Trail s) = one_trail files row a b r s
 -- ---- completeness
 
 completes : (files : Contents) (row : Row) (status : ℕ) (old new : Option (List ℕ)) (read_rose write_rose : Type 0) → IsTrue (is_status status) → (status < 7 → EndsAsAsked files row status old new) → (status ≡ 7 → read_rose) → (status ≡ 8 → write_rose) → Completes files row status old new read_rose write_rose
-completes files row status old new read_rose write_rose known done read write = λ text asks no_read no_write.
+completes files row status old new read_rose write_rose known done read write = λ answer asks no_read no_write.
     elim (late_status status known) [
       | inl h ↦
           let e = done h in
-          let same : record { status = status; text = e.text } ≡ record { status = 0; text = text } = one_answer files row (record { status = status; text = e.text }) (record { status = 0; text = text }) e.asked asks in
+          let same : record { status = status; text = e.text } ≡ answer = one_answer files row (record { status = status; text = e.text }) answer e.asked asks in
           inl (ap (λ (a : Answer). a.status) same, rw (← ap (λ (a : Answer). a.text) same) e.taken)
       | inr (inl e) ↦ absurd (no_read (read e))
       | inr (inr (inl e)) ↦ absurd (no_write (write e))

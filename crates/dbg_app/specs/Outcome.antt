@@ -7,7 +7,7 @@ use Rattle.stim_text.specs.declared.StimFault.TheVariants as stim_faults
 use Rattle.dbg_app.specs.declared.design_fault.DesignFault.{DesignFault}
 use Rattle.dbg_app.specs.declared.design_fault.DesignFault.TheVariants.{Text}
 use Rattle.dbg_app.specs.Command.{Row}
-use Rattle.dbg_app.specs.Answers.{Contents, Asks, design_fault, stimulus_fault}
+use Rattle.dbg_app.specs.Answers.{Answer, Contents, Asks, design_fault, stimulus_fault}
 use Rattle.dbg_app.specs.declared.stop.Stop.{Stop}
 use Rattle.dbg_app.specs.declared.stop.Stop.TheVariants.{ReadFault, WriteFault, NoMemory}
 
@@ -53,8 +53,8 @@ pub record TakesFront (files : Contents) (row : Row) (old new : Option (List ℕ
 abbrev pub TakesSome : Contents → Row → Option (List ℕ) → Option (List ℕ) → Type 0
 TakesSome files row old new = (new ≡ old) ⊎ TakesFront files row old new
 
--- where the files ask for this text with status 0, and neither count has risen, the whole of it was taken with status 0,
--- or memory ran out
+-- where the files ask for an answer, and neither count has risen, the run ended with its status and the whole of its text was
+-- taken, or memory ran out
 abbrev pub Completes : Contents → Row → ℕ → Option (List ℕ) → Option (List ℕ) → Type 0 → Type 0 → Type 0
 Completes files row status old new read_rose write_rose =
-    (text : List ℕ) → Asks files row (record { status = 0; text = text }) → (read_rose → ⊥) → (write_rose → ⊥) → ((status ≡ 0) × Appends old new text) ⊎ (status ≡ 9)
+    (answer : Answer) → Asks files row answer → (read_rose → ⊥) → (write_rose → ⊥) → ((status ≡ answer.status) × Appends old new answer.text) ⊎ (status ≡ 9)

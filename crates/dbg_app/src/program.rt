@@ -50,7 +50,7 @@ pub fn run<F: Files, S: Sink>(alloc: Global, words: &Words, files: &mut F, out: 
     ensures done { result.status < 7
         → IfAsked (F.told files.old) (row_of words.now) (λ told row. EndsAsAsked told row result.status (S.taken out.old) (S.taken out.new)) }
 
-    // Where nothing fails and the files are accepted: the whole text, or want of memory.
+    // Where the files ask for an answer and nothing fails: its status and the whole of its text, or want of memory.
     ensures complete { IfAsked (F.told files.old) (row_of words.now) (λ told row.
         Completes told row result.status (S.taken out.old) (S.taken out.new)
         (Rose (F.fault_count files.old) (F.fault_count files.new)) (Rose (S.fault_count out.old) (S.fault_count out.new))) }
