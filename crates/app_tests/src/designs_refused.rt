@@ -1,4 +1,4 @@
-//! Sources that are not accepted.
+//! Sources that are refused, and the line of each refusal.
 
 use crate::outcome::trail;
 use crate::worked_example::{SOURCE, STIMULUS, padded};
@@ -6,17 +6,88 @@ use std::alloc::Global;
 use std::test::Fail;
 use text_core::NoMemory;
 
-/// Sources that are not accepted with the top module `P`, and why.
-static REFUSED: [(&str, &[u8]); 33] = [
-    ("nothing", b""),
+/// Texts that are not read, why, and the line.
+static NOT_READ: [(&str, &[u8], &str); 16] = [
+    ("nothing", b"", "design fault 4 Syntax line 1\n"),
+    (
+        "a byte 128",
+        b"module P { \x80 }",
+        "design fault 2 NotAscii offset 11\n",
+    ),
     (
         "a byte 195 in a comment",
         b"module P { input a : 4; output y : 4; wire t : 4; comb { t = (a + 4'h1); y = (t ^ a); } } // \xc3",
+        "design fault 2 NotAscii offset 93\n",
     ),
     (
         "a byte 12",
         b"module P { input a : 4; output y : 4; wire t : 4;\x0ccomb { t = (a + 4'h1); y = (t ^ a); } }",
+        "design fault 2 NotAscii offset 49\n",
     ),
+    (
+        "a byte 127 behind a sign that begins no token",
+        b"$\n\x7f",
+        "design fault 2 NotAscii offset 2\n",
+    ),
+    (
+        "a sign that begins no token",
+        b"module X { $ }",
+        "design fault 3 BadToken line 1\n",
+    ),
+    (
+        "a sign that begins no token in the second line",
+        b"module P {\n  $\n}\n",
+        "design fault 3 BadToken line 2\n",
+    ),
+    (
+        "a number with a letter behind it, and a token before it with which no source goes on",
+        b"module module\n\n4a",
+        "design fault 3 BadToken line 3\n",
+    ),
+    (
+        "a missing semicolon",
+        b"module P { input a : 4; output y : 4; comb { y = a } }",
+        "design fault 4 Syntax line 1\n",
+    ),
+    (
+        "a missing semicolon, and the next token two lines below",
+        b"module P {\n  output y : 1;\n  comb {\n    y = 1'h0\n\n  }\n}\n",
+        "design fault 4 Syntax line 6\n",
+    ),
+    (
+        "a token behind the module",
+        b"module P { input a : 4; output y : 4; comb { y = a; } }\n;",
+        "design fault 4 Syntax line 2\n",
+    ),
+    (
+        "the end of the text behind two line feeds",
+        b"module P {\n  input a : 4;\n",
+        "design fault 4 Syntax line 3\n",
+    ),
+    (
+        "the end of the text within a line",
+        b"module P {\n  input a",
+        "design fault 4 Syntax line 2\n",
+    ),
+    (
+        "a comment alone",
+        b"// module P { }\n",
+        "design fault 4 Syntax line 2\n",
+    ),
+    (
+        "an assignment to a register in a block without a clock",
+        b"module P {\n  reg r : 4 = 4'h0;\n  comb {\n    r <= 4'h1;\n  }\n}\n",
+        "design fault 4 Syntax line 4\n",
+    ),
+    (
+        "a port behind an item",
+        b"module P {\n  wire t : 4;\n  input a : 4;\n}\n",
+        "design fault 4 Syntax line 3\n",
+    ),
+];
+
+/// Sources that are read, and are not accepted with the top module `P`, and why.
+static NOT_YET: [(&str, &[u8]); 31] = [
     (
         "two modules",
         b"module P { input a : 4; output y : 4; comb { y = a; } } module Q { input a : 4; output y : 4; comb { y = a; } }",
@@ -127,36 +198,46 @@ static REFUSED: [(&str, &[u8]); 33] = [
         b"module P { input a : 4; output y : 4; wire t : 4; comb { t#0 = (a + 4'h1); y = a; } }",
     ),
     (
-        "a token behind the module",
-        b"module P { input a : 4; output y : 4; comb { y = a; } } ;",
+        "a register",
+        b"module P { input a : 4; output y : 4; reg r : 4 = 4'h0; comb { y = r; } ff { r <= a; } }",
     ),
     (
-        "a missing semicolon",
-        b"module P { input a : 4; output y : 4; comb { y = a } }",
+        "a number of bits that is computed",
+        b"module P { input a : (2 + 2); output y : 4; comb { y = a; } }",
     ),
+    ("an empty module", b"module P { }"),
 ];
 
-/// Whether a source is refused with the top module `P`, before the stimulus is asked for.
-fn is_refused(alloc: Global, source: &[u8]) -> Result<bool, NoMemory> {
+/// Whether a source is refused with the top module `P` by this line, before the stimulus is asked for.
+fn is_refused(alloc: Global, source: &[u8], line: &str) -> Result<bool, NoMemory> {
     let outcome = trail(alloc, source, STIMULUS.as_bytes(), "P")?;
-    outcome.is(3, "design fault 0 NotYet\n", &["P.hg"])
+    outcome.is(3, line, &["P.hg"])
 }
 
-/// Whether the source of the worked example is refused where it has a byte more than a source may have.
+/// Whether a source is refused where it has a byte more than a source may have, whatever bytes it has.
 fn is_refused_where_too_long(alloc: Global) -> Result<bool, NoMemory> {
-    let source = padded(alloc, SOURCE, b' ', 1_048_577)?;
-    is_refused(alloc, &source)
+    let source = padded(alloc, SOURCE, 128, 1_048_577)?;
+    is_refused(alloc, &source, "design fault 1 TooLong\n")
+}
+
+#[test]
+fn texts_that_are_not_read_are_refused_by_their_lines(rt: HostRuntime) -> Result<(), Fail> {
+    for (why, source, line) in &NOT_READ {
+        let refused = is_refused(rt.alloc(), source, line)?;
+        assert!(rt; refused, "{why}");
+    }
+    let refused = is_refused_where_too_long(rt.alloc())?;
+    assert!(rt; refused);
+    Ok(())
 }
 
 #[test]
 fn sources_that_are_not_accepted_are_refused_before_the_stimulus_is_asked_for(
     rt: HostRuntime,
 ) -> Result<(), Fail> {
-    for (why, source) in &REFUSED {
-        let refused = is_refused(rt.alloc(), source)?;
+    for (why, source) in &NOT_YET {
+        let refused = is_refused(rt.alloc(), source, "design fault 0 NotYet\n")?;
         assert!(rt; refused, "{why}");
     }
-    let refused = is_refused_where_too_long(rt.alloc())?;
-    assert!(rt; refused);
     Ok(())
 }

@@ -4,6 +4,7 @@ use crate::outcome::ample_sink;
 use crate::worked_example::{SOURCE, STIMULUS, TEXT};
 use bv_core::{Bv, text_of};
 use first_form::FirstForm;
+use first_tree::narrow;
 use gen_text::read_source;
 use io_edge::MemSink;
 use std::alloc::Global;
@@ -12,7 +13,8 @@ use stim_text::read_stim;
 
 /// The form of the worked example.
 fn worked_form(alloc: Global) -> Result<FirstForm, Fail> {
-    let tree = read_source(alloc, SOURCE.as_bytes())?;
+    let source = read_source(alloc, SOURCE.as_bytes())?;
+    let tree = narrow(alloc, &source)?.ok_or("no tree")?;
     let form = FirstForm::accept(alloc, tree, b"P")?;
     Ok(form.ok_or("no form")?)
 }

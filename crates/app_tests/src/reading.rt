@@ -1,7 +1,8 @@
-//! The tree that the source of the worked example is read as.
+//! The tree of the first form that the source of the worked example is read as.
 
 use crate::worked_example::SOURCE;
-use gen_text::{Expr, Item, Op, Operand, Port, Statement, TextFault, read_source};
+use first_tree::{Expr, Item, Module, Op, Operand, Port, Statement, narrow};
+use gen_text::read_source;
 use std::alloc::Global;
 use std::test::Fail;
 use text_core::Text;
@@ -71,15 +72,19 @@ fn are_items(items: &[Item]) -> bool {
     matches!(items, [t, block] if is_wire(t, 4, "t", 4) && is_block(block))
 }
 
-/// Whether the source of the worked example is read as its module in line 1.
-fn is_read_as_its_module(alloc: Global) -> Result<bool, TextFault> {
-    let tree = read_source(alloc, SOURCE.as_bytes())?;
-    Ok(
-        tree.line == 1
-            && is_called(&tree.name, "P")
-            && are_ports(tree.ports.items())
-            && are_items(tree.items.items()),
-    )
+/// Whether a tree is the module of the worked example, in line 1.
+fn is_worked_module(tree: &Module) -> bool {
+    tree.line == 1
+        && is_called(&tree.name, "P")
+        && are_ports(tree.ports.items())
+        && are_items(tree.items.items())
+}
+
+/// Whether the source of the worked example is read as its module.
+fn is_read_as_its_module(alloc: Global) -> Result<bool, Fail> {
+    let source = read_source(alloc, SOURCE.as_bytes())?;
+    let tree = narrow(alloc, &source)?.ok_or("no tree")?;
+    Ok(is_worked_module(&tree))
 }
 
 #[test]

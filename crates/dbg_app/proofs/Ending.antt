@@ -3,7 +3,10 @@ use Rattle.std.proofs.Common.{◌≡◌, ◌<◌, ℕ, Bool, true, false, ◌||�
 use Rattle.std.proofs.lemmas.Bool.Decides.{nat_tests}
 use Rattle.io_edge.specs.Taken.{AppendsFront}
 use Rattle.io_edge.proofs.Growth.{front_from_whole}
-use Rattle.gen_text.specs.declared.Module.{Module}
+use Rattle.gen_text.proofs.Answers.{one_reading, no_fault, one_fault}
+use Rattle.first_tree.specs.declared.Module.{Module}
+use Rattle.first_tree.specs.Wide.{wide_module}
+use Rattle.dbg_app.proofs.Judging.{same_form}
 use Rattle.design_core.specs.TrailText.{trail_text}
 use Rattle.first_form.specs.Form.{is_form}
 use Rattle.first_form.specs.Elaborated.{design_of}
@@ -18,13 +21,14 @@ use Rattle.first_form.specs.Runs.{GivesRows}
 use Rattle.first_form.proofs.RunLemmas.{is_trail}
 use Rattle.first_form.proofs.Fitting.{read_fits}
 use Rattle.dbg_app.specs.Command.{Row}
-use Rattle.dbg_app.specs.Answers.{Answer, Contents, Asks, NoDesign, NoStimulus, Trail, IsDesign, RefusesDesign, RefusesStimulus, ShowsTrail, usage_fault, design_fault, stimulus_fault, IfAsked}
+use Rattle.dbg_app.specs.declared.design_fault.DesignFault.{DesignFault}
+use Rattle.dbg_app.specs.declared.design_fault.DesignFault.TheVariants.{Text, NotYet}
+use Rattle.dbg_app.specs.Answers.{Answer, Contents, Asks, NoDesign, NoStimulus, Trail, IsDesign, IsDesignCause, RefusesDesign, RefusesStimulus, ShowsTrail, usage_fault, design_fault, stimulus_fault, IfAsked}
 use Rattle.dbg_app.specs.Judged.{JudgesRow, HasRows, TakesText, TakesTextFront, judged_status}
-use Rattle.dbg_app.specs.Outcome.{is_status, TakesRefusal, TakesSome, EndsAsAsked, Completes}
+use Rattle.dbg_app.specs.Outcome.{is_status, TakesDesignLine, TakesStimulusLine, TakesSome, EndsAsAsked, Completes}
 use Rattle.dbg_app.specs.declared.judge.Judged.{Judged}
 use Rattle.dbg_app.specs.declared.judge.Judged.TheVariants as judged
 use Rattle.dbg_app.specs.declared.judge.Judged.TheVariants.{NoCommand, Accepted}
-use Rattle.gen_text.proofs.Readings.{one}
 
 -- ---- one test after another
 
@@ -79,13 +83,19 @@ usage_taken status judged old new known is early seven late = elim (late_status 
   | inr (inr (inr e)) ↦ (rw is at (late (rw e (lit< tt)))).taken usage_fault refl
 ]
 
--- ---- a refused stimulus
+-- ---- a refused source, a refused stimulus
 
-pub refusal_taken : (status : ℕ) (judged : Judged) (old new : Option (List ℕ)) → status ≡ 4 → status ≡ judged_status judged → TakesText judged old new → TakesRefusal old new
-refusal_taken status NoCommand old new four is t = absurd (let same : 4 ≡ 2 = sym four ∙ is in cc)
-refusal_taken status judged.NoDesign old new four is t = absurd (let same : 4 ≡ 3 = sym four ∙ is in cc)
-refusal_taken status (judged.NoStimulus fault) old new four is t = record { fault = fault; taken = t.taken (stimulus_fault fault) refl }
-refusal_taken status (Accepted form stim) old new four is t = absurd (let same : 4 ≡ 0 = sym four ∙ is in cc)
+pub design_line_taken : (status : ℕ) (judged : Judged) (old new : Option (List ℕ)) → status ≡ 3 → status ≡ judged_status judged → HasRows judged → TakesText judged old new → TakesDesignLine old new
+design_line_taken status NoCommand old new three is h t = absurd (let same : 3 ≡ 2 = sym three ∙ is in cc)
+design_line_taken status (judged.NoDesign fault) old new three is h t = record { fault = fault; refuses = h; taken = t.taken (design_fault fault) refl }
+design_line_taken status (judged.NoStimulus fault) old new three is h t = absurd (let same : 3 ≡ 4 = sym three ∙ is in cc)
+design_line_taken status (Accepted form stim) old new three is h t = absurd (let same : 3 ≡ 0 = sym three ∙ is in cc)
+
+pub stimulus_line_taken : (status : ℕ) (judged : Judged) (old new : Option (List ℕ)) → status ≡ 4 → status ≡ judged_status judged → HasRows judged → TakesText judged old new → TakesStimulusLine old new
+stimulus_line_taken status NoCommand old new four is h t = absurd (let same : 4 ≡ 2 = sym four ∙ is in cc)
+stimulus_line_taken status (judged.NoDesign fault) old new four is h t = absurd (let same : 4 ≡ 3 = sym four ∙ is in cc)
+stimulus_line_taken status (judged.NoStimulus fault) old new four is h t = record { fault = fault; refuses = h; taken = t.taken (stimulus_fault fault) refl }
+stimulus_line_taken status (Accepted form stim) old new four is h t = absurd (let same : 4 ≡ 0 = sym four ∙ is in cc)
 
 -- ---- a front of the text
 
@@ -93,7 +103,7 @@ pub front_taken : (told : Option Contents) (row : Option Row) (judged : Judged) 
 front_taken None row judged old new j h t = tt
 front_taken (Some files) None judged old new j h t = tt
 front_taken (Some files) (Some row) NoCommand old new j h t = absurd j
-front_taken (Some files) (Some row) judged.NoDesign old new j h t = inr (record { status = 3; text = design_fault; asked = j; taken = t.taken design_fault refl })
+front_taken (Some files) (Some row) (judged.NoDesign fault) old new j h t = inr (record { status = 3; text = design_fault fault; asked = j; taken = t.taken (design_fault fault) refl })
 front_taken (Some files) (Some row) (judged.NoStimulus fault) old new j h t = inr (record { status = 4; text = stimulus_fault fault; asked = j; taken = t.taken (stimulus_fault fault) refl })
 front_taken (Some files) (Some row) (Accepted form stim) old new j h t =
     inr (record { status = 0; text = trail_text (design_of form) h.1.0; asked = j h.1.0 h.1.1; taken = t.taken (trail_text (design_of form) h.1.0) (h.1.0, h.1.1, refl) })
@@ -104,7 +114,7 @@ some_one : {A : Type 0} (o : Option A) (x y : A) → o ≡ Some x → o ≡ Some
 some_one o x y p q = let both : Some x ≡ Some y = sym p ∙ q in cc
 
 one_design : (top source : List ℕ) (a b : Module) → IsDesign top source a → IsDesign top source b → a ≡ b
-one_design top source a b p q = one source a b p.reads q.reads
+one_design top source a b p q = same_form a b (one_reading source _ _ p.reads q.reads)
 
 form_of : (top source : List ℕ) (tree : Module) → IsDesign top source tree → is_form tree ≡ true
 form_of top source tree d = second (bytes_eq tree.name top) (is_form tree) d.form
@@ -113,9 +123,28 @@ form_of top source tree d = second (bytes_eq tree.name top) (is_form tree) d.for
     second true b e = e
     second false b e = absurd cc
 
-no_source : (files : Contents) (row : Row) (a b : Answer) → (r : RefusesDesign files row a) → (source : List ℕ) → files row.source ≡ Some source → (tree : Module) → IsDesign row.top source tree → ⊥
-no_source files row a b r source found tree design =
-    r.none tree (subst (λ (s : List ℕ). IsDesign row.top s tree) (some_one (files row.source) source r.source found r.found) design)
+-- a text that is a design is refused for no cause
+no_cause : (top source : List ℕ) (tree : Module) (fault : DesignFault) → IsDesign top source tree → IsDesignCause top source fault → ⊥
+no_cause top source tree (Text fault) design c = c.1 (no_fault source (wide_module tree ∷ []) fault design.reads c.0)
+no_cause top source tree NotYet design c = c.2 tree design
+
+-- a text is refused for one cause
+one_cause : (top source : List ℕ) (a b : DesignFault) → IsDesignCause top source a → IsDesignCause top source b → a ≡ b
+one_cause top source (Text a) (Text b) p q = ap Text (one_fault source a b p.0 q.0 p.1 q.1)
+one_cause top source (Text a) NotYet p q = absurd (p.1 (no_fault source q.0 a q.1 p.0))
+one_cause top source NotYet (Text b) p q = absurd (q.1 (no_fault source p.0 b p.1 q.0))
+one_cause top source NotYet NotYet p q = refl
+
+no_source : (files : Contents) (row : Row) (a : Answer) → (r : RefusesDesign files row a) → (source : List ℕ) → files row.source ≡ Some source → (tree : Module) → IsDesign row.top source tree → ⊥
+no_source files row a r source found tree design =
+    no_cause row.top r.source tree r.fault (subst (λ (s : List ℕ). IsDesign row.top s tree) (some_one (files row.source) source r.source found r.found) design) r.cause
+
+one_design_refusal : (files : Contents) (row : Row) (a b : Answer) → RefusesDesign files row a → RefusesDesign files row b → a ≡ b
+one_design_refusal files row a b r s =
+    let source : r.source ≡ s.source = some_one (files row.source) r.source s.source r.found s.found in
+    let cause : IsDesignCause row.top s.source r.fault = subst (λ (t : List ℕ). IsDesignCause row.top t r.fault) source r.cause in
+    let same : r.fault ≡ s.fault = one_cause row.top s.source r.fault s.fault cause s.cause in
+    r.is ∙ (ap (λ (f : DesignFault). record { status = 3; text = design_fault f }) same ∙ sym s.is)
 
 after_header : (p q : Ports) → p.inputs ≡ q.inputs → p.registers ≡ q.registers → (ls : List (List ℕ)) → rows_after_header p ls ≡ rows_after_header q ls
 after_header p q inputs registers [] = refl
@@ -180,24 +209,24 @@ one_trail files row a b r s =
 
 -- a command asks for one answer
 pub one_answer : (files : Contents) (row : Row) (a b : Answer) → Asks files row a → Asks files row b → a ≡ b
-one_answer files row a b (NoDesign r) (NoDesign s) = r.is ∙ sym s.is
-one_answer files row a b (NoDesign r) (NoStimulus s) = absurd (no_source files row a b r s.source s.found s.tree s.design)
-one_answer files row a b (NoDesign r) (Trail s) = absurd (no_source files row a b r s.source s.found s.tree s.design)
-one_answer files row a b (NoStimulus r) (NoDesign s) = absurd (no_source files row b a s r.source r.found r.tree r.design)
+one_answer files row a b (NoDesign r) (NoDesign s) = one_design_refusal files row a b r s
+one_answer files row a b (NoDesign r) (NoStimulus s) = absurd (no_source files row a r s.source s.found s.tree s.design)
+one_answer files row a b (NoDesign r) (Trail s) = absurd (no_source files row a r s.source s.found s.tree s.design)
+one_answer files row a b (NoStimulus r) (NoDesign s) = absurd (no_source files row b s r.source r.found r.tree r.design)
 one_answer files row a b (NoStimulus r) (NoStimulus s) = one_refusal files row a b r s
 one_answer files row a b (NoStimulus r) (Trail s) = absurd (no_rows files row a b r s)
-one_answer files row a b (Trail r) (NoDesign s) = absurd (no_source files row b a s r.source r.found r.tree r.design)
+one_answer files row a b (Trail r) (NoDesign s) = absurd (no_source files row b s r.source r.found r.tree r.design)
 one_answer files row a b (Trail r) (NoStimulus s) = absurd (no_rows files row b a s r)
 one_answer files row a b (Trail r) (Trail s) = one_trail files row a b r s
 
 -- ---- completeness
 
 completes : (files : Contents) (row : Row) (status : ℕ) (old new : Option (List ℕ)) (read_rose write_rose : Type 0) → IsTrue (is_status status) → (status < 7 → EndsAsAsked files row status old new) → (status ≡ 7 → read_rose) → (status ≡ 8 → write_rose) → Completes files row status old new read_rose write_rose
-completes files row status old new read_rose write_rose known done read write = λ text asks no_read no_write.
+completes files row status old new read_rose write_rose known done read write = λ answer asks no_read no_write.
     elim (late_status status known) [
       | inl h ↦
           let e = done h in
-          let same : record { status = status; text = e.text } ≡ record { status = 0; text = text } = one_answer files row (record { status = status; text = e.text }) (record { status = 0; text = text }) e.asked asks in
+          let same : record { status = status; text = e.text } ≡ answer = one_answer files row (record { status = status; text = e.text }) answer e.asked asks in
           inl (ap (λ (a : Answer). a.status) same, rw (← ap (λ (a : Answer). a.text) same) e.taken)
       | inr (inl e) ↦ absurd (no_read (read e))
       | inr (inr (inl e)) ↦ absurd (no_write (write e))

@@ -1,9 +1,13 @@
 -- What was judged, file by file, is what the command asks for.
-use Rattle.std.proofs.Common.{◌≡◌, ℕ, Bool, true, false, List, Option, Some, None, Result, Ok, Err, IfSome, ◌≢◌, refl, sym, subst, if◌then◌else◌}
+use Rattle.std.proofs.Common.{◌≡◌, ℕ, Bool, true, false, List, [], ◌∷◌, Option, Some, None, Result, Ok, Err, IfOk, IfSome, ◌≢◌, refl, sym, ◌∙◌, subst, if◌then◌else◌}
+use Rattle.std.specs.Prelude.{ok_or}
 use Rattle.bv_core.specs.Value.{Bits}
-use Rattle.gen_text.specs.declared.Module.{Module}
+use Rattle.gen_tree.specs.Tree as wide
 use Rattle.gen_text.specs.Source.{Reads}
-use Rattle.gen_text.proofs.Readings.{one}
+use Rattle.gen_text.proofs.Answers.{one_reading}
+use Rattle.first_tree.specs.declared.Module.{Module}
+use Rattle.first_tree.specs.Wide.{wide_module}
+use Rattle.first_tree.proofs.Laws.{same_module}
 use Rattle.first_form.specs.Form.{is_first_form}
 use Rattle.first_form.specs.Ports.{inputs_of, ArePortsOf}
 use Rattle.design_core.specs.declared.Ports.{Ports}
@@ -16,24 +20,32 @@ use Rattle.design_core.specs.Trail.{Place}
 use Rattle.design_core.specs.TrailText.{trail_text}
 use Rattle.first_form.specs.Elaborated.{design_of}
 use Rattle.first_form.specs.Runs.{GivesRows, HasRun, EachRuns}
-use Rattle.dbg_app.specs.Answers.{Contents, Asks, Trail, NoStimulus, stimulus_fault}
-use Rattle.dbg_app.specs.Judged.{IsDesignOrNone, JudgesSource, JudgesStimulus, IsWhole}
+use Rattle.dbg_app.specs.Answers.{Contents, Asks, NoStimulus, Trail, stimulus_fault}
+use Rattle.dbg_app.specs.declared.design_fault.DesignFault.TheVariants.{NotYet}
+use Rattle.dbg_app.specs.Judged.{IsOneOrNone, IsDesignOrNot, JudgesSource, JudgesStimulus, IsWhole}
 
-accepted_by : (b : Bool) (top source : List ℕ) (tree : Module) (found : Option Module) → Reads source tree → is_first_form top tree ≡ b → found ≡ (if b then Some tree else None) → IsDesignOrNone top source found
-accepted_by true top source tree found reads is e = rw e (record { reads = reads; form = is })
-accepted_by false top source tree found reads is e =
-    rw e (λ other design.
-    let same : other ≡ tree = one source other tree design.reads reads in
-    let form : is_first_form top tree ≡ true = subst (λ (t : Module). is_first_form top t ≡ true) same design.form in
+-- a module of the first form is one in one way
+pub same_form : (m n : Module) → wide_module m ∷ [] ≡ wide_module n ∷ [] → m ≡ n
+same_form m n e = let heads : wide_module m ≡ wide_module n = cc in same_module m n heads
+
+accepted_by : (b : Bool) (top : List ℕ) (modules : List wide.Module) (tree : Module) (found : Option Module) → modules ≡ wide_module tree ∷ [] → is_first_form top tree ≡ b → found ≡ (if b then Some tree else None) → IsOneOrNone top modules found
+accepted_by true top modules tree found are is e = rw e (record { are = are; form = is })
+accepted_by false top modules tree found are is e =
+    rw e (λ other one.
+    let same : other ≡ tree = same_form other tree (sym one.are ∙ are) in
+    let form : is_first_form top tree ≡ true = subst (λ (t : Module). is_first_form top t ≡ true) same one.form in
     cc)
 
--- the module that was read was judged
-pub accepted : (top source : List ℕ) (tree : Module) (found : Option Module) → Reads source tree → found ≡ (if is_first_form top tree then Some tree else None) → IsDesignOrNone top source found
-accepted top source tree found reads e = accepted_by (is_first_form top tree) top source tree found reads refl e
+-- the module that was found was judged
+pub accepted : {E : Type 0} (top : List ℕ) (modules : List wide.Module) (tree : Module) (found : Result (Option Module) E) → modules ≡ wide_module tree ∷ [] → IfOk found (λ o. o ≡ (if is_first_form top tree then Some tree else None)) → IfOk found (IsOneOrNone top modules)
+accepted top modules tree (Ok o) are e = accepted_by (is_first_form top tree) top modules tree o are refl e
+accepted top modules tree (Err fault) are e = tt
 
--- a text that is read as no module is no design
-pub no_design : (top source : List ℕ) → ((tree : Module) → Reads source tree → ⊥) → IsDesignOrNone top source None
-no_design top source none = λ tree design. none tree design.reads
+-- a text that is read as these modules was judged as they are
+pub read_so : (top source : List ℕ) (modules : List wide.Module) (found : Option Module) → Reads source modules → IsOneOrNone top modules found → IsDesignOrNot top source (ok_or found NotYet)
+read_so top source modules (Some tree) reads one = record { reads = subst (λ (ms : List wide.Module). Reads source ms) one.are reads; form = one.form }
+read_so top source modules None reads none =
+    (modules, reads, λ tree design. none tree (record { are = one_reading source modules (wide_module tree ∷ []) reads design.reads; form = design.form }))
 
 -- what is answered for a text is what the definition says, where memory did not run out
 pub refused_for : (fault : StimFault) (said : Result (List (List Bits)) StimFault) → fault ≢ NoMemory → Gives {X = Stimulus} (λ stim. stim.rows) (Err fault) said → said ≡ Err fault
@@ -48,14 +60,14 @@ pub has_rows : (form : Module) (ports : Ports) (stim : Stimulus) → ArePortsOf 
 has_rows form ports stim are runs whole = (subst (λ (p : Ports). ArePortsOf form p) (sym whole.0) are, runs stim whole.1 whole.0)
 
 -- the source is this design, and the stimulus has these rows for it
-pub accepted_row : (told : Option Contents) (row : Row) (form : Module) (ports : Ports) (stim : Stimulus) → ArePortsOf form ports → IfSome told (λ files. JudgesSource (files row.source) row.top (Some form)) → IfSome told (λ files. JudgesStimulus (files row.stimulus) ports (Ok stim))
+pub accepted_row : (told : Option Contents) (row : Row) (form : Module) (ports : Ports) (stim : Stimulus) → ArePortsOf form ports → IfSome told (λ files. JudgesSource (files row.source) row.top (Ok form)) → IfSome told (λ files. JudgesStimulus (files row.stimulus) ports (Ok stim))
     → IfSome told (λ files. (run : List (Place → Bits)) → GivesRows (inputs_of form) stim.rows run → Asks files row (record { status = 0; text = trail_text (design_of form) run }))
 accepted_row None row form ports stim are s t = tt
 accepted_row (Some files) row form ports stim are s t = λ run gives.
     Trail (record { source = s.0; found = s.1; tree = form; design = s.2; stimulus = t.0; also_found = t.1; ports = ports; are = are; rows = stim.rows; read = t.2; run = run; gives = gives; is = refl })
 
 -- the source is this design, and the stimulus is refused for it
-pub refused_row : (told : Option Contents) (row : Row) (form : Module) (ports : Ports) (fault : StimFault) → ArePortsOf form ports → IfSome told (λ files. JudgesSource (files row.source) row.top (Some form)) → IfSome told (λ files. JudgesStimulus (files row.stimulus) ports (Err fault))
+pub refused_row : (told : Option Contents) (row : Row) (form : Module) (ports : Ports) (fault : StimFault) → ArePortsOf form ports → IfSome told (λ files. JudgesSource (files row.source) row.top (Ok form)) → IfSome told (λ files. JudgesStimulus (files row.stimulus) ports (Err fault))
     → IfSome told (λ files. Asks files row (record { status = 4; text = stimulus_fault fault }))
 refused_row None row form ports fault are s t = tt
 refused_row (Some files) row form ports fault are s t =

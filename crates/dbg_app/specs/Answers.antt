@@ -1,9 +1,13 @@
 -- What a command asks for: the status and the text that the contents of its files give.
-use Rattle.std.specs.Prelude.{◌≡◌, ℕ, true, List, [], ◌++◌, Option, Some, None, Ok, Err, codes}
+use Rattle.std.specs.Prelude.{◌≡◌, ◌≢◌, ℕ, true, List, [], ◌∷◌, ◌++◌, Option, Some, None, Ok, Err, codes}
 use Rattle.std.specs.Fmt.{decimal}
 use Rattle.bv_core.specs.Value.{Bits}
-use Rattle.gen_text.specs.declared.Module.{Module}
-use Rattle.gen_text.specs.Source.{Reads}
+use Rattle.gen_tree.specs.Tree as wide
+use Rattle.gen_text.specs.declared.TextFault.{TextFault}
+use Rattle.gen_text.specs.declared.TextFault.TheVariants as text_faults
+use Rattle.gen_text.specs.Source.{Reads, IsCause}
+use Rattle.first_tree.specs.declared.Module.{Module}
+use Rattle.first_tree.specs.Wide.{wide_module}
 use Rattle.design_core.specs.declared.Ports.{Ports}
 use Rattle.design_core.specs.Trail.{Place}
 use Rattle.design_core.specs.TrailText.{trail_text}
@@ -14,6 +18,8 @@ use Rattle.first_form.specs.Form.{is_first_form}
 use Rattle.first_form.specs.Elaborated.{design_of}
 use Rattle.first_form.specs.Ports.{inputs_of, ArePortsOf}
 use Rattle.first_form.specs.Runs.{GivesRows}
+use Rattle.dbg_app.specs.declared.design_fault.DesignFault.{DesignFault}
+use Rattle.dbg_app.specs.declared.design_fault.DesignFault.TheVariants.{Text, NotYet}
 use Rattle.dbg_app.specs.Command.{Row}
 
 -- a status, and the text that goes with it
@@ -25,8 +31,18 @@ pub record Answer : Type 0 where
 abbrev pub usage_fault : List ℕ
 usage_fault = codes "usage fault\n"
 
-abbrev pub design_fault : List ℕ
-design_fault = codes "design fault 0 NotYet\n"
+-- the line of a text that is not read: the number and the name of the refusal, and its offset or its line where it has one
+abbrev pub text_fault : TextFault → List ℕ
+text_fault text_faults.TooLong = codes "design fault 1 TooLong\n"
+text_fault (text_faults.NotAscii offset) = codes "design fault 2 NotAscii offset " ++ decimal offset ++ codes "\n"
+text_fault (text_faults.BadToken line) = codes "design fault 3 BadToken line " ++ decimal line ++ codes "\n"
+text_fault (text_faults.Syntax line) = codes "design fault 4 Syntax line " ++ decimal line ++ codes "\n"
+text_fault text_faults.NoMemory = []
+
+-- the line of a source that is refused
+abbrev pub design_fault : DesignFault → List ℕ
+design_fault (Text fault) = text_fault fault
+design_fault NotYet = codes "design fault 0 NotYet\n"
 
 -- the line of a stimulus that is refused: the number and the name of the refusal, and its row and column where it has them
 abbrev pub stimulus_fault : StimFault → List ℕ
@@ -42,15 +58,21 @@ Contents = List ℕ → Option (List ℕ)
 
 -- the text is a source of the first form, whose module this is
 pub record IsDesign (top source : List ℕ) (tree : Module) : Type 0 where
-  pub reads : Reads source tree
+  pub reads : Reads source (wide_module tree ∷ [])
   pub form : is_first_form top tree ≡ true
 
--- the source is refused: its text is no source of the first form
+-- why a text is no design: it is not read for this cause; or it is read, and no module of the first form with this name reads it
+abbrev pub IsDesignCause : List ℕ → List ℕ → DesignFault → Type 0
+IsDesignCause top source (Text fault) = IsCause source fault × (fault ≢ text_faults.NoMemory)
+IsDesignCause top source NotYet = (modules : List wide.Module) × Reads source modules × ((tree : Module) → IsDesign top source tree → ⊥)
+
+-- the source is refused, with the line of its refusal
 pub record RefusesDesign (files : Contents) (row : Row) (answer : Answer) : Type 0 where
   pub source : List ℕ
   pub found : files row.source ≡ Some source
-  pub none : (tree : Module) → IsDesign row.top source tree → ⊥
-  pub is : answer ≡ record { status = 3; text = design_fault }
+  pub fault : DesignFault
+  pub cause : IsDesignCause row.top source fault
+  pub is : answer ≡ record { status = 3; text = design_fault fault }
 
 -- the source is a design, and the stimulus is refused for its ports
 pub record RefusesStimulus (files : Contents) (row : Row) (answer : Answer) : Type 0 where

@@ -1,9 +1,13 @@
 -- What was judged is what is asked for.
-use Rattle.std.specs.Prelude.{◌≡◌, ◌≢◌, ◌<◌, ◌≤◌, ℕ, List, Option, Some, None, Result, Ok, Err, Vec, length}
+use Rattle.std.specs.Prelude.{◌≡◌, ◌≢◌, ◌<◌, ◌≤◌, ℕ, true, List, [], ◌∷◌, Option, Some, None, Result, Ok, Err, Vec, length}
 use Rattle.std.specs.declared.alloc.Global.{Global}
 use Rattle.io_edge.specs.Taken.{Appends, AppendsFront}
 use Rattle.bv_core.specs.Value.{Bits}
-use Rattle.gen_text.specs.declared.Module.{Module}
+use Rattle.gen_tree.specs.Tree as wide
+use Rattle.gen_text.specs.declared.TextFault.TheVariants as text_faults
+use Rattle.first_tree.specs.declared.Module.{Module}
+use Rattle.first_tree.specs.Wide.{wide_module}
+use Rattle.first_form.specs.Form.{is_first_form}
 use Rattle.design_core.specs.declared.Ports.{Ports}
 use Rattle.design_core.specs.Trail.{Place}
 use Rattle.design_core.specs.TrailText.{trail_text}
@@ -15,7 +19,9 @@ use Rattle.stim_text.specs.Stimulus.{Stimulus, IsStimulus}
 use Rattle.stim_text.specs.declared.StimFault.{StimFault}
 use Rattle.stim_text.specs.declared.StimFault.TheVariants.{NoMemory}
 use Rattle.dbg_app.specs.Command.{Row}
-use Rattle.dbg_app.specs.Answers.{Contents, Asks, IsDesign, usage_fault, design_fault, stimulus_fault}
+use Rattle.dbg_app.specs.declared.design_fault.DesignFault.{DesignFault}
+use Rattle.dbg_app.specs.declared.design_fault.DesignFault.TheVariants.{Text}
+use Rattle.dbg_app.specs.Answers.{Contents, Asks, IsDesign, IsDesignCause, usage_fault, design_fault, stimulus_fault}
 use Rattle.dbg_app.specs.declared.judge.Judged.{Judged}
 use Rattle.dbg_app.specs.declared.judge.Judged.TheVariants.{NoCommand, NoDesign, NoStimulus, Accepted}
 
@@ -24,15 +30,29 @@ abbrev pub Finds : Option (List ℕ) → ℕ → Option (Vec ℕ Global) → Typ
 Finds file most (Some bytes) = (file ≡ Some bytes.items) × (length bytes.items ≤ most)
 Finds file most None = (bytes : List ℕ) × (file ≡ Some bytes) × (most < length bytes)
 
--- the text is this design, or none
-abbrev pub IsDesignOrNone : List ℕ → List ℕ → Option Module → Type 0
-IsDesignOrNone top source (Some tree) = IsDesign top source tree
-IsDesignOrNone top source None = (tree : Module) → IsDesign top source tree → ⊥
+-- these modules are one, which is this module of the first form, with this name
+pub record IsOne (top : List ℕ) (modules : List wide.Module) (tree : Module) : Type 0 where
+  pub are : modules ≡ wide_module tree ∷ []
+  pub form : is_first_form top tree ≡ true
 
--- a source was judged: it is this design, or none
-abbrev pub JudgesSource : Option (List ℕ) → List ℕ → Option Module → Type 0
-JudgesSource file top (Some tree) = (source : List ℕ) × (file ≡ Some source) × IsDesign top source tree
-JudgesSource file top None = (source : List ℕ) × (file ≡ Some source) × ((tree : Module) → IsDesign top source tree → ⊥)
+-- these modules are this one, or none
+abbrev pub IsOneOrNone : List ℕ → List wide.Module → Option Module → Type 0
+IsOneOrNone top modules (Some tree) = IsOne top modules tree
+IsOneOrNone top modules None = (tree : Module) → IsOne top modules tree → ⊥
+
+-- the text is this design, or it is refused
+abbrev pub IsDesignOrNot : List ℕ → List ℕ → Result Module DesignFault → Type 0
+IsDesignOrNot top source (Ok tree) = IsDesign top source tree
+IsDesignOrNot top source (Err fault) = IsDesignCause top source fault
+
+-- a refusal that is not want of memory
+abbrev pub HasLine : Result Module DesignFault → Type 0
+HasLine (Ok tree) = Unit {0}
+HasLine (Err fault) = fault ≢ Text text_faults.NoMemory
+
+-- a source was judged
+abbrev pub JudgesSource : Option (List ℕ) → List ℕ → Result Module DesignFault → Type 0
+JudgesSource file top found = (source : List ℕ) × (file ≡ Some source) × IsDesignOrNot top source found
 
 -- a text was judged: it has these rows, or it is refused
 abbrev pub JudgesText : List ℕ → Ports → Result Stimulus StimFault → Type 0
@@ -51,14 +71,14 @@ JudgesStimulus file ports found = (text : List ℕ) × (file ≡ Some text) × J
 -- what was accepted has a run, and what was refused has a line
 abbrev pub HasRows : Judged → Type 0
 HasRows NoCommand = Unit {0}
-HasRows NoDesign = Unit {0}
+HasRows (NoDesign fault) = fault ≢ Text text_faults.NoMemory
 HasRows (NoStimulus fault) = fault ≢ NoMemory
 HasRows (Accepted form stim) = ArePortsOf form stim.ports × HasRun (inputs_of form) stim.rows
 
 -- a command was judged as its files ask
 abbrev pub JudgesRow : Contents → Row → Judged → Type 0
 JudgesRow files row NoCommand = ⊥
-JudgesRow files row NoDesign = Asks files row (record { status = 3; text = design_fault })
+JudgesRow files row (NoDesign fault) = Asks files row (record { status = 3; text = design_fault fault })
 JudgesRow files row (NoStimulus fault) = Asks files row (record { status = 4; text = stimulus_fault fault })
 JudgesRow files row (Accepted form stim) =
     (run : List (Place → Bits)) → GivesRows (inputs_of form) stim.rows run → Asks files row (record { status = 0; text = trail_text (design_of form) run })
@@ -66,14 +86,14 @@ JudgesRow files row (Accepted form stim) =
 -- the status that goes with what was judged
 abbrev pub judged_status : Judged → ℕ
 judged_status NoCommand = 2
-judged_status NoDesign = 3
+judged_status (NoDesign fault) = 3
 judged_status (NoStimulus fault) = 4
 judged_status (Accepted form stim) = 0
 
 -- the text that goes with what was judged: a fault line, or the trail of a run that has the rows
 abbrev pub IsTextOf : Judged → List ℕ → Type 0
 IsTextOf NoCommand text = text ≡ usage_fault
-IsTextOf NoDesign text = text ≡ design_fault
+IsTextOf (NoDesign fault) text = text ≡ design_fault fault
 IsTextOf (NoStimulus fault) text = text ≡ stimulus_fault fault
 IsTextOf (Accepted form stim) text = (run : List (Place → Bits)) × GivesRows (inputs_of form) stim.rows run × (text ≡ trail_text (design_of form) run)
 

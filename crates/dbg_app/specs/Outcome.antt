@@ -1,9 +1,13 @@
 -- How a run ends.
-use Rattle.std.specs.Prelude.{◌≡◌, ℕ, List, Bool, Option, ◌||◌, ◌==◌, ◌⊎◌}
+use Rattle.std.specs.Prelude.{◌≡◌, ◌≢◌, ℕ, List, Bool, Option, ◌||◌, ◌==◌, ◌⊎◌}
 use Rattle.io_edge.specs.Taken.{Appends, AppendsFront}
-use Rattle.dbg_app.specs.Command.{Row}
+use Rattle.gen_text.specs.declared.TextFault.TheVariants as text_faults
 use Rattle.stim_text.specs.declared.StimFault.{StimFault}
-use Rattle.dbg_app.specs.Answers.{Contents, Asks, stimulus_fault}
+use Rattle.stim_text.specs.declared.StimFault.TheVariants as stim_faults
+use Rattle.dbg_app.specs.declared.design_fault.DesignFault.{DesignFault}
+use Rattle.dbg_app.specs.declared.design_fault.DesignFault.TheVariants.{Text}
+use Rattle.dbg_app.specs.Command.{Row}
+use Rattle.dbg_app.specs.Answers.{Answer, Contents, Asks, design_fault, stimulus_fault}
 use Rattle.dbg_app.specs.declared.stop.Stop.{Stop}
 use Rattle.dbg_app.specs.declared.stop.Stop.TheVariants.{ReadFault, WriteFault, NoMemory}
 
@@ -20,9 +24,16 @@ stop_status ReadFault = 7
 stop_status WriteFault = 8
 stop_status NoMemory = 9
 
+-- the line of a refused source was taken
+pub record TakesDesignLine (old new : Option (List ℕ)) : Type 0 where
+  pub fault : DesignFault
+  pub refuses : fault ≢ Text text_faults.NoMemory
+  pub taken : Appends old new (design_fault fault)
+
 -- the line of a refused stimulus was taken
-pub record TakesRefusal (old new : Option (List ℕ)) : Type 0 where
+pub record TakesStimulusLine (old new : Option (List ℕ)) : Type 0 where
   pub fault : StimFault
+  pub refuses : fault ≢ stim_faults.NoMemory
   pub taken : Appends old new (stimulus_fault fault)
 
 -- the run ended with the answer that is asked for, and the sink took its whole text
@@ -42,8 +53,8 @@ pub record TakesFront (files : Contents) (row : Row) (old new : Option (List ℕ
 abbrev pub TakesSome : Contents → Row → Option (List ℕ) → Option (List ℕ) → Type 0
 TakesSome files row old new = (new ≡ old) ⊎ TakesFront files row old new
 
--- where the files ask for this text with status 0, and neither count has risen, the whole of it was taken with status 0,
--- or memory ran out
+-- where the files ask for an answer, and neither count has risen, the run ended with its status and the whole of its text was
+-- taken, or memory ran out
 abbrev pub Completes : Contents → Row → ℕ → Option (List ℕ) → Option (List ℕ) → Type 0 → Type 0 → Type 0
 Completes files row status old new read_rose write_rose =
-    (text : List ℕ) → Asks files row (record { status = 0; text = text }) → (read_rose → ⊥) → (write_rose → ⊥) → ((status ≡ 0) × Appends old new text) ⊎ (status ≡ 9)
+    (answer : Answer) → Asks files row answer → (read_rose → ⊥) → (write_rose → ⊥) → ((status ≡ answer.status) × Appends old new answer.text) ⊎ (status ≡ 9)

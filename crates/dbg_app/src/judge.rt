@@ -6,23 +6,27 @@ ghost use Rattle.io_edge.specs.Taken.{Appends, AppendsFront};
 ghost use Rattle.dbg_app.specs.Command.{row_of, names_of};
 ghost use Rattle.dbg_app.specs.Answers.{IfAsked};
 ghost use Rattle.dbg_app.specs.Rows.{row_as};
-ghost use Rattle.dbg_app.specs.Judged.{IsDesignOrNone, Finds, JudgesSource, JudgesText, IsWhole, JudgesStimulus, HasRows, JudgesRow, judged_status};
+ghost use Rattle.gen_tree.specs.View.{source_of};
+ghost use Rattle.dbg_app.specs.Judged.{IsOneOrNone, IsDesignOrNot, HasLine, Finds, JudgesSource, JudgesText, IsWhole, JudgesStimulus, HasRows, JudgesRow, judged_status};
 ghost use Rattle.dbg_app.specs.Outcome.{is_status};
 
-use crate::Stop;
 use crate::row::{Row, read_row};
+use crate::{DesignFault, Stop};
 use design_core::Ports;
 use first_form::FirstForm;
+use first_tree::narrow;
 use gen_text::{TextFault, read_source};
+use gen_tree::Source;
 use io_edge::{FileEnd, Files, Words};
 use std::alloc::Global;
 use stim_text::{Stim, StimFault, read_stim};
+use text_core::NoMemory;
 
 /// A command, judged: the words are none, the source or the stimulus is refused, or both are accepted.
 #[derive(Drop)]
 pub(crate) enum Judged {
     NoCommand,
-    NoDesign,
+    NoDesign(DesignFault),
     NoStimulus(StimFault),
     Accepted(FirstForm, Stim),
 }
@@ -36,7 +40,7 @@ impl Judged {
     {
         match self {
             Judged::NoCommand => 2,
-            Judged::NoDesign => 3,
+            Judged::NoDesign(_) => 3,
             Judged::NoStimulus(_) => 4,
             Judged::Accepted(_, _) => 0,
         }
@@ -72,19 +76,31 @@ fn read<F: Files>(
     }
 }
 
-/// The design of a source, where it is of the first form and has this top module.
-fn design_of(alloc: Global, source: &[u8], top: &[u8]) -> Result<Option<FirstForm>, Stop>
-    ensures design { IfOk result (IsDesignOrNone top.now source.now) }
+/// The form of a source that was read, where it is one module of the first form with this name.
+fn form_of(alloc: Global, source: &Source, top: &[u8]) -> Result<Option<FirstForm>, NoMemory>
+    ensures { IfOk result (IsOneOrNone top.now (source_of source.now)) }
+{
+    match narrow(alloc, source)? {
+        Some(tree) => FirstForm::accept(alloc, tree, top),
+        None => Ok(None),
+    }
+}
+
+/// The design of a source, or why it is refused.
+fn design_of(
+    alloc: Global,
+    source: &[u8],
+    top: &[u8],
+) -> Result<Result<FirstForm, DesignFault>, Stop>
+    ensures design { IfOk result (IsDesignOrNot top.now source.now) }
+    ensures line { IfOk result HasLine }
     ensures no_read { IsErrOf result Stop.ReadFault → ⊥ }
     ensures no_write { IsErrOf result Stop.WriteFault → ⊥ }
 {
     match read_source(alloc, source) {
-        Ok(tree) => match FirstForm::accept(alloc, tree, top) {
-            Ok(found) => Ok(found),
-            Err(_) => Err(Stop::NoMemory),
-        },
-        Err(TextFault::NotYet) => Ok(None),
+        Ok(tree) => Ok(form_of(alloc, &tree, top)?.ok_or(DesignFault::NotYet)),
         Err(TextFault::NoMemory) => Err(Stop::NoMemory),
+        Err(fault) => Ok(Err(DesignFault::Text(fault))),
     }
 }
 
@@ -93,8 +109,9 @@ fn judge_source<F: Files>(
     alloc: Global,
     row: &Row<'_>,
     files: &mut F,
-) -> Result<Option<FirstForm>, Stop>
+) -> Result<Result<FirstForm, DesignFault>, Stop>
     ensures judged { IfOk result (λ found. IfSome (F.told files.old) (λ told. JudgesSource (told row.now.source.now) row.now.top.now found)) }
+    ensures line { IfOk result HasLine }
     ensures same { F.told files.new ≡ F.told files.old }
     ensures asked { OnOk result (Appends (F.asked files.old) (F.asked files.new) (row.now.source.now ∷ [])) }
     ensures front { AppendsFront (F.asked files.old) (F.asked files.new) (row.now.source.now ∷ []) }
@@ -104,7 +121,7 @@ fn judge_source<F: Files>(
 {
     match read(alloc, files, row.source, MOST_SOURCE)? {
         Some(source) => design_of(alloc, &source, row.top.as_bytes()),
-        None => Ok(None),
+        None => Ok(Err(DesignFault::Text(TextFault::TooLong))),
     }
 }
 
@@ -154,8 +171,9 @@ fn judge_row<F: Files>(alloc: Global, row: &Row<'_>, files: &mut F) -> Result<Ju
     ensures no_write { IsErrOf result Stop.WriteFault → ⊥ }
     ensures later { F.fault_count files.old ≤ F.fault_count files.new }
 {
-    let Some(form) = judge_source(alloc, row, files)? else {
-        return Ok(Judged::NoDesign);
+    let form = match judge_source(alloc, row, files)? {
+        Ok(form) => form,
+        Err(fault) => return Ok(Judged::NoDesign(fault)),
     };
     let ports = form.ports(alloc)?;
     match judge_stimulus(alloc, row.stimulus, &ports, files)? {

@@ -1,10 +1,12 @@
 //! The program: its words, and what it writes for them.
 #![tactic(auto)]
 
+mod design_fault;
 mod judge;
 mod program;
 mod row;
 mod stop;
 
+pub use design_fault::DesignFault;
 pub use program::{Ended, run};
 use stop::Stop;

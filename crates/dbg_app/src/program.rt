@@ -2,12 +2,13 @@ ghost use Rattle.std.specs.Prelude.{◌≡◌, ◌≤◌, ◌<◌, ◌⊎◌, No
 ghost use Rattle.io_edge.specs.Faults.{Rose};
 ghost use Rattle.io_edge.specs.Taken.{Appends, AppendsFront};
 ghost use Rattle.dbg_app.specs.Command.{row_of, names_of};
-ghost use Rattle.dbg_app.specs.Answers.{usage_fault, design_fault, stimulus_fault, IfAsked};
+ghost use Rattle.dbg_app.specs.Answers.{usage_fault, text_fault, design_fault, stimulus_fault, IfAsked};
 ghost use Rattle.dbg_app.specs.Judged.{HasRows, TakesText, TakesTextFront, judged_status};
-ghost use Rattle.dbg_app.specs.Outcome.{is_status, is_usage_status, TakesRefusal, EndsAsAsked, TakesSome, Completes};
+ghost use Rattle.dbg_app.specs.Outcome.{is_status, is_usage_status, TakesDesignLine, TakesStimulusLine, EndsAsAsked, TakesSome, Completes};
 
-use crate::Stop;
 use crate::judge::{Judged, judge};
+use crate::{DesignFault, Stop};
+use gen_text::TextFault;
 use io_edge::{Files, Sink, Words};
 use std::alloc::Global;
 use stim_text::StimFault;
@@ -28,7 +29,7 @@ pub struct Ended {
 /// |---|---|---|
 /// | 0 | none of the rest | the whole trail |
 /// | 2 | the words are no command | `usage fault` |
-/// | 3 | SRC is no source of the forms that are accepted today, or has not the module TOP | `design fault 0 NotYet` |
+/// | 3 | SRC is no source, or not one of the forms that are accepted today with the module TOP | `design fault`, with the number and name of the refusal, and its offset or line |
 /// | 4 | STIM is refused for the design's ports | `stimulus fault`, with the number and name of the refusal, and its row and column |
 /// | 7 | a file was not read | nothing |
 /// | 8 | the output failed | a front of it |
@@ -42,14 +43,14 @@ pub fn run<F: Files, S: Sink>(alloc: Global, words: &Words, files: &mut F, out: 
 
     // Each refusal has its line.
     ensures usage_line { result.status ≡ 2 → Appends (S.taken out.old) (S.taken out.new) usage_fault }
-    ensures design_line { result.status ≡ 3 → Appends (S.taken out.old) (S.taken out.new) design_fault }
-    ensures stimulus_line { result.status ≡ 4 → TakesRefusal (S.taken out.old) (S.taken out.new) }
+    ensures design_line { result.status ≡ 3 → TakesDesignLine (S.taken out.old) (S.taken out.new) }
+    ensures stimulus_line { result.status ≡ 4 → TakesStimulusLine (S.taken out.old) (S.taken out.new) }
 
     // Where the files are told: the status and the whole text that they ask for.
     ensures done { result.status < 7
         → IfAsked (F.told files.old) (row_of words.now) (λ told row. EndsAsAsked told row result.status (S.taken out.old) (S.taken out.new)) }
 
-    // Where nothing fails and the files are accepted: the whole text, or want of memory.
+    // Where the files ask for an answer and nothing fails: its status and the whole of its text, or want of memory.
     ensures complete { IfAsked (F.told files.old) (row_of words.now) (λ told row.
         Completes told row result.status (S.taken out.old) (S.taken out.new)
         (Rose (F.fault_count files.old) (F.fault_count files.new)) (Rose (S.fault_count out.old) (S.fault_count out.new))) }
@@ -76,8 +77,8 @@ fn act<F: Files, S: Sink>(alloc: Global, words: &Words, files: &mut F, out: &mut
     ensures usage { result.status ≡ 2 → row_of words.now ≡ None }
     ensures no_command { row_of words.now ≡ None → IsTrue (is_usage_status result.status) }
     ensures usage_line { result.status ≡ 2 → Appends (S.taken out.old) (S.taken out.new) usage_fault }
-    ensures design_line { result.status ≡ 3 → Appends (S.taken out.old) (S.taken out.new) design_fault }
-    ensures stimulus_line { result.status ≡ 4 → TakesRefusal (S.taken out.old) (S.taken out.new) }
+    ensures design_line { result.status ≡ 3 → TakesDesignLine (S.taken out.old) (S.taken out.new) }
+    ensures stimulus_line { result.status ≡ 4 → TakesStimulusLine (S.taken out.old) (S.taken out.new) }
     ensures done { result.status < 7
         → IfAsked (F.told files.old) (row_of words.now) (λ told row. EndsAsAsked told row result.status (S.taken out.old) (S.taken out.new)) }
     ensures asked { AppendsFront (F.asked files.old) (F.asked files.new) (names_of (row_of words.now)) }
@@ -126,8 +127,8 @@ fn write<S: Sink>(alloc: Global, judged: &Judged, out: &mut S) -> Result<(), Sto
 {
     match judged {
         Judged::NoCommand => write_line("usage fault\n", out),
-        Judged::NoDesign => write_line("design fault 0 NotYet\n", out),
-        Judged::NoStimulus(fault) => write_line(&fault_line(alloc, *fault)?, out),
+        Judged::NoDesign(fault) => write_line(&design_line(alloc, *fault)?, out),
+        Judged::NoStimulus(fault) => write_line(&stimulus_line(alloc, *fault)?, out),
         Judged::Accepted(form, stim) => {
             form.write_trail(alloc, stim, out)?;
             Ok(())
@@ -135,8 +136,35 @@ fn write<S: Sink>(alloc: Global, judged: &Judged, out: &mut S) -> Result<(), Sto
     }
 }
 
+/// The line of a source that is refused.
+fn design_line(alloc: Global, fault: DesignFault) -> Result<String, NoMemory>
+    ensures { IfOk result (λ line. string_bytes line ≡ design_fault fault) }
+{
+    match fault {
+        DesignFault::Text(fault) => text_line(alloc, fault),
+        DesignFault::NotYet => Ok(format!(in alloc; "design fault 0 NotYet\n")?),
+    }
+}
+
+/// The line of a text that is not read. Want of memory has none.
+fn text_line(alloc: Global, fault: TextFault) -> Result<String, NoMemory>
+    ensures { IfOk result (λ line. string_bytes line ≡ text_fault fault) }
+{
+    match fault {
+        TextFault::TooLong => Ok(format!(in alloc; "design fault 1 TooLong\n")?),
+        TextFault::NotAscii { offset } => Ok(format!(in alloc;
+            "design fault 2 NotAscii offset {offset}\n"
+        )?),
+        TextFault::BadToken { line } => Ok(format!(in alloc;
+            "design fault 3 BadToken line {line}\n"
+        )?),
+        TextFault::Syntax { line } => Ok(format!(in alloc; "design fault 4 Syntax line {line}\n")?),
+        TextFault::NoMemory => Err(NoMemory),
+    }
+}
+
 /// The line of a stimulus that is refused. Want of memory has none.
-fn fault_line(alloc: Global, fault: StimFault) -> Result<String, NoMemory>
+fn stimulus_line(alloc: Global, fault: StimFault) -> Result<String, NoMemory>
     ensures { IfOk result (λ line. string_bytes line ≡ stimulus_fault fault) }
 {
     match fault {

@@ -3,7 +3,7 @@ use Rattle.std.proofs.Common.{◌≡◌, ℕ, ◌+◌, Bool, true, false, List, 
 use Rattle.std.specs.List.{zip, position_from}
 use Rattle.std.specs.Str.Lines.{lines}
 use Rattle.bv_core.specs.Value.{Bits}
-use Rattle.gen_text.specs.declared.Module.{Module}
+use Rattle.first_tree.specs.declared.Module.{Module}
 use Rattle.design_core.specs.declared.Ports.{Ports}
 use Rattle.stim_text.specs.Fields.{fields, is_number}
 use Rattle.stim_text.specs.Rows.{Input, are_names, are_numbers, is_too_large, value_in, unless_too_large, values_from, row_of, in_front, rows_from, are_few, rows_after_header, rows_of}

@@ -3,7 +3,7 @@ use Rattle.std.proofs.Common.{◌≡◌, ℕ, ◌+◌, ◌<◌, List, ◌++◌, 
 use Rattle.std.proofs.lemmas.Option.{get_or_from_slice_get}
 use Rattle.std.proofs.Math.Seq.{drop-cons}
 use Rattle.bv_core.specs.Value.{Bits}
-use Rattle.gen_text.specs.declared.Statement.{Statement}
+use Rattle.first_tree.specs.declared.Statement.{Statement}
 use Rattle.first_form.specs.declared.cells.Cell.{Cell}
 use Rattle.first_form.specs.Cells.{started, after, all_after}
 use Rattle.first_form.specs.CellText.{cell_line, block_text, rows_text}

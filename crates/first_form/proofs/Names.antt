@@ -2,7 +2,7 @@
 use Rattle.std.proofs.Common.{◌≡◌, ℕ, Bool, true, false, ◌||◌, not, List, [], ◌∷◌, ◌++◌, Option, Some, None, refl, sym, ◌∙◌, ap, subst, arith}
 use Rattle.std.proofs.lemmas.Bool.Decides.{nat_tests}
 use Rattle.std.specs.Str.{bytes_eq}
-use Rattle.gen_text.specs.declared.Statement.{Statement}
+use Rattle.first_tree.specs.declared.Statement.{Statement}
 use Rattle.first_form.specs.declared.signal.Signal.{Signal}
 use Rattle.first_form.specs.Form.{signal_named, is_named, is_assigned, are_different, if_signal, driven_width, target_width, expr_width, is_same_width, is_fitting, are_fitting, are_driven}
 use Rattle.first_form.proofs.Tests.{and_true, or_false, not_true, same_name, itself, flipped}

@@ -4,8 +4,8 @@ use Rattle.std.specs.Prelude.{is_some}
 use Rattle.std.specs.Str.{bytes_eq}
 use Rattle.std.proofs.lemmas.List.Folds.{list_any-append}
 use Rattle.bv_core.specs.Value.{Bits}
-use Rattle.gen_text.specs.declared.Module.{Module}
-use Rattle.gen_text.specs.declared.Statement.{Statement}
+use Rattle.first_tree.specs.declared.Module.{Module}
+use Rattle.first_tree.specs.declared.Statement.{Statement}
 use Rattle.design_core.specs.Block.{Now}
 use Rattle.design_core.specs.Exec.{Env, Visit, put, start, body_visits}
 use Rattle.design_core.specs.Trail.{Place, before_slot, within}

@@ -3,7 +3,7 @@ use Rattle.std.proofs.Common.{◌≡◌, ℕ, ◌+◌, Bool, true, false, ◌||�
 use Rattle.std.specs.Prelude.{filter}
 use Rattle.std.specs.Str.{bytes_eq}
 use Rattle.bv_core.specs.Value.{Bits}
-use Rattle.gen_text.specs.declared.Statement.{Statement}
+use Rattle.first_tree.specs.declared.Statement.{Statement}
 use Rattle.design_core.specs.Block.{Now, body_assigns}
 use Rattle.design_core.specs.Exec.{Env, start}
 use Rattle.design_core.specs.Trail.{Place, within}

@@ -7,13 +7,13 @@ use Rattle.std.proofs.lemmas.Bool.Decides.{nat_tests}
 use Rattle.std.proofs.lemmas.List.Folds.{list_any-append}
 use Rattle.bv_core.specs.Value.{Bits}
 use Rattle.bv_core.specs.Operators.{apply2_of}
-use Rattle.gen_text.specs.declared.Statement.{Statement}
-use Rattle.gen_text.specs.declared.Op.{Op}
-use Rattle.gen_text.specs.declared.Op.TheVariants as source
-use Rattle.gen_text.specs.declared.Expr.{Expr}
-use Rattle.gen_text.specs.declared.Expr.TheVariants.{One, Bin}
-use Rattle.gen_text.specs.declared.Operand.{Operand}
-use Rattle.gen_text.specs.declared.Operand.TheVariants as operand
+use Rattle.first_tree.specs.declared.Statement.{Statement}
+use Rattle.first_tree.specs.declared.Op.{Op}
+use Rattle.first_tree.specs.declared.Op.TheVariants as source
+use Rattle.first_tree.specs.declared.Expr.{Expr}
+use Rattle.first_tree.specs.declared.Expr.TheVariants.{One, Bin}
+use Rattle.first_tree.specs.declared.Operand.{Operand}
+use Rattle.first_tree.specs.declared.Operand.TheVariants as operand
 use Rattle.design_core.specs.Block.{Now}
 use Rattle.design_core.specs.Exec.{Env, put, value_of}
 use Rattle.first_form.specs.declared.signal.Signal.{Signal}

@@ -5,8 +5,8 @@ use Rattle.std.specs.List.{flat_map, enumerate_from}
 use Rattle.std.specs.Fmt.{decimal}
 use Rattle.std.proofs.lemmas.Bool.Decides.{nat_tests}
 use Rattle.bv_core.specs.Value.{Bits}
-use Rattle.gen_text.specs.declared.Module.{Module}
-use Rattle.gen_text.specs.declared.Statement.{Statement}
+use Rattle.first_tree.specs.declared.Module.{Module}
+use Rattle.first_tree.specs.declared.Statement.{Statement}
 use Rattle.design_core.specs.Block.{Now}
 use Rattle.design_core.specs.Exec.{Env, Visit, put, start, body_visits}
 use Rattle.design_core.specs.Trail.{Place, Slot, before_slot, within}

@@ -2,8 +2,8 @@
 use Rattle.std.proofs.Common.{◌≡◌, Bool, true, false, ◌&&◌, List, [], ◌∷◌, ◌++◌, map, refl}
 use Rattle.std.specs.Prelude.{filter}
 use Rattle.std.specs.List.{list_all}
-use Rattle.gen_text.specs.declared.Module.{Module}
-use Rattle.gen_text.specs.declared.Port.{Port}
+use Rattle.first_tree.specs.declared.Module.{Module}
+use Rattle.first_tree.specs.declared.Port.{Port}
 use Rattle.design_core.specs.Ports.{has_width}
 use Rattle.first_form.specs.declared.signal.Signal.{Signal}
 use Rattle.first_form.specs.Form.{is_width, port_signal, is_form, signals_of}

@@ -4,11 +4,11 @@ use Rattle.std.specs.Str.{bytes_eq}
 use Rattle.bv_core.specs.Value.{Bits}
 use Rattle.bv_core.specs.Operators.{apply2_of}
 use Rattle.bv_core.specs.declared.Op2.{Op2}
-use Rattle.gen_text.specs.declared.Statement.{Statement}
-use Rattle.gen_text.specs.declared.Expr.{Expr}
-use Rattle.gen_text.specs.declared.Expr.TheVariants.{One, Bin}
-use Rattle.gen_text.specs.declared.Operand.{Operand}
-use Rattle.gen_text.specs.declared.Operand.TheVariants as operand
+use Rattle.first_tree.specs.declared.Statement.{Statement}
+use Rattle.first_tree.specs.declared.Expr.{Expr}
+use Rattle.first_tree.specs.declared.Expr.TheVariants.{One, Bin}
+use Rattle.first_tree.specs.declared.Operand.{Operand}
+use Rattle.first_tree.specs.declared.Operand.TheVariants as operand
 use Rattle.first_form.specs.declared.signal.Signal.{Signal}
 use Rattle.first_form.specs.declared.cells.Cell.{Cell}
 use Rattle.first_form.specs.Form.{literal_of}

@@ -2,14 +2,14 @@
 use Rattle.std.specs.Prelude.{ℕ, ◌+◌, List, [], ◌∷◌, map}
 use Rattle.bv_core.specs.declared.Op2.{Op2}
 use Rattle.bv_core.specs.declared.Op2.TheVariants as bits
-use Rattle.gen_text.specs.declared.Module.{Module}
-use Rattle.gen_text.specs.declared.Statement.{Statement}
-use Rattle.gen_text.specs.declared.Op.{Op}
-use Rattle.gen_text.specs.declared.Op.TheVariants as source
-use Rattle.gen_text.specs.declared.Expr.{Expr}
-use Rattle.gen_text.specs.declared.Expr.TheVariants.{One, Bin}
-use Rattle.gen_text.specs.declared.Operand.{Operand}
-use Rattle.gen_text.specs.declared.Operand.TheVariants as operand
+use Rattle.first_tree.specs.declared.Module.{Module}
+use Rattle.first_tree.specs.declared.Statement.{Statement}
+use Rattle.first_tree.specs.declared.Op.{Op}
+use Rattle.first_tree.specs.declared.Op.TheVariants as source
+use Rattle.first_tree.specs.declared.Expr.{Expr}
+use Rattle.first_tree.specs.declared.Expr.TheVariants.{One, Bin}
+use Rattle.first_tree.specs.declared.Operand.{Operand}
+use Rattle.first_tree.specs.declared.Operand.TheVariants as operand
 use Rattle.design_core.specs.Block as design
 use Rattle.design_core.specs.Block.{Name, Now, Assign, Body, Done, Then}
 use Rattle.design_core.specs.Trail.{Design}

@@ -4,15 +4,15 @@ use Rattle.std.specs.List.{flat_map, list_any, list_all, find}
 use Rattle.std.specs.Option.{option_map, option_map_or}
 use Rattle.std.specs.Str.{bytes_eq}
 use Rattle.bv_core.specs.Value.{Bits}
-use Rattle.gen_text.specs.declared.Module.{Module}
-use Rattle.gen_text.specs.declared.Port.{Port}
-use Rattle.gen_text.specs.declared.Item.{Item}
-use Rattle.gen_text.specs.declared.Item.TheVariants as item
-use Rattle.gen_text.specs.declared.Statement.{Statement}
-use Rattle.gen_text.specs.declared.Expr.{Expr}
-use Rattle.gen_text.specs.declared.Expr.TheVariants.{One, Bin}
-use Rattle.gen_text.specs.declared.Operand.{Operand}
-use Rattle.gen_text.specs.declared.Operand.TheVariants as operand
+use Rattle.first_tree.specs.declared.Module.{Module}
+use Rattle.first_tree.specs.declared.Port.{Port}
+use Rattle.first_tree.specs.declared.Item.{Item}
+use Rattle.first_tree.specs.declared.Item.TheVariants as item
+use Rattle.first_tree.specs.declared.Statement.{Statement}
+use Rattle.first_tree.specs.declared.Expr.{Expr}
+use Rattle.first_tree.specs.declared.Expr.TheVariants.{One, Bin}
+use Rattle.first_tree.specs.declared.Operand.{Operand}
+use Rattle.first_tree.specs.declared.Operand.TheVariants as operand
 use Rattle.first_form.specs.declared.signal.Signal.{Signal}
 
 -- the signals in the order of their declaration: ports, then wires

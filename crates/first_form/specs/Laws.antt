@@ -1,8 +1,8 @@
 -- Laws of trails of the first form.
 use Rattle.std.specs.Prelude.{◌≡◌, true, List, [], ◌∷◌, ◌++◌, length, Some, is_some, ◌||◌}
 use Rattle.bv_core.specs.Value.{Bits}
-use Rattle.gen_text.specs.declared.Module.{Module}
-use Rattle.gen_text.specs.declared.Statement.{Statement}
+use Rattle.first_tree.specs.declared.Module.{Module}
+use Rattle.first_tree.specs.declared.Statement.{Statement}
 use Rattle.design_core.specs.Block.{Now}
 use Rattle.design_core.specs.Exec.{Env}
 use Rattle.design_core.specs.Trail.{Place, Instance, thread_of}

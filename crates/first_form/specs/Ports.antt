@@ -1,7 +1,7 @@
 -- The ports of a module of the first form.
 use Rattle.std.specs.Prelude.{◌≡◌, ℕ, List, filter, map}
-use Rattle.gen_text.specs.declared.Module.{Module}
-use Rattle.gen_text.specs.declared.Port.{Port}
+use Rattle.first_tree.specs.declared.Module.{Module}
+use Rattle.first_tree.specs.declared.Port.{Port}
 use Rattle.design_core.specs.declared.Ports.{Ports}
 use Rattle.first_form.specs.declared.signal.Signal.{Signal}
 use Rattle.first_form.specs.Form.{signals_of}

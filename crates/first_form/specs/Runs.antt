@@ -4,7 +4,7 @@ use Rattle.bv_core.specs.Value.{Bits}
 use Rattle.design_core.specs.Trail.{Place}
 use Rattle.design_core.specs.declared.Ports.{Ports}
 use Rattle.stim_text.specs.Stimulus.{Stimulus, IsStimulus}
-use Rattle.gen_text.specs.declared.Module.{Module}
+use Rattle.first_tree.specs.declared.Module.{Module}
 use Rattle.first_form.specs.declared.signal.Signal.{Signal}
 use Rattle.first_form.specs.Ports.{inputs_of}
 

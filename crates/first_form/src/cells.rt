@@ -7,7 +7,7 @@ ghost use Rattle.first_form.specs.Cells.{empty_cell, taken, started, value_in, o
 use crate::Signal;
 use crate::check::literal;
 use bv_core::{Bv, Op2, apply2};
-use gen_text::{Expr, Op, Operand, Statement};
+use first_tree::{Expr, Op, Operand, Statement};
 use std::alloc::Global;
 use text_core::{NoMemory, Text};
 

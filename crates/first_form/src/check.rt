@@ -7,7 +7,7 @@ ghost use Rattle.first_form.specs.Form.{signal_named, is_assigned, readable_widt
 
 use crate::Signal;
 use bv_core::Bv;
-use gen_text::{Expr, Operand, Statement};
+use first_tree::{Expr, Operand, Statement};
 
 /// The first signal of that name.
 pub(crate) fn signal_named<'s>(signals: &'s [Signal], name: &[u8]) -> Option<&'s Signal>

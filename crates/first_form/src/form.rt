@@ -20,7 +20,7 @@ use crate::signal::signals_of;
 use crate::trail::write_rows;
 use crate::{Signal, TrailEnd};
 use design_core::Ports;
-use gen_text::{Item, Module, Statement};
+use first_tree::{Item, Module, Statement};
 use io_edge::Sink;
 use std::alloc::Global;
 use std::marker::Model;
@@ -36,7 +36,7 @@ pub struct FirstForm {
 
 impl Model for FirstForm {
     ghost use Rattle.std.specs.Prelude.{◌≡◌, true};
-    ghost use Rattle.gen_text.specs.declared.Module.{Module};
+    ghost use Rattle.first_tree.specs.declared.Module.{Module};
     ghost use Rattle.first_form.specs.Form.{signals_of, is_form};
 
     ghost Value = { Module };

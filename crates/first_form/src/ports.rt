@@ -6,7 +6,7 @@ ghost use Rattle.first_form.specs.Form.{is_width};
 ghost use Rattle.first_form.specs.Ports.{named_input, named_output};
 
 use crate::Signal;
-use gen_text::Port;
+use first_tree::Port;
 use std::alloc::Global;
 use text_core::{Listed, NoMemory, Text};
 

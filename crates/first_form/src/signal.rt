@@ -1,7 +1,7 @@
 ghost use Rattle.std.specs.Prelude.{◌≡◌, IfOk, OnOk, ◌++◌, map};
 ghost use Rattle.first_form.specs.Form.{signals_of, port_signal, item_signals};
 
-use gen_text::{Item, Module, Port};
+use first_tree::{Item, Module, Port};
 use std::alloc::Global;
 use text_core::{NoMemory, Text};
 

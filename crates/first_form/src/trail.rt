@@ -12,7 +12,7 @@ ghost use Rattle.first_form.specs.CellText.{cell_line, block_text, rows_text};
 use crate::TrailEnd;
 use crate::cells::{Cell, assign, start};
 use bv_core::text_of;
-use gen_text::Statement;
+use first_tree::Statement;
 use io_edge::Sink;
 use std::alloc::Global;
 use stim_text::Stim;

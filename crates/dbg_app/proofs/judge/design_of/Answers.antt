@@ -1,10 +1,7 @@
-use Rattle.std.proofs.Common.{ap, Err}
-use Rattle.dbg_app.proofs.Judging.{accepted, no_design}
+use Rattle.gen_tree.specs.View.{source_of}
+use Rattle.dbg_app.proofs.Judging.{read_so}
 use Rattle.dbg_app.proofs.judge.design_of.Goals as goal
 
-pub returns-in-Ok-accept-clause-design : goal.returns-in-Ok-accept-clause-design
-returns-in-Ok-accept-clause-design c =
-    accepted c.args.top.now c.args.source.now c.in-Ok.tree c.in-Ok-accept.found c.in-Ok.ensures.found c.in-Ok-accept.ensures
-
-pub returns-in-Err-NotYet-clause-design : goal.returns-in-Err-NotYet-clause-design
-returns-in-Err-NotYet-clause-design c = no_design c.args.top.now c.args.source.now (c.in-Err-NotYet.ensures.refused (ap Err c.in-Err-NotYet.field-0-is))
+pub returns-in_ok-form_of-in-Ok-clause-design : goal.returns-in_ok-form_of-in-Ok-clause-design
+returns-in_ok-form_of-in-Ok-clause-design c =
+    rw c.ok_or.ensures.value (read_so c.args.top.now c.args.source.now (source_of c.in-Ok.tree) c.in_ok-form_of-in-Ok.field-0 c.in-Ok.ensures.found c.in_ok-form_of-in-Ok.ensures)

@@ -12,18 +12,18 @@ pub returns-in_err-stim-clause-front : goal.returns-in_err-stim-clause-front
 returns-in_err-stim-clause-front g c =
     front_after _ _ _ (c.args.row.now.source.now ∷ []) (c.args.row.now.stimulus.now ∷ []) [] _ refl c.in_ok-form.ensures.asked c.judge_stimulus.ensures.front
 
-pub returns-in-Ok-clause-judged : goal.returns-in-Ok-clause-judged
-returns-in-Ok-clause-judged g c =
-    accepted_row (g.F.Files.told c.args.files.now) (row_as c.args.row.now) c.in-Some.form c.in_ok-ports.ports c.in-Ok.stim c.in_ok-ports.ensures.ports (rw c.in-Some.is at c.in_ok-form.ensures.judged) (rw (c.judge_source.ensures.same, c.in-Ok.is) at c.in_ok-stim.ensures.judged)
+pub returns-in-Ok-2-clause-judged : goal.returns-in-Ok-2-clause-judged
+returns-in-Ok-2-clause-judged g c =
+    accepted_row (g.F.Files.told c.args.files.now) (row_as c.args.row.now) c.in-Ok.form c.in_ok-ports.ports c.in-Ok-2.stim c.in_ok-ports.ensures.ports (rw c.in-Ok.is at c.in_ok-form.ensures.judged) (rw (c.judge_source.ensures.same, c.in-Ok-2.is) at c.in_ok-stim.ensures.judged)
 
-pub returns-in-Ok-clause-front : goal.returns-in-Ok-clause-front
-returns-in-Ok-clause-front g c =
+pub returns-in-Ok-2-clause-front : goal.returns-in-Ok-2-clause-front
+returns-in-Ok-2-clause-front g c =
     front_after _ _ _ (c.args.row.now.source.now ∷ []) (c.args.row.now.stimulus.now ∷ []) [] _ refl c.in_ok-form.ensures.asked c.judge_stimulus.ensures.front
 
-pub returns-in-Err-clause-judged : goal.returns-in-Err-clause-judged
-returns-in-Err-clause-judged g c =
-    refused_row (g.F.Files.told c.args.files.now) (row_as c.args.row.now) c.in-Some.form c.in_ok-ports.ports c.in-Err.fault c.in_ok-ports.ensures.ports (rw c.in-Some.is at c.in_ok-form.ensures.judged) (rw (c.judge_source.ensures.same, c.in-Err.is) at c.in_ok-stim.ensures.judged)
+pub returns-in-Err-2-clause-judged : goal.returns-in-Err-2-clause-judged
+returns-in-Err-2-clause-judged g c =
+    refused_row (g.F.Files.told c.args.files.now) (row_as c.args.row.now) c.in-Ok.form c.in_ok-ports.ports c.in-Err-2.fault c.in_ok-ports.ensures.ports (rw c.in-Ok.is at c.in_ok-form.ensures.judged) (rw (c.judge_source.ensures.same, c.in-Err-2.is) at c.in_ok-stim.ensures.judged)
 
-pub returns-in-Err-clause-front : goal.returns-in-Err-clause-front
-returns-in-Err-clause-front g c =
+pub returns-in-Err-2-clause-front : goal.returns-in-Err-2-clause-front
+returns-in-Err-2-clause-front g c =
     front_after _ _ _ (c.args.row.now.source.now ∷ []) (c.args.row.now.stimulus.now ∷ []) [] _ refl c.in_ok-form.ensures.asked c.judge_stimulus.ensures.front

@@ -1,5 +1,5 @@
 use Rattle.std.proofs.Common.{◌<◌, lit<}
-use Rattle.dbg_app.proofs.Ending.{usage_taken, refusal_taken, front_taken}
+use Rattle.dbg_app.proofs.Ending.{usage_taken, design_line_taken, stimulus_line_taken, front_taken}
 use Rattle.dbg_app.proofs.program.act.Goals as goal
 
 pub returns-in-Ok-clause-usage_front : goal.returns-in-Ok-clause-usage_front
@@ -7,11 +7,17 @@ returns-in-Ok-clause-usage_front g c = λ none.
     let e = c.end.ensures in
     usage_taken c.end.result.status c.in-Ok.judged _ _ e.statuses (c.in-Ok.ensures.command.1 none) e.done e.no_read e.front
 
+pub returns-in-Ok-clause-design_line : goal.returns-in-Ok-clause-design_line
+returns-in-Ok-clause-design_line g c = λ three.
+    let e = c.end.ensures in
+    let early : c.end.result.status < 7 = rw three (lit< tt) in
+    design_line_taken c.end.result.status c.in-Ok.judged _ _ three (e.status early) c.in-Ok.ensures.rows (e.done early)
+
 pub returns-in-Ok-clause-stimulus_line : goal.returns-in-Ok-clause-stimulus_line
 returns-in-Ok-clause-stimulus_line g c = λ four.
     let e = c.end.ensures in
     let early : c.end.result.status < 7 = rw four (lit< tt) in
-    refusal_taken c.end.result.status c.in-Ok.judged _ _ four (e.status early) (e.done early)
+    stimulus_line_taken c.end.result.status c.in-Ok.judged _ _ four (e.status early) c.in-Ok.ensures.rows (e.done early)
 
 pub returns-in-Ok-clause-front : goal.returns-in-Ok-clause-front
 returns-in-Ok-clause-front g c = λ late.
