@@ -5,6 +5,7 @@ ghost use Rattle.gen_text.specs.Faults.{Gives, with_rest};
 ghost use Rattle.gen_text.specs.Forms.{op_form};
 ghost use Rattle.gen_text.specs.Reading as list;
 
+use crate::build;
 use crate::fault::ReadFault;
 use crate::ints::{fam_rest, int};
 use crate::words::{begins_mark, mark, name, open};
@@ -188,8 +189,7 @@ fn bracket<'t, 'a>(
     let (op, rest) = op(rest)?;
     let (second, rest) = expr(alloc, mode, room - 1, rest)?;
     let rest = mark(rest, Mark::RightParen)?;
-    let value = Expr::Bin(op, Box::new(alloc, first)?, Box::new(alloc, second)?);
-    Ok((value, rest))
+    Ok((build::binary(alloc, op, first, second)?, rest))
 }
 
 /// What stands behind an operator on one value, and what follows it.
@@ -206,7 +206,7 @@ fn unary<'t, 'a>(
     let rest = open(tokens, Mark::LeftParen, room)?;
     let (value, rest) = expr(alloc, mode, room - 1, rest)?;
     let rest = mark(rest, Mark::RightParen)?;
-    Ok((Expr::Un(op, Box::new(alloc, value)?), rest))
+    Ok((build::unary(alloc, op, value)?, rest))
 }
 
 /// What stands behind `cat`, and what follows it.
@@ -224,8 +224,7 @@ fn cat<'t, 'a>(
     let rest = mark(rest, Mark::Comma)?;
     let (low, rest) = expr(alloc, mode, room - 1, rest)?;
     let rest = mark(rest, Mark::RightParen)?;
-    let value = Expr::Bin(Op::Cat, Box::new(alloc, high)?, Box::new(alloc, low)?);
-    Ok((value, rest))
+    Ok((build::binary(alloc, Op::Cat, high, low)?, rest))
 }
 
 /// What stands behind `zext`, and what follows it.
@@ -243,7 +242,7 @@ fn zext<'t, 'a>(
     let rest = mark(rest, Mark::Comma)?;
     let (width, rest) = int(alloc, mode, room - 1, rest)?;
     let rest = mark(rest, Mark::RightParen)?;
-    Ok((Expr::Zext(Box::new(alloc, value)?, width), rest))
+    Ok((build::zext(alloc, value, width)?, rest))
 }
 
 /// What stands behind `mux`, and what follows it.
@@ -299,5 +298,5 @@ fn bounds<'t, 'a>(
     let rest = mark(rest, Mark::Colon)?;
     let (low, rest) = int(alloc, mode, room - 1, rest)?;
     let rest = mark(rest, Mark::RightBracket)?;
-    Ok((Expr::Slice(Box::new(alloc, value)?, high, low), rest))
+    Ok((build::slice(alloc, value, high, low)?, rest))
 }

@@ -5,12 +5,12 @@ ghost use Rattle.gen_text.specs.Faults.{Gives, with_rest};
 ghost use Rattle.gen_text.specs.Forms.{int_op_form, cmp_form};
 ghost use Rattle.gen_text.specs.Reading as list;
 
+use crate::build;
 use crate::fault::ReadFault;
 use crate::words::{is_mark, mark, name};
 use gen_token::{Mark, Placed, Token};
 use gen_tree::{Cmp, Fam, Int, IntOp, Mode};
 use std::alloc::Global;
-use std::boxed::Box;
 use text_core::Text;
 
 /// The operator between integers that a token is.
@@ -123,8 +123,7 @@ fn int_group<'t, 'a>(
     let (op, rest) = int_op(rest)?;
     let (right, rest) = int(alloc, mode, room, rest)?;
     let rest = mark(rest, Mark::RightParen)?;
-    let int = Int::Bin(op, Box::new(alloc, left)?, Box::new(alloc, right)?);
-    Ok((int, rest))
+    Ok((build::computed(alloc, op, left, right)?, rest))
 }
 
 /// The index behind a name, or none, and what follows it.

@@ -1,6 +1,7 @@
 //! The reader of sources.
 #![tactic(auto)]
 
+mod build;
 mod exprs;
 mod fault;
 mod ints;
