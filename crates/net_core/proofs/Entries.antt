@@ -144,3 +144,9 @@ put_entry es new ns e k i g v f w n h s =
     subst (λ m. Fits m (shape_of e.node) → e.width ≡ tree_width (node_tree (trees_of m) (shape_of e.node)) → Put m new i (node_tree (trees_of m) (shape_of e.node))) v
     (λ f w. record { node = entry_placed es new e k i g f n h s; entries = entries_put es new e k i g f w n h s })
     f w
+
+pub tree_got : (es : List Entry) (ns : List Shape) (i : ℕ) (e : Entry) → AreEntries es → shapes_of es ≡ ns → slice_get es i ≡ Some e → tree_of ns i ≡ node_tree (trees_of ns) (shape_of e.node)
+tree_got es ns i e g v h =
+    let r = got (shapes_of es) i (shape_of e.node) (shape_got es i e h) in
+    subst (λ m. tree_of m i ≡ node_tree (trees_of m) (shape_of e.node)) v
+    (tree_is (shapes_of es) g.shared.numbered i r.0 ∙ ap (node_tree (trees_of (shapes_of es))) r.1)

@@ -44,26 +44,26 @@ outputs_of outputs = map (λ (o : String Global × NodeId). (string_bytes o.0, o
 abbrev pub nexts_of : List (NodeId × NodeId) → List (ℕ × ℕ)
 nexts_of nexts = map (λ (n : NodeId × NodeId). (n.0.0, n.1.0)) nexts
 
--- whether a node is a register
-abbrev pub is_register : Shape → Bool
-is_register (Fixed b) = false
-is_register (TopInput name width) = false
-is_register (Register instance name start) = true
-is_register (OfOne op a) = false
-is_register (OfTwo op a b) = false
-is_register (OfMux c a b) = false
+-- whether a tree is a register
+abbrev pub is_register : tree.Whole → Bool
+is_register (tree.Const b) = false
+is_register (tree.Leaf (tree.Input name width)) = false
+is_register (tree.Leaf (tree.Register instance name start)) = true
+is_register (tree.One op a) = false
+is_register (tree.Two op a b) = false
+is_register (tree.Mux c a b) = false
 
 -- a register's node and a node of its width
 pub record IsNext (ns : List Shape) (pair : ℕ × ℕ) : Type 0 where
   pub within : pair.0 < length ns
-  pub register : is_register (shape_at ns pair.0) ≡ true
+  pub register : is_register (tree_of ns pair.0) ≡ true
   pub next : pair.1 < length ns
   pub width : width_at ns pair.1 ≡ width_at ns pair.0
 
 -- the next values name each register's node once, with a node of its width, and no other node
 pub record NextsFit (ns : List Shape) (nexts : List (ℕ × ℕ)) : Type 0 where
   pub registers : (k : ℕ) (pair : ℕ × ℕ) → slice_get nexts k ≡ Some pair → IsNext ns pair
-  pub each : (i : ℕ) → i < length ns → is_register (shape_at ns i) ≡ true → (k : ℕ) × ((next : ℕ) × (slice_get nexts k ≡ Some (i, next)))
+  pub each : (i : ℕ) → i < length ns → is_register (tree_of ns i) ≡ true → (k : ℕ) × ((next : ℕ) × (slice_get nexts k ≡ Some (i, next)))
   pub once : (j k i m n : ℕ) → slice_get nexts j ≡ Some (i, m) → slice_get nexts k ≡ Some (i, n) → j ≡ k
 
 -- each output is a node

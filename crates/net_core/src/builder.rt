@@ -66,8 +66,15 @@ impl NetBuilder {
         constant_of(&entry.node)
     }
 
-    /// The width of what an id stands for.
-    fn width_at(&self, id: NodeId) -> u8
+    /// How many nodes there are. Their ids are the numbers below it.
+    pub fn count(&self) -> u64
+        ensures { result ≡ length self.now }
+    {
+        self.nodes.len() as u64
+    }
+
+    /// The width of what an id stands for, from 1 to 128.
+    pub fn width(&self, id: NodeId) -> u8
         requires { id.0 < length self.now }
         ensures { result ≡ width_at self.now id.0 }
     {
@@ -181,7 +188,7 @@ impl NetBuilder {
         ensures err { OnErr result (self.new ≡ self.old) }
     {
         let constant = self.constant_at(a);
-        let width = self.width_at(a);
+        let width = self.width(a);
         let outcome = one_outcome(op, width, constant);
         let itself = Entry {
             node: Node::One(op, a),
@@ -206,7 +213,7 @@ impl NetBuilder {
         let outcome = two_outcome(op, &left, &right);
         let itself = Entry {
             node: Node::Two(op, a, b),
-            width: width2(op, self.width_at(a), self.width_at(b)),
+            width: width2(op, self.width(a), self.width(b)),
         };
         self.settle(outcome, a, b, b, itself)
     }
@@ -230,7 +237,7 @@ impl NetBuilder {
         let outcome = mux_outcome(condition, first, second, same);
         let itself = Entry {
             node: Node::Mux(c, a, b),
-            width: self.width_at(a),
+            width: self.width(a),
         };
         self.settle(outcome, c, a, b, itself)
     }

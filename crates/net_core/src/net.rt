@@ -1,5 +1,5 @@
 ghost use Rattle.std.specs.Prelude.{◌≡◌, ◌<◌, length};
-ghost use Rattle.net_core.specs.Nodes.{shape_of, shape_at, width_at};
+ghost use Rattle.net_core.specs.Nodes.{shape_of, shape_at, tree_of, trees_of, node_tree, width_at};
 ghost use Rattle.net_core.specs.Nets.{outputs_of, nexts_of, OutputsFit, NextsFit, IsNet};
 ghost use Rattle.net_core.specs.Kept.{parts_of, IsKept};
 
@@ -42,7 +42,8 @@ impl Net {
     /// The node of an id.
     pub fn node(&self, id: NodeId) -> &Node
         requires { id.0 < length self.now.nodes }
-        ensures { shape_of result.now ≡ shape_at self.now.nodes id.0 }
+        ensures node { shape_of result.now ≡ shape_at self.now.nodes id.0 }
+        ensures tree { tree_of self.now.nodes id.0 ≡ node_tree (trees_of self.now.nodes) (shape_of result.now) }
     {
         &self.nodes.get_index(id.0 as usize).unwrap().node
     }
