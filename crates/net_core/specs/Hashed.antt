@@ -6,6 +6,7 @@ use Rattle.bv_core.specs.declared.operators.Op1.TheVariants.{Not, All, Any, Pari
 use Rattle.tree_core.specs.Fold.{op2_number}
 use Rattle.net_core.specs.Nodes.{Shape, Fixed, TopInput, Register, OfOne, OfTwo, OfMux}
 
+-- the variant, and its numbers
 abbrev pub fed_op1 : Op1 → fed.HashWrites
 fed_op1 Not = fed.u8 0
 fed_op1 All = fed.u8 1
@@ -14,6 +15,7 @@ fed_op1 Parity = fed.u8 3
 fed_op1 (Slice high low) = fed.u8 4 ++ fed.u8 high ++ fed.u8 low
 fed_op1 (Zext to) = fed.u8 5 ++ fed.u8 to
 
+-- the variant, which for an operator on two nodes tells the operator too, and what it names
 abbrev pub fed_shape : Shape → fed.HashWrites
 fed_shape (Fixed b) = fed.u8 0 ++ fed.u8 b.width ++ fed.u128 b.value
 fed_shape (TopInput name width) = fed.u8 1 ++ fed.str name
