@@ -1,0 +1,5 @@
+pub mod TreeLists
+pub mod Solutions
+pub mod Sharing
+pub mod Entries
+pub mod Applying
