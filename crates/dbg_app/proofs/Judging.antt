@@ -16,7 +16,7 @@ use Rattle.stim_text.specs.Stimulus.{Stimulus}
 use Rattle.stim_text.specs.declared.StimFault.{StimFault}
 use Rattle.stim_text.specs.declared.StimFault.TheVariants.{HeaderMismatch, BadRow, DoesNotFit, TooLong, NoMemory}
 use Rattle.dbg_app.specs.Command.{Row}
-use Rattle.design_core.specs.Trail.{Place}
+use Rattle.exec_core.specs.Whole.{Place}
 use Rattle.design_core.specs.TrailText.{trail_text}
 use Rattle.first_form.specs.Elaborated.{design_of}
 use Rattle.first_form.specs.Runs.{GivesRows, HasRun, EachRuns}

@@ -9,7 +9,7 @@ use Rattle.gen_text.specs.Source.{Reads, IsCause}
 use Rattle.first_tree.specs.declared.Module.{Module}
 use Rattle.first_tree.specs.Wide.{wide_module}
 use Rattle.design_core.specs.declared.Ports.{Ports}
-use Rattle.design_core.specs.Trail.{Place}
+use Rattle.exec_core.specs.Whole.{Place}
 use Rattle.design_core.specs.TrailText.{trail_text}
 use Rattle.stim_text.specs.Rows.{rows_of}
 use Rattle.stim_text.specs.declared.StimFault.{StimFault}

@@ -9,7 +9,7 @@ use Rattle.first_tree.specs.declared.Module.{Module}
 use Rattle.first_tree.specs.Wide.{wide_module}
 use Rattle.first_form.specs.Form.{is_first_form}
 use Rattle.design_core.specs.declared.Ports.{Ports}
-use Rattle.design_core.specs.Trail.{Place}
+use Rattle.exec_core.specs.Whole.{Place}
 use Rattle.design_core.specs.TrailText.{trail_text}
 use Rattle.first_form.specs.Elaborated.{design_of}
 use Rattle.first_form.specs.Ports.{inputs_of, ArePortsOf}

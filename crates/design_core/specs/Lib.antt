@@ -1,6 +1,9 @@
-pub mod Block
-pub mod Exec
 pub mod Trail
 pub mod TrailText
 pub mod Sample
 pub mod Ports
+pub mod Design
+pub mod View
+pub mod DesignView
+pub mod Slots
+pub mod WellFormed

@@ -4,14 +4,16 @@
 use Rattle.std.specs.Prelude.{◌≡◌, List, [], ◌∷◌, ◌++◌, codes}
 use Rattle.bv_core.specs.Value.{Bits}
 use Rattle.bv_core.specs.declared.Op2.TheVariants.{Add, Xor}
-use Rattle.design_core.specs.Block.{Name, Read, Value, Two, Now, Assign, Body, Done, Then}
-use Rattle.design_core.specs.Trail.{Design, Place}
+use Rattle.tree_core.specs.Tree.{Const, Leaf, Two}
+use Rattle.exec_core.specs.Block.{Name, Now, Assign, Body, Done, Then}
+use Rattle.exec_core.specs.Whole.{Place}
+use Rattle.design_core.specs.Trail.{Design}
 use Rattle.design_core.specs.TrailText.{trail_text}
 
 abbrev pub sample_body : Body
 sample_body =
-    Then (Assign 0 (Now (codes "t")) (Two Add (Read (codes "a")) (Value (record { width = 4; value = 1 }))))
-    (Then (Assign 1 (Now (codes "y")) (Two Xor (Read (codes "t")) (Read (codes "a")))) Done)
+    Then (Assign 0 (Now (codes "t")) (Two Add (Leaf (codes "a")) (Const (record { width = 4; value = 1 }))))
+    (Then (Assign 1 (Now (codes "y")) (Two Xor (Leaf (codes "t")) (Leaf (codes "a")))) Done)
 
 abbrev pub sample_scope : List Name
 sample_scope = codes "a" ∷ codes "y" ∷ codes "t" ∷ []

@@ -4,9 +4,10 @@ use Rattle.std.specs.List.{flat_map, enumerate_from}
 use Rattle.std.specs.Fmt.{decimal}
 use Rattle.bv_core.specs.Value.{Bits}
 use Rattle.bv_core.specs.Text.{shown}
-use Rattle.design_core.specs.Block.{Name, Now}
-use Rattle.design_core.specs.Exec.{Env}
-use Rattle.design_core.specs.Trail.{Slot, Design, Place, thread_of}
+use Rattle.exec_core.specs.Block.{Name, Now}
+use Rattle.exec_core.specs.Exec.{Env}
+use Rattle.exec_core.specs.Whole.{Place}
+use Rattle.design_core.specs.Trail.{Slot, Design, thread_of}
 
 -- a value as it is printed; a name without one is `unset`
 abbrev pub shown_or_unset : Option Bits → List ℕ

@@ -5,10 +5,14 @@ use Rattle.gen_tree.specs.Tree.{Int, num, var, bin, Fam, Lit, plain, bits, read,
 use Rattle.std.proofs.lemmas.Int.{ints}
 use lib.Signed.{le_z_yes}
 use Rattle.std.proofs.lemmas.Slice.Eq.{bytes_eq-Decides}
-use Rattle.elab_core.specs.Walk.{Walk, Gives, Faulty, Counted, ElabRange, and_then, counts, Parts, Statements, Turns}
-use Rattle.elab_core.specs.Numbers.{Name, Gens, find, without, bound, apply_op, in_range, IsInRange, AreInRange, ranged, named, number, family, index_name, fam_name, two_numbers, turn_count, turns_of, holds}
-use Rattle.elab_core.specs.Elaborated.{Read, Out, Value, Unary, Binary, Mux, Zext, Slice, Assign, Let, If, Body, Done, Otherwise, added}
-use Rattle.elab_core.specs.Elab.{literal, expr, turns, statement, statements, else_body, else_statements}
+use Rattle.elab_core.specs.declared.fault.Count.TheVariants.{Parts, Statements, Turns}
+use Rattle.elab_core.specs.Walk.{Walk, Gives, Faulty, Counted, ElabRange, and_then, counts}
+use Rattle.exec_core.specs.Block.{Name}
+use Rattle.elab_core.specs.Numbers.{find, without, bound, apply_op, in_range, IsInRange, AreInRange, ranged, named, number, family, index_name, fam_name, two_numbers, turn_count, turns_of, holds}
+use Rattle.design_core.specs.Design.{Gens, Read, Out, Value, Unary, Binary, Mux, Zext, Slice, Assign, Let, If, Body, Done, Otherwise}
+use Rattle.elab_core.specs.Operators.{unary_of, binary_of}
+use Rattle.elab_core.specs.Elaborated.{added}
+use Rattle.elab_core.specs.Elab.{literal_of, literal, expr, turns, statement, statements, else_body, else_statements}
 use Rattle.elab_core.specs.Replace.{Numbers, as_int, or_name, put, put_fam, put_lit, put_expr, but, put_stmt, put_stmts, put_else, only_this, closed_stmt, closed_stmts, closed_else, closed_else_stmts, closed_body, loops_stmt, loops_stmts, loops_else}
 
 -- ---- what a walk gives
@@ -94,15 +98,15 @@ two_put line gens a b h = ap₂ (λ v w. and_then v (λ m. and_then w (λ n. Giv
 pub lit_put : (line : ℕ) (gens : Gens) (l : Lit) → AreInRange gens → literal line gens l ≡ literal line [] (put_lit (find gens) l)
 unfolding literal
 lit_put line gens (plain w v) h = refl
-lit_put line gens (bits w v) h = ap (λ w. and_then w (λ pair. Gives (record { width = pair.0; value = pair.1 }))) (two_put line gens w v h)
+lit_put line gens (bits w v) h = ap (λ w. and_then w (λ pair. Gives (literal_of pair.0 pair.1))) (two_put line gens w v h)
 
 pub expr_put : (line : ℕ) (gens : Gens) (e : tree.Expr) → AreInRange gens → expr line gens e ≡ expr line [] (put_expr (find gens) e)
 unfolding expr
 expr_put line gens (read f) h = ap (λ w. and_then (counts Parts line) (λ part. and_then w (λ x. Gives (Read x)))) (fam_put line gens f h)
 expr_put line gens (out f q) h = ap (λ w. and_then (counts Parts line) (λ part. and_then w (λ x. Gives (Out x q)))) (fam_put line gens f h)
 expr_put line gens (value l) h = ap (λ w. and_then (counts Parts line) (λ part. and_then w (λ v. Gives (Value v)))) (lit_put line gens l h)
-expr_put line gens (unary o e) h = ap (λ w. and_then (counts Parts line) (λ part. and_then w (λ a. Gives (Unary o a)))) (expr_put line gens e h)
-expr_put line gens (binary o e f) h = ap₂ (λ v w. and_then (counts Parts line) (λ part. and_then v (λ a. and_then w (λ b. Gives (Binary o a b))))) (expr_put line gens e h) (expr_put line gens f h)
+expr_put line gens (unary o e) h = ap (λ w. and_then (counts Parts line) (λ part. and_then w (λ a. Gives (Unary (unary_of o) a)))) (expr_put line gens e h)
+expr_put line gens (binary o e f) h = ap₂ (λ v w. and_then (counts Parts line) (λ part. and_then v (λ a. and_then w (λ b. Gives (Binary (binary_of o) a b))))) (expr_put line gens e h) (expr_put line gens f h)
 expr_put line gens (mux e f g) h = λ i. and_then (counts Parts line) (λ part. and_then (expr_put line gens e h i) (λ c. and_then (expr_put line gens f h i) (λ a. and_then (expr_put line gens g h i) (λ b. Gives (Mux c a b)))))
 expr_put line gens (zext e w) h = ap₂ (λ v w. and_then (counts Parts line) (λ part. and_then v (λ a. and_then w (λ n. Gives (Zext a n))))) (expr_put line gens e h) (number_put line gens w h)
 expr_put line gens (slice e t l) h = ap₂ (λ v w. and_then (counts Parts line) (λ part. and_then v (λ a. and_then w (λ pair. Gives (Slice a pair.0 pair.1))))) (expr_put line gens e h) (two_put line gens t l h)
@@ -337,12 +341,12 @@ module _ (d : ℕ) (inner : Below d) where
     unfolding statement closed_stmt put_stmt loops_stmt
 
     stmt_level : (s : tree.Stmt) (gens : Gens) (made : Body) → AreInRange gens → loops_stmt s ≤ d → statement s gens made ≡ closed_stmt (closed_body d) gens (put_stmt (find gens) s) made
-    stmt_level (assign line f e) gens made h l = ap₂ (λ v w. and_then (counts Statements line) (λ u. and_then v (λ x. and_then w (λ y. Gives (added made (Assign line gens x y)))))) (fam_put line gens f h) (expr_put line gens e h)
-    stmt_level (bind line f e) gens made h l = ap₂ (λ v w. and_then (counts Statements line) (λ u. and_then v (λ x. and_then w (λ y. Gives (added made (Let line gens x y)))))) (fam_put line gens f h) (expr_put line gens e h)
+    stmt_level (assign line f e) gens made h l = ap₂ (λ v w. and_then (counts Statements line) (λ u. and_then v (λ x. and_then w (λ y. Gives (added made (Assign 0 line gens x y)))))) (fam_put line gens f h) (expr_put line gens e h)
+    stmt_level (bind line f e) gens made h l = ap₂ (λ v w. and_then (counts Statements line) (λ u. and_then v (λ x. and_then w (λ y. Gives (added made (Let 0 line gens x y)))))) (fam_put line gens f h) (expr_put line gens e h)
     stmt_level (choose line c first second) gens made h l =
         let m : loops_stmts first ≤ d = omega arith in
         let n : loops_else second ≤ d = omega arith in
-        λ j. and_then (counts Statements line) (λ u. and_then (expr_put line gens c h j) (λ test. and_then (stmts_level first gens Done h m j) (λ yes_body. and_then (else_level second gens h n j) (λ no_body. Gives (added made (If line gens test yes_body no_body))))))
+        λ j. and_then (counts Statements line) (λ u. and_then (expr_put line gens c h j) (λ test. and_then (stmts_level first gens Done h m j) (λ yes_body. and_then (else_level second gens h n j) (λ no_body. Gives (added made (If 0 line gens test yes_body no_body))))))
     stmt_level (repeat line x from to body) gens made h l =
         let m : loops_stmts body < d = omega arith in
         same_then Both (two_numbers line gens from to) _ _ (two_yields line gens from to h) (λ range p. all_turns line x body gens made range h m p)

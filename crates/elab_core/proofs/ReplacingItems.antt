@@ -2,9 +2,13 @@
 use Rattle.std.proofs.Common.{◌≡◌, ℕ, zero, suc, ◌+◌, ◌<◌, ◌≤◌, Bool, true, false, ℤ, pos, ◌+ℤ◌, ◌-ℤ◌, List, [], ◌∷◌, ◌++◌, length, Option, Some, None, if◌then◌else◌, bytes_eq, nat_le, refl, sym, ap, ap₂, ◌∙◌, arith, codes}
 use Rattle.gen_tree.specs.Tree as tree
 use Rattle.gen_tree.specs.Tree.{Int, Fam, Lit, Stmts, Param, wire, reg, inst, comb, ff, repeat_items, given_items, Items, no_item, item, ElseItems, no_else_items, otherwise_items, Port, Module}
-use Rattle.elab_core.specs.Walk.{Walk, Gives, Faulty, Counted, ElabRange, UnknownParameter, and_then, counts, Signals, Instances}
-use Rattle.elab_core.specs.Numbers.{Name, Gens, IsInRange, AreInRange, find, bound, number, fam_name, two_numbers, turn_count, turns_of, holds}
-use Rattle.elab_core.specs.Elaborated.{Reg, Wire, Signal, Conn, Done}
+use Rattle.elab_core.specs.declared.fault.Count.TheVariants.{Signals, Instances}
+use Rattle.elab_core.specs.Walk.{Walk, Gives, Faulty, Counted, ElabRange, UnknownParameter, and_then, counts}
+use Rattle.exec_core.specs.Block.{Name}
+use Rattle.elab_core.specs.Numbers.{IsInRange, AreInRange, find, bound, number, fam_name, two_numbers, turn_count, turns_of, holds}
+use Rattle.design_core.specs.declared.Kind.TheVariants.{Reg, Wire}
+use Rattle.design_core.specs.declared.Signal.{Signal}
+use Rattle.design_core.specs.Design.{Gens, Conn, Done}
 use Rattle.elab_core.specs.Elab.{turns, statements, places, only, module_named, is_free, distinct, arguments, given_or, parameters, values, port_kind, ports, conns, Asked, asked, count_outputs, Made, nothing, with_signal, with_block, with_child, Here, Enter, register, wire_signal, item_walk, items_walk, else_walk, module_walk, instances_of, instance, top_arguments, top_values, top_walk}
 use Rattle.elab_core.specs.Replace.{Numbers, put, put_fam, put_lit, but, put_stmts, put_params, put_conns, put_item, put_items, put_else_items, put_ports, only_this, closed_body, closed_stmts, loops_stmts}
 use Rattle.elab_core.specs.Closed.{closed_item, closed_items, closed_else_items, closed_all, loops_item, loops_items, loops_else_items, closed_module, closed_instance, closed_top, NestBelow}

@@ -2,9 +2,12 @@
 use Rattle.std.specs.Prelude.{ℕ, zero, suc, ◌+◌, ◌<◌, max, true, false, List, [], ◌∷◌, ◌++◌, length, Some, None, if◌then◌else◌, codes}
 use Rattle.gen_tree.specs.Tree.{Stmts, wire, reg, inst, comb, ff, repeat_items, given_items, Items, no_item, item, ElseItems, no_else_items, otherwise_items, Module}
 use Rattle.gen_tree.specs.Tree as tree
-use Rattle.elab_core.specs.Walk.{Walk, Gives, Faulty, ◌>>=◌, counts, Instances, Signals, TooDeep}
-use Rattle.elab_core.specs.Numbers.{Name, Gens, find, bound, two_numbers, turn_count, holds}
-use Rattle.elab_core.specs.Elaborated.{Body, Done, Instance}
+use Rattle.elab_core.specs.declared.fault.Count.TheVariants.{Instances, Signals}
+use Rattle.elab_core.specs.Walk.{Walk, Gives, Faulty, ◌>>=◌, counts, TooDeep}
+use Rattle.exec_core.specs.Block.{Name}
+use Rattle.elab_core.specs.Numbers.{find, bound, two_numbers, turn_count, holds}
+use Rattle.design_core.specs.Design.{Gens, Body, Done}
+use Rattle.elab_core.specs.Elaborated.{Instance}
 use Rattle.elab_core.specs.Elab.{turns, module_named, asked, register, wire_signal, ports, count_outputs, Made, nothing, with_signal, with_block, with_child, Here, Enter, instances_of, top_values}
 use Rattle.elab_core.specs.Replace.{only_this, closed_stmts, closed_body, loops_stmts, put_ports, put_items}
 

@@ -1,19 +1,32 @@
 -- Elaboration, as a walk over the source.
-use Rattle.std.specs.Prelude.{ℕ, zero, suc, ◌+◌, Bool, true, false, not, ◌&&◌, ◌||◌, ℤ, pos, ◌+ℤ◌, List, [], ◌∷◌, ◌++◌, length, Option, Some, None, is_some, if◌then◌else◌, codes, bytes_eq}
+use Rattle.std.specs.Prelude.{ℕ, zero, suc, ◌+◌, Bool, true, false, not, ◌&&◌, ◌||◌, ℤ, pos, negsuc, ◌+ℤ◌, List, [], ◌∷◌, ◌++◌, length, Option, Some, None, is_some, if◌then◌else◌, codes, bytes_eq}
 use Rattle.std.specs.List.{flat_map}
 use Rattle.gen_tree.specs.Tree as tree
 use Rattle.gen_tree.specs.Tree.{Int, Fam, Lit, plain, bits, read, out, value, unary, binary, mux, zext, slice, assign, bind, choose, repeat, given, Stmts, no_stmt, stmt, no_else, otherwise, Param, wire, reg, inst, comb, ff, repeat_items, given_items, Items, no_item, item, ElseItems, no_else_items, otherwise_items, Port, Module}
-use Rattle.elab_core.specs.Walk.{Walk, Gives, Faulty, ◌>>=◌, and_then, counts, Instances, Turns, Statements, Signals, Parts, UnknownModule, UnknownParameter, TooDeep}
-use Rattle.elab_core.specs.Numbers.{Name, Gens, find, bound, number, fam_name, two_numbers, turn_count, holds}
-use Rattle.elab_core.specs.Elaborated.{Literal, Expr, Read, Out, Value, Unary, Binary, Mux, Zext, Slice, Assign, Let, If, Body, Done, Else, NoElse, Otherwise, added, Kind, Input, Output, Wire, Reg, ChildOut, Signal, Conn, Child, Block, Content, Instance}
+use Rattle.elab_core.specs.declared.fault.Count.TheVariants.{Instances, Turns, Statements, Signals, Parts}
+use Rattle.elab_core.specs.Walk.{Walk, Gives, Faulty, ◌>>=◌, and_then, counts, UnknownModule, UnknownParameter, TooDeep}
+use Rattle.exec_core.specs.Block.{Name}
+use Rattle.elab_core.specs.Numbers.{find, bound, number, fam_name, two_numbers, turn_count, holds}
+use Rattle.design_core.specs.declared.Literal.{Literal}
+use Rattle.design_core.specs.declared.Kind.{Kind}
+use Rattle.design_core.specs.declared.Kind.TheVariants.{Input, Output, Wire, Reg, ChildOut}
+use Rattle.design_core.specs.declared.Signal.{Signal}
+use Rattle.design_core.specs.Design.{Gens, Expr, Read, Out, Value, Unary, Binary, Mux, Zext, Slice, Assign, Let, If, Body, Done, Else, NoElse, Otherwise, Conn, Block}
+use Rattle.elab_core.specs.Operators.{unary_of, binary_of}
+use Rattle.elab_core.specs.Elaborated.{added, Child, Content, Instance}
 
 -- ---- expressions: each part is counted, then come its operands and integers as they stand
 
+-- a literal of this width and value
+abbrev pub literal_of : ℤ → ℤ → Literal
+literal_of w (pos n) = record { width = w; negative = false; value = n }
+literal_of w (negsuc n) = record { width = w; negative = true; value = suc n }
+
 unfoldable pub literal : ℕ → Gens → Lit → Walk Literal
-literal line gens (plain w v) = Gives (record { width = pos w; value = pos v })
+literal line gens (plain w v) = Gives (literal_of (pos w) (pos v))
 literal line gens (bits w v) = do
   pair ← two_numbers line gens w v
-  Gives (record { width = pair.0; value = pair.1 })
+  Gives (literal_of pair.0 pair.1)
 
 unfoldable pub expr : ℕ → Gens → tree.Expr → Walk Expr
 expr line gens (read f) = do
@@ -31,12 +44,12 @@ expr line gens (value l) = do
 expr line gens (unary o e) = do
   part ← counts Parts line
   a ← expr line gens e
-  Gives (Unary o a)
+  Gives (Unary (unary_of o) a)
 expr line gens (binary o e f) = do
   part ← counts Parts line
   a ← expr line gens e
   b ← expr line gens f
-  Gives (Binary o a b)
+  Gives (Binary (binary_of o) a b)
 expr line gens (mux e f g) = do
   part ← counts Parts line
   c ← expr line gens e
@@ -64,7 +77,7 @@ turns line f k (suc count) made = do
   more ← f k made
   turns line f (k +ℤ pos 1) count more
 
--- ---- statements, behind those that were made
+-- ---- statements, behind those that were made. They get their slots when all are there
 
 unfoldable mutual
   pub statement : tree.Stmt → Gens → Body → Walk Body
@@ -72,18 +85,18 @@ unfoldable mutual
     counted ← counts Statements line
     x ← fam_name line gens f
     v ← expr line gens e
-    Gives (added made (Assign line gens x v))
+    Gives (added made (Assign 0 line gens x v))
   statement (bind line f e) gens made = do
     counted ← counts Statements line
     x ← fam_name line gens f
     v ← expr line gens e
-    Gives (added made (Let line gens x v))
+    Gives (added made (Let 0 line gens x v))
   statement (choose line c first second) gens made = do
     counted ← counts Statements line
     test ← expr line gens c
     yes_body ← statements first gens Done
     no_body ← else_body second gens
-    Gives (added made (If line gens test yes_body no_body))
+    Gives (added made (If 0 line gens test yes_body no_body))
   statement (repeat line x from to body) gens made = do
     range ← two_numbers line gens from to
     count ← turn_count line range.0 range.1

@@ -1,6 +1,7 @@
 -- A walk as the list of its events, and the first of them that is at fault.
 use Rattle.std.specs.Prelude.{ℕ, List, [], ◌∷◌, Option, Some, None, Result, Ok, Err, if◌then◌else◌, nat_le}
-use Rattle.elab_core.specs.Walk.{Walk, Gives, Faulty, Counted, Count, Fault, too_large, Seen, none_seen, one_more, seen_of, limit}
+use Rattle.elab_core.specs.declared.fault.Count.{Count}
+use Rattle.elab_core.specs.Walk.{Walk, Gives, Faulty, Counted, Fault, too_large, Seen, none_seen, one_more, seen_of, limit}
 
 -- something that counts, or what is a fault by itself
 pub data Event : Type 0 where

@@ -2,7 +2,9 @@
 use Rattle.std.specs.Prelude.{◌≡◌, ℕ, List, []}
 use Rattle.gen_tree.specs.Tree.{Module}
 use Rattle.elab_core.specs.Walk.{none_seen, judge}
-use Rattle.elab_core.specs.Numbers.{Name, Gens, AreInRange}
+use Rattle.exec_core.specs.Block.{Name}
+use Rattle.design_core.specs.Design.{Gens}
+use Rattle.elab_core.specs.Numbers.{AreInRange}
 use Rattle.elab_core.specs.Elab.{top_walk}
 use Rattle.elab_core.specs.Closed.{closed_top, NestBelow}
 use Rattle.elab_core.specs.Events.{events, first_fault, fault_in}

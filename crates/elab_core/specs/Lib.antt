@@ -5,6 +5,9 @@ pub mod Elaborated
 pub mod Events
 pub mod Laws
 pub mod Numbers
+pub mod Operators
 pub mod Replace
 pub mod Samples
 pub mod Walk
+pub mod Results
+pub mod View

@@ -1,14 +1,14 @@
 -- The whole numbers of elaboration, and the names that have one.
-use Rattle.std.specs.Prelude.{◌≡◌, ℕ, Bool, true, ◌&&◌, not, ℤ, pos, negsuc, ◌+ℤ◌, ◌-ℤ◌, ◌*ℤ◌, int_lt, int_le, List, [], ◌∷◌, ◌++◌, Option, Some, None, bytes_eq, if◌then◌else◌, nat_le, codes, decimal}
+use Rattle.std.specs.Prelude.{ℕ, Bool, ◌&&◌, not, ℤ, pos, negsuc, ◌+ℤ◌, ◌-ℤ◌, ◌*ℤ◌, int_lt, int_le, [], ◌∷◌, ◌++◌, Option, Some, None, bytes_eq, if◌then◌else◌, nat_le, codes, decimal}
 use Rattle.gen_tree.specs.declared.IntOp.{IntOp}
 use Rattle.gen_tree.specs.declared.IntOp.TheVariants as int_op
 use Rattle.gen_tree.specs.declared.Cmp.{Cmp}
 use Rattle.gen_tree.specs.declared.Cmp.TheVariants as cmp
 use Rattle.gen_tree.specs.Tree.{Int, num, var, bin, Fam}
+use Rattle.exec_core.specs.Block.{Name}
+pub use Rattle.design_core.specs.Design.{in_range, IsInRange, AreInRange}
+use Rattle.design_core.specs.Design.{Gens}
 use Rattle.elab_core.specs.Walk.{Walk, Gives, Faulty, ◌>>=◌, and_then, UnknownParameter, ElabRange}
-
-abbrev pub Name : Type 0
-Name = List ℕ
 
 abbrev pub apply_op : IntOp → ℤ → ℤ → ℤ
 apply_op int_op.Add a b = a +ℤ b
@@ -20,22 +20,6 @@ holds cmp.Eq a b = int_le a b && int_le b a
 holds cmp.Ne a b = not (int_le a b && int_le b a)
 holds cmp.Lt a b = int_lt a b
 holds cmp.Le a b = int_le a b
-
--- from -2^62 to 2^62
-abbrev pub in_range : ℤ → Bool
-in_range n = int_le (negsuc 4611686018427387903) n && int_le n (pos 4611686018427387904)
-
-abbrev pub IsInRange : ℤ → Type 0
-IsInRange n = in_range n ≡ true
-
--- the parameters and loop variables that have a number at a place: the parameters in order, then the loops from outer to
--- inner, without those that are hidden
-abbrev pub Gens : Type 0
-Gens = List (Name × ℤ)
-
-abbrev pub AreInRange : Gens → Type 0
-AreInRange [] = Unit {0}
-AreInRange (g ∷ gens) = IsInRange g.1 × AreInRange gens
 
 abbrev pub find : Gens → Name → Option ℤ
 find [] x = None

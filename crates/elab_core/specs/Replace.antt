@@ -3,9 +3,12 @@ use Rattle.std.specs.Prelude.{ℕ, zero, suc, max, ℤ, pos, negsuc, List, [], �
 use Rattle.gen_tree.specs.declared.IntOp.TheVariants as int_op
 use Rattle.gen_tree.specs.Tree as tree
 use Rattle.gen_tree.specs.Tree.{Int, num, var, bin, Fam, Lit, plain, bits, read, out, value, unary, binary, mux, zext, slice, assign, bind, choose, repeat, given, Stmts, no_stmt, stmt, no_else, otherwise, Param, wire, reg, inst, comb, ff, repeat_items, given_items, Items, no_item, item, ElseItems, no_else_items, otherwise_items, Port, Module}
-use Rattle.elab_core.specs.Walk.{Walk, Gives, ◌>>=◌, counts, Statements}
-use Rattle.elab_core.specs.Numbers.{Name, Gens, bound, fam_name, two_numbers, turn_count, holds}
-use Rattle.elab_core.specs.Elaborated.{Assign, Let, If, Body, Done, Else, NoElse, Otherwise, added}
+use Rattle.elab_core.specs.declared.fault.Count.TheVariants.{Statements}
+use Rattle.elab_core.specs.Walk.{Walk, Gives, ◌>>=◌, counts}
+use Rattle.exec_core.specs.Block.{Name}
+use Rattle.elab_core.specs.Numbers.{bound, fam_name, two_numbers, turn_count, holds}
+use Rattle.design_core.specs.Design.{Gens, Assign, Let, If, Body, Done, Else, NoElse, Otherwise}
+use Rattle.elab_core.specs.Elaborated.{added}
 use Rattle.elab_core.specs.Elab.{expr, turns}
 
 -- what a name stands for, if it is to be replaced
@@ -107,18 +110,18 @@ module _ (turn : Gens → Stmts → Body → Walk Body) where
       counted ← counts Statements line
       x ← fam_name line [] f
       v ← expr line [] e
-      Gives (added made (Assign line shown x v))
+      Gives (added made (Assign 0 line shown x v))
     closed_stmt shown (bind line f e) made = do
       counted ← counts Statements line
       x ← fam_name line [] f
       v ← expr line [] e
-      Gives (added made (Let line shown x v))
+      Gives (added made (Let 0 line shown x v))
     closed_stmt shown (choose line c first second) made = do
       counted ← counts Statements line
       test ← expr line [] c
       yes_body ← closed_stmts shown first Done
       no_body ← closed_else shown second
-      Gives (added made (If line shown test yes_body no_body))
+      Gives (added made (If 0 line shown test yes_body no_body))
     closed_stmt shown (repeat line x from to body) made = do
       range ← two_numbers line [] from to
       count ← turn_count line range.0 range.1

@@ -2,11 +2,14 @@
 use Rattle.std.specs.Prelude.{◌≡◌, ℕ, true, false, ℤ, pos, List, [], ◌∷◌, map, Option, Some, None, Result, Ok, Err, codes}
 use Rattle.gen_tree.specs.declared.Op.TheVariants as op
 use Rattle.gen_tree.specs.declared.UnOp.TheVariants as un_op
-use Rattle.gen_tree.specs.Tree.{Int, num, var, Fam, plain, Expr, read, out, value, unary, binary, zext, Stmt, assign, choose, repeat, Stmts, no_stmt, stmt, no_else, Conn, inst, comb, no_item, item, Module}
+use Rattle.gen_tree.specs.Tree.{Int, num, var, Fam, plain, Expr, read, out, value, unary, binary, zext, Stmt, assign, bind, choose, repeat, Stmts, no_stmt, stmt, no_else, Conn, inst, comb, no_item, item, Module}
 use Rattle.elab_core.specs.Walk.{Fault, UnknownModule, UnknownParameter, ElabRange, TooDeep}
-use Rattle.elab_core.specs.Numbers.{Name, Gens}
+use Rattle.exec_core.specs.Block.{Name}
+use Rattle.design_core.specs.Design.{Gens}
 use Rattle.elab_core.specs.Elaborated.{Instance}
-use Rattle.elab_core.specs.Design.{Slot, variants_of, variant_of, slots_of, cells, elab}
+use Rattle.design_core.specs.Design.{Design}
+use Rattle.design_core.specs.Slots.{Head, variant_heads}
+use Rattle.elab_core.specs.Design.{variants_of, variant_of, cells, elab, elaborated}
 
 abbrev plainly : Name → Fam
 plainly x = record { name = x; index = None }
@@ -37,21 +40,21 @@ loops = record {
   items = item (comb 4 (two (assign 4 (plainly (codes "s")) (value (plain 4 0))) (repeat 4 (codes "i") (num 0) (var (codes "N")) (one_of (assign 5 (plainly (codes "s")) (binary op.Add (reads (codes "s")) (reads (codes "a")))))))) no_item;
 }
 
--- the lines and generator variables of the slots
-abbrev heads : List Slot → List (ℕ × Gens)
-heads slots = map (λ s. (s.line, s.gens)) slots
+-- the statements of each variant
+abbrev heads_in : Result Design Fault → List (List Head)
+heads_in (Ok design) = map variant_heads design.variants
+heads_in (Err fault) = []
 
-abbrev slots_in : List Module → Result (List Instance) Fault → List Slot
-slots_in modules (Ok instances) = slots_of modules instances
-slots_in modules (Err fault) = []
+abbrev head : ℕ → ℕ → Gens → Head
+head slot line gens = record { slot = slot; line = line; gens = gens }
 
 abbrev three : Name × ℤ
 three = (codes "N", pos 3)
 
 abbrev pub loops_is_elaborated : Type 0
 loops_is_elaborated =
-    heads (slots_in (loops ∷ []) (elab (loops ∷ []) (codes "D") []))
-    ≡ (4, three ∷ []) ∷ (5, three ∷ (codes "i", pos 0) ∷ []) ∷ (5, three ∷ (codes "i", pos 1) ∷ []) ∷ (5, three ∷ (codes "i", pos 2) ∷ []) ∷ []
+    heads_in (elaborated (loops ∷ []) (codes "D") [])
+    ≡ (head 0 4 (three ∷ []) ∷ head 1 5 (three ∷ (codes "i", pos 0) ∷ []) ∷ head 2 5 (three ∷ (codes "i", pos 1) ∷ []) ∷ head 3 5 (three ∷ (codes "i", pos 2) ∷ []) ∷ []) ∷ []
 
 -- with N = 4097 the loop of line 4 has a turn too many; a parameter that is none has line 0
 abbrev pub loops_is_refused : Type 0
@@ -75,7 +78,8 @@ endless_is_refused =
 -- 5:  module C { input a : 4;
 -- 6:    inst u#0 : L { a = a; }
 -- 7:    inst u#1 : L { a = u#0.y; }
--- 8:    inst v : L(W = 8) { a = zext(a, 8); } }
+-- 8:    inst v : L(W = 8) { a = zext(a, 8); }
+-- 9:    comb { let t = a; } }
 abbrev pub leaf : Module
 leaf = record {
   line = 1;
@@ -97,7 +101,8 @@ family = record {
   items =
       item (inst 6 (member (codes "u") (num 0)) (codes "L") [] (joined 6 (reads (codes "a")) ∷ []))
       (item (inst 7 (member (codes "u") (num 1)) (codes "L") [] (joined 7 (out (member (codes "u") (num 0)) (codes "y")) ∷ []))
-      (item (inst 8 (plainly (codes "v")) (codes "L") (record { name = codes "W"; value = num 8 } ∷ []) (joined 8 (zext (reads (codes "a")) (num 8)) ∷ [])) no_item));
+      (item (inst 8 (plainly (codes "v")) (codes "L") (record { name = codes "W"; value = num 8 } ∷ []) (joined 8 (zext (reads (codes "a")) (num 8)) ∷ []))
+      (item (comb 9 (one_of (bind 9 (plainly (codes "t")) (reads (codes "a"))))) no_item)));
 }
 
 abbrev instances_in : Result (List Instance) Fault → List Instance
@@ -109,16 +114,18 @@ family_instances = instances_in (elab (leaf ∷ family ∷ []) (codes "C") [])
 
 -- each instance in preorder: its path, the number of its parent, the number of its variant
 abbrev shapes : List Instance → List (Name × Option ℕ × ℕ)
-shapes instances = map (λ i. (i.path, i.parent, variant_of i (variants_of instances))) instances
+shapes instances = map (λ i. (i.path, i.parent, variant_of i.place i.params (variants_of instances))) instances
 
--- the variants and lines of slots
-abbrev where_from : List Slot → List (ℕ × ℕ)
-where_from slots = map (λ s. (s.variant, s.line)) slots
+abbrev four_wide : Gens
+four_wide = (codes "W", pos 4) ∷ []
+
+abbrev eight_wide : Gens
+eight_wide = (codes "W", pos 8) ∷ []
 
 abbrev pub family_is_elaborated : Type 0
 family_is_elaborated =
     (shapes family_instances
     ≡ (codes "C", None, 0) ∷ (codes "C.u#0", Some 0, 1) ∷ (codes "C.u#1", Some 0, 1) ∷ (codes "C.v", Some 0, 2) ∷ [])
-    × (where_from (slots_of (leaf ∷ family ∷ []) family_instances)
-    ≡ (1, 4) ∷ (1, 4) ∷ (1, 4) ∷ (2, 4) ∷ (2, 4) ∷ (2, 4) ∷ [])
-    × (cells family_instances ≡ 18)
+    × (heads_in (elaborated (leaf ∷ family ∷ []) (codes "C") [])
+    ≡ (head 6 9 [] ∷ []) ∷ (head 0 4 four_wide ∷ head 1 4 four_wide ∷ head 2 4 four_wide ∷ []) ∷ (head 3 4 eight_wide ∷ head 4 4 eight_wide ∷ head 5 4 eight_wide ∷ []) ∷ [])
+    × (cells family_instances ≡ 23)

@@ -1,14 +1,7 @@
 -- A walk: what is met, in order, and what comes out.
 use Rattle.std.specs.Prelude.{ℕ, ◌+◌, List, Result, Ok, Err, if◌then◌else◌, nat_le}
-
--- what is counted on the way
-pub data Count : Type 0 where
-  Instances : Count
-  Turns : Count
-  Statements : Count
-  Signals : Count
-  Parts : Count
-  Cells : Count
+use Rattle.elab_core.specs.declared.fault.Count.{Count}
+use Rattle.elab_core.specs.declared.fault.Count.TheVariants.{Instances, Turns, Statements, Signals, Parts, Cells}
 
 -- the refusals of elaboration, with their lines; a limit is that of what is counted
 pub data Fault : Type 0 where

@@ -1,7 +1,8 @@
 ghost use Rattle.std.specs.Prelude.{ℕ, List};
 ghost use Rattle.gen_tree.specs.Tree.{Module};
 ghost use Rattle.elab_core.specs.Laws.{IsFirstFault, IsSubstitution};
-ghost use Rattle.elab_core.specs.Numbers.{Name, Gens};
+ghost use Rattle.exec_core.specs.Block.{Name};
+ghost use Rattle.design_core.specs.Design.{Gens};
 ghost use Rattle.elab_core.specs.Samples.{loops_is_elaborated, loops_is_refused, endless_is_refused, family_is_elaborated};
 
 /// A law: the fault of a walk is that of the first of its events that has one, with the counts of those before it.

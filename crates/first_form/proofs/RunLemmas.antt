@@ -7,7 +7,7 @@ use Rattle.bv_core.specs.Value.{Bits}
 use Rattle.first_tree.specs.declared.Module.{Module}
 use Rattle.first_tree.specs.declared.Statement.{Statement}
 use Rattle.design_core.specs.declared.Ports.{Ports}
-use Rattle.design_core.specs.Trail.{Place}
+use Rattle.exec_core.specs.Whole.{Place}
 use Rattle.design_core.specs.TrailText.{trail_text}
 use Rattle.first_form.specs.declared.signal.Signal.{Signal}
 use Rattle.first_form.specs.Form.{signals_of, block_of, statements_of, is_width, is_named, are_different, are_fitting, are_driven, is_form_of, is_form}

@@ -6,9 +6,10 @@ use Rattle.std.proofs.lemmas.List.Folds.{list_any-append}
 use Rattle.bv_core.specs.Value.{Bits}
 use Rattle.first_tree.specs.declared.Module.{Module}
 use Rattle.first_tree.specs.declared.Statement.{Statement}
-use Rattle.design_core.specs.Block.{Now}
-use Rattle.design_core.specs.Exec.{Env, Visit, put, start, body_visits}
-use Rattle.design_core.specs.Trail.{Place, before_slot, within}
+use Rattle.exec_core.specs.Block.{Now}
+use Rattle.exec_core.specs.Exec.{Env, Visit, put, start, body_visits, before_slot}
+use Rattle.exec_core.specs.Whole.{Place}
+use Rattle.exec_core.specs.Design.{within}
 use Rattle.first_form.specs.declared.signal.Signal.{Signal}
 use Rattle.first_form.specs.Form.{signals_of, statements_of, signal_named, is_assigned, readable_width, is_fitting, are_fitting}
 use Rattle.first_form.specs.Elaborated.{body_from}

@@ -4,9 +4,10 @@ use Rattle.std.specs.Prelude.{filter}
 use Rattle.std.specs.Str.{bytes_eq}
 use Rattle.bv_core.specs.Value.{Bits}
 use Rattle.first_tree.specs.declared.Statement.{Statement}
-use Rattle.design_core.specs.Block.{Now, body_assigns}
-use Rattle.design_core.specs.Exec.{Env, start}
-use Rattle.design_core.specs.Trail.{Place, within}
+use Rattle.exec_core.specs.Block.{Now, body_assigns}
+use Rattle.exec_core.specs.Exec.{Env, start}
+use Rattle.exec_core.specs.Whole.{Place}
+use Rattle.exec_core.specs.Design.{within}
 use Rattle.first_form.specs.declared.signal.Signal.{Signal}
 use Rattle.first_form.specs.Form.{signal_named, is_assigned}
 use Rattle.first_form.specs.Elaborated.{body_from}

@@ -14,8 +14,8 @@ use Rattle.first_tree.specs.declared.Expr.{Expr}
 use Rattle.first_tree.specs.declared.Expr.TheVariants.{One, Bin}
 use Rattle.first_tree.specs.declared.Operand.{Operand}
 use Rattle.first_tree.specs.declared.Operand.TheVariants as operand
-use Rattle.design_core.specs.Block.{Now}
-use Rattle.design_core.specs.Exec.{Env, put, value_of}
+use Rattle.exec_core.specs.Block.{Now}
+use Rattle.exec_core.specs.Exec.{Env, put, value_in as value_of}
 use Rattle.first_form.specs.declared.signal.Signal.{Signal}
 use Rattle.first_form.specs.declared.cells.Cell.{Cell}
 use Rattle.first_form.specs.Form.{signal_named, is_assigned, if_signal, readable_width, is_width, operand_width, equal_width, expr_width}

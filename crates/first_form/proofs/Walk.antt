@@ -7,9 +7,11 @@ use Rattle.std.proofs.lemmas.Bool.Decides.{nat_tests}
 use Rattle.bv_core.specs.Value.{Bits}
 use Rattle.first_tree.specs.declared.Module.{Module}
 use Rattle.first_tree.specs.declared.Statement.{Statement}
-use Rattle.design_core.specs.Block.{Now}
-use Rattle.design_core.specs.Exec.{Env, Visit, put, start, body_visits}
-use Rattle.design_core.specs.Trail.{Place, Slot, before_slot, within}
+use Rattle.exec_core.specs.Block.{Now}
+use Rattle.exec_core.specs.Exec.{Env, Visit, put, start, body_visits, before_slot}
+use Rattle.exec_core.specs.Whole.{Place}
+use Rattle.exec_core.specs.Design.{within}
+use Rattle.design_core.specs.Trail.{Slot}
 use Rattle.design_core.specs.TrailText.{named_value, trail_line, thread_text, cycle_text}
 use Rattle.first_form.specs.declared.signal.Signal.{Signal}
 use Rattle.first_form.specs.declared.cells.Cell.{Cell}

@@ -10,8 +10,9 @@ use Rattle.first_tree.specs.declared.Expr.{Expr}
 use Rattle.first_tree.specs.declared.Expr.TheVariants.{One, Bin}
 use Rattle.first_tree.specs.declared.Operand.{Operand}
 use Rattle.first_tree.specs.declared.Operand.TheVariants as operand
-use Rattle.design_core.specs.Block as design
-use Rattle.design_core.specs.Block.{Name, Now, Assign, Body, Done, Then}
+use Rattle.tree_core.specs.Tree.{Const, Leaf, Two}
+use Rattle.exec_core.specs.Block as design
+use Rattle.exec_core.specs.Block.{Name, Now, Assign, Body, Done, Then}
 use Rattle.design_core.specs.Trail.{Design}
 use Rattle.first_form.specs.Form.{signals_of, statements_of}
 
@@ -20,12 +21,12 @@ op_of source.Add = bits.Add
 op_of source.Xor = bits.Xor
 
 abbrev pub operand_of : Operand → design.Expr
-operand_of (operand.Read name) = design.Read name
-operand_of (operand.Value width value) = design.Value (record { width = width; value = value })
+operand_of (operand.Read name) = Leaf name
+operand_of (operand.Value width value) = Const (record { width = width; value = value })
 
 abbrev pub expr_of : Expr → design.Expr
 expr_of (One a) = operand_of a
-expr_of (Bin op a b) = design.Two (op_of op) (operand_of a) (operand_of b)
+expr_of (Bin op a b) = Two (op_of op) (operand_of a) (operand_of b)
 
 -- the statements one after another, with slots from this number on
 abbrev pub body_from : ℕ → List Statement → Body

@@ -3,9 +3,10 @@ use Rattle.std.specs.Prelude.{◌≡◌, true, List, [], ◌∷◌, ◌++◌, le
 use Rattle.bv_core.specs.Value.{Bits}
 use Rattle.first_tree.specs.declared.Module.{Module}
 use Rattle.first_tree.specs.declared.Statement.{Statement}
-use Rattle.design_core.specs.Block.{Now}
-use Rattle.design_core.specs.Exec.{Env}
-use Rattle.design_core.specs.Trail.{Place, Instance, thread_of}
+use Rattle.exec_core.specs.Block.{Now}
+use Rattle.exec_core.specs.Exec.{Env}
+use Rattle.exec_core.specs.Whole.{Place}
+use Rattle.design_core.specs.Trail.{Instance, thread_of}
 use Rattle.design_core.specs.TrailText.{trail_text}
 use Rattle.first_form.specs.declared.signal.Signal.{Signal}
 use Rattle.first_form.specs.Form.{signals_of, statements_of, signal_named, is_assigned, is_form}

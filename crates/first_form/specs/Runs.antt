@@ -1,7 +1,7 @@
 -- Rows as the values of the inputs, cycle by cycle.
 use Rattle.std.specs.Prelude.{◌≡◌, List, [], ◌∷◌}
 use Rattle.bv_core.specs.Value.{Bits}
-use Rattle.design_core.specs.Trail.{Place}
+use Rattle.exec_core.specs.Whole.{Place}
 use Rattle.design_core.specs.declared.Ports.{Ports}
 use Rattle.stim_text.specs.Stimulus.{Stimulus, IsStimulus}
 use Rattle.first_tree.specs.declared.Module.{Module}

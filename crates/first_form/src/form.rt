@@ -4,7 +4,7 @@ ghost use Rattle.std.specs.List.{flat_map};
 ghost use Rattle.io_edge.specs.Faults.{Rose};
 ghost use Rattle.io_edge.specs.Taken.{Appends, AppendsFront};
 ghost use Rattle.bv_core.specs.Value.{Bits};
-ghost use Rattle.design_core.specs.Trail.{Place};
+ghost use Rattle.exec_core.specs.Whole.{Place};
 ghost use Rattle.design_core.specs.TrailText.{trail_text};
 ghost use Rattle.stim_text.specs.Stimulus.{IsStimulus};
 ghost use Rattle.first_form.specs.Form.{only, item_blocks, signals_of, is_form, is_first_form};

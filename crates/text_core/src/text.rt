@@ -1,4 +1,4 @@
-ghost use Rattle.std.specs.Prelude.{◌≡◌, IfOk};
+ghost use Rattle.std.specs.Prelude.{◌≡◌, IfOk, []};
 
 use crate::NoMemory;
 use std::alloc::Global;
@@ -26,6 +26,15 @@ impl Text {
         Ok(Text {
             bytes: bytes.to_vec(alloc)?,
         })
+    }
+
+    /// No bytes. Takes no memory.
+    pub fn empty(alloc: Global) -> Text
+        ensures { result ≡ [] }
+    {
+        Text {
+            bytes: Vec::new(alloc),
+        }
     }
 
     /// The bytes.

@@ -10,10 +10,9 @@ use Rattle.std.proofs.lemmas.List.Folds.{list_any-append}
 use Rattle.text_core.specs.Digits.{number_of}
 use Rattle.vcd_read.specs.declared.fault.VcdFault.{VcdFault}
 use Rattle.vcd_read.specs.declared.fault.VcdFault.TheVariants.{BadWord, TooWide, TimeBack}
-use Rattle.vcd_read.specs.declared.variable.VcdVar.{VcdVar}
 use Rattle.vcd_read.specs.Results.{◌>>=◌}
 use Rattle.vcd_read.specs.Words.{Word, words_of, is_keyword, is_end, begins_with, has_bytes}
-use Rattle.vcd_read.specs.Head.{Head, no_head, Code, known, numbered, with_var, is_code_byte, is_counted, is_size, name_of, scope_of}
+use Rattle.vcd_read.specs.Head.{Head, Var, no_head, Code, known, numbered, with_var, is_code_byte, is_counted, is_size, name_of, scope_of}
 use Rattle.vcd_read.specs.Changes.{Change, Story, no_story, are_digits, is_value, is_time, with_time, timed, with_change, changed, is_dump, is_vector, is_passed}
 use Rattle.vcd_read.specs.Meaning.{Meaning, State, Place, Step, InHead, ScopeType, ScopeName, CommandEnd, VarType, VarSize, VarCode, VarReference, PassedCommand, HeadEnd, InChanges, Comment, VectorCode, PassedCode, step, ended, told_by, told, change, command}
 use Rattle.vcd_read.specs.Kept.{is_change_of, IsVcd}
@@ -142,12 +141,12 @@ code_ok counted size state word false h = tt
 eq_self : (n : ℕ) → (n == n) ≡ true
 eq_self n = grind (arith, nat_tests)
 
-name_by : (vars : List VcdVar) (var : VcdVar) (number : ℕ) → (is_named vars number ≡ true) ⊎ (number ≡ var.code) → is_named (vars ++ var ∷ []) number ≡ true
+name_by : (vars : List Var) (var : Var) (number : ℕ) → (is_named vars number ≡ true) ⊎ (number ≡ var.code) → is_named (vars ++ var ∷ []) number ≡ true
 name_by vars var number (inl named) =
-    list_any-append (λ (var : VcdVar). var.code == number) vars (var ∷ []) ∙ rw named refl
+    list_any-append (λ (var : Var). var.code == number) vars (var ∷ []) ∙ rw named refl
 name_by vars var number (inr is) =
     let last : (var.code == number) ≡ true = rw is (eq_self var.code) in
-    list_any-append (λ (var : VcdVar). var.code == number) vars (var ∷ []) ∙ rw last (or_true (is_named vars number))
+    list_any-append (λ (var : Var). var.code == number) vars (var ∷ []) ∙ rw last (or_true (is_named vars number))
   where
     or_true : (b : Bool) → (b || true) ≡ true
     or_true true = refl
@@ -156,8 +155,8 @@ name_by vars var number (inr is) =
 var_holds : (counted : Bool) (size code : ℕ) (state : State) (word : Word) → Holds (VarReference counted size code) state
     → Holds PassedCommand (record state { head = with_var counted size code word.bytes state.head })
 var_holds counted size code state word h =
-    let var : VcdVar = record { scope = scope_of state.head.nest; name = name_of word.bytes; code = code; size = size; counted = counted } in
-    let P : VcdVar → Type 0 = λ var. HasSize state.head.codes var.code var.size in
+    let var : Var = record { scope = scope_of state.head.nest; name = name_of word.bytes; code = code; size = size; counted = counted } in
+    let P : Var → Type 0 = λ var. HasSize state.head.codes var.code var.size in
     record {
       sized = All-append P state.head.vars (var ∷ []) h.sized (All-cons P var [] h.here.0 (All-nil P));
       story = h.story;
@@ -198,7 +197,7 @@ declared_one state change h one =
     (λ k d inside e. change_by (get_or state.head.vars k d) (h.sized k d inside) e)
     (h.here change.code within)
   where
-    change_by : (var : VcdVar) → HasSize state.head.codes var.code var.size → (var.code == change.code) ≡ true → is_change_of change var ≡ true
+    change_by : (var : Var) → HasSize state.head.codes var.code var.size → (var.code == change.code) ≡ true → is_change_of change var ≡ true
     change_by var has e =
         let is : var.code ≡ change.code = grind (arith, nat_tests) in
         let sizes : Some var.size ≡ Some one.size = sym has ∙ ap (slice_get (sizes_of state.head.codes)) is ∙ one.has in

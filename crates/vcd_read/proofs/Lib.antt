@@ -1,3 +1,4 @@
+mod TextLemmas
 mod Binds
 mod WordLemmas
 mod CodeLemmas
@@ -6,3 +7,8 @@ mod Rows
 mod States
 mod Keeping
 mod Wholes
+mod VarLemmas
+mod ScopeLemmas
+mod BeginLemmas
+mod HeadLemmas
+mod PlaceLemmas

@@ -1,9 +1,9 @@
 -- Changes that are kept in columns.
-use Rattle.std.proofs.Common.{◌≡◌, ℕ, zero, suc, ◌+◌, ◌-◌, ◌<◌, ◌≤◌, List, [], ◌∷◌, ◌++◌, Some, length, take, drop, refl, ap, sym, ◌∙◌, arith, length-append}
+use Rattle.std.proofs.Common.{◌≡◌, ℕ, zero, suc, ◌+◌, ◌-◌, ◌<◌, ◌≤◌, List, [], ◌∷◌, ◌++◌, Some, length, refl, ap, sym, ◌∙◌, arith, length-append}
 use Rattle.std.specs.Prelude.{slice_get, slice_index, slice_range}
-use Rattle.std.proofs.lemmas.List.{take-append-le, drop-append-le, take_all, drop_all, length-drop}
 use Rattle.std.proofs.lemmas.Option.{get_or_from_slice_get}
 use Rattle.vcd_read.specs.declared.changes.Row.{Row}
+use Rattle.vcd_read.proofs.TextLemmas.{range-append, range-last}
 use Rattle.vcd_read.specs.Columns.{changes_of, AreRows, AreColumns, start_at}
 
 -- rows begin within the digits
@@ -21,19 +21,6 @@ more_rows times digits more start (first ∷ rows) row are within ends = (are.0,
 pub more_times : (times others digits start : ℕ) (rows : List Row) → times ≤ others → AreRows times digits start rows → AreRows others digits start rows
 more_times times others digits start [] more are = are
 more_times times others digits start (row ∷ rows) more are = (omega (arith, are.0), are.1, more_times times others digits row.end rows more are.2)
-
-range-append : (digits more : List ℕ) (start end : ℕ) → end ≤ length digits → start ≤ end → slice_range (digits ++ more) start end ≡ slice_range digits start end
-range-append digits more start end within order =
-    let within' : start ≤ length digits = omega arith in
-    let left : end - start ≤ length (drop start digits) = omega (arith, length-drop start digits) in
-    ap (take (end - start)) (drop-append-le start digits more within') ∙ take-append-le (end - start) (drop start digits) more left
-
-range-last : (digits more : List ℕ) (start end : ℕ) → start ≡ length digits → end ≡ length digits + length more → slice_range (digits ++ more) start end ≡ more
-range-last digits more start end begins ends =
-    let within : start ≤ length digits = omega arith in
-    let none : drop start digits ≡ [] = drop_all start digits (omega arith) in
-    let most : length more ≤ end - start = omega arith in
-    ap (take (end - start)) (drop-append-le start digits more within ∙ ap (λ front. front ++ more) none) ∙ take_all (end - start) more most
 
 -- one more change, behind the others
 pub changes-push : (times digits more : List ℕ) (start : ℕ) (rows : List Row) (row : Row) → AreRows (length times) (length digits) start rows → row.end ≡ length digits + length more

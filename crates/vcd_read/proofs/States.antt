@@ -6,8 +6,7 @@ use Rattle.std.specs.List.Sorted.{IsNonDecreasingBy}
 use Rattle.std.proofs.lemmas.Bool.{cases_lt}
 use Rattle.std.proofs.lemmas.List.{length-map, map-append, get_or_append_left, get_or-append-add}
 use Rattle.std.proofs.lemmas.List.Elements.{All-cons, All-nil, All-head, All-tail, All-append, All-weaker}
-use Rattle.vcd_read.specs.declared.variable.VcdVar.{VcdVar}
-use Rattle.vcd_read.specs.Head.{Code, known, known_from}
+use Rattle.vcd_read.specs.Head.{Code, Var, known, known_from}
 use Rattle.vcd_read.specs.Changes.{Change, Story, are_digits}
 
 -- the sizes of codes, by number
@@ -19,7 +18,7 @@ abbrev pub HasSize : List Code → ℕ → ℕ → Type 0
 HasSize codes number size = slice_get (sizes_of codes) number ≡ Some size
 
 -- some variable has the code of this number
-abbrev pub is_named : List VcdVar → ℕ → Bool
+abbrev pub is_named : List Var → ℕ → Bool
 is_named vars number = list_any (λ var. var.code == number) vars
 
 -- a change of a code that is declared

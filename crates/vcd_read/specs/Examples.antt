@@ -1,7 +1,7 @@
 -- What texts mean, computed from the definition.
 use Rattle.std.specs.Prelude.{◌≡◌, ℕ, true, List, [], ◌∷◌, Err, codes}
 use Rattle.vcd_read.specs.declared.fault.VcdFault.TheVariants.{BadWord, CutShort, UnknownCode, TooWide, TimeBack, NoEndDefinitions}
-use Rattle.vcd_read.specs.declared.variable.VcdVar.{VcdVar}
+use Rattle.vcd_read.specs.Head.{Var}
 use Rattle.vcd_read.specs.Changes.{Change}
 use Rattle.vcd_read.specs.Meaning.{Meaning, meaning}
 
@@ -19,7 +19,7 @@ pub record HasFaults : Type 0 where
 abbrev pub text : List ℕ
 text = codes "$date today $end $comment by hand $end $scope module tb $end $scope module dut $end $var wire 1 ! clk $end $var wire 1 \" en $end $var wire 8 $ d[7:0] $end $var reg 8 # _1 [7:0] $end $var wire 8 & _4 [7:0] $end $upscope $end $upscope $end $enddefinitions $end #0 0! x\" bx $ b0 # b1111 & #3 1! 1\" b101 $ #6 0! #9 1! b111 # #12 0!"
 
-abbrev pub var : List ℕ → List ℕ → ℕ → ℕ → VcdVar
+abbrev pub var : List ℕ → List ℕ → ℕ → ℕ → Var
 var scope name code size = record { scope = scope; name = name; code = code; size = size; counted = true }
 
 abbrev pub at : ℕ → ℕ → List ℕ → Change

@@ -4,19 +4,26 @@ use Rattle.std.specs.List.{list_all, position_or_len}
 use Rattle.text_core.specs.Digits.{is_digit_of, number_of}
 use Rattle.vcd_read.specs.declared.fault.VcdFault.{VcdFault}
 use Rattle.vcd_read.specs.declared.fault.VcdFault.TheVariants.{BadWord}
-use Rattle.vcd_read.specs.declared.variable.VcdVar.{VcdVar}
 use Rattle.vcd_read.specs.Words.{Word}
 
 -- a code as it was first declared: its bytes, and its variables' size. Codes are numbered by their places in a list
 abbrev pub Code : Type 0
 Code = List ℕ × ℕ
 
+-- a variable: the path of its scope, its name, the number of its code, its size, and whether its values are bits
+pub record Var : Type 0 where
+  pub scope : List ℕ
+  pub name : List ℕ
+  pub code : ℕ
+  pub size : ℕ
+  pub counted : Bool
+
 -- what the head has told so far: the paths of the scopes that are open, the innermost last; those of all scopes that
 -- were opened; the variables; and the codes
 pub record Head : Type 0 where
   pub nest : List (List ℕ)
   pub scopes : List (List ℕ)
-  pub vars : List VcdVar
+  pub vars : List Var
   pub codes : List Code
 
 abbrev pub no_head : Head

@@ -1,3 +1,4 @@
+pub mod Buckets
 pub mod Changes
 pub mod Columns
 pub mod Commands
@@ -5,6 +6,9 @@ pub mod Examples
 pub mod Head
 pub mod Kept
 pub mod Meaning
+pub mod Nesting
 pub mod Results
+pub mod Scopes
 pub mod Seen
+pub mod Texts
 pub mod Words

@@ -3,16 +3,15 @@ use Rattle.std.specs.Prelude.{ℕ, ◌+◌, Bool, not, List, [], ◌∷◌, leng
 use Rattle.text_core.specs.Digits.{number_of}
 use Rattle.vcd_read.specs.declared.fault.VcdFault.{VcdFault}
 use Rattle.vcd_read.specs.declared.fault.VcdFault.TheVariants.{TooLong, BadWord, CutShort, NoEndDefinitions}
-use Rattle.vcd_read.specs.declared.variable.VcdVar.{VcdVar}
 use Rattle.vcd_read.specs.Results.{◌>>=◌}
 use Rattle.vcd_read.specs.Words.{Word, words_of, is_keyword, is_end, has_bytes, begins_with}
-use Rattle.vcd_read.specs.Head.{Head, no_head, with_scope, without_scope, is_counted, is_size, with_code, with_var}
+use Rattle.vcd_read.specs.Head.{Head, Var, no_head, with_scope, without_scope, is_counted, is_size, with_code, with_var}
 use Rattle.vcd_read.specs.Changes.{Change, Story, no_story, is_value, is_dump, timed, changed, are_digits, is_vector, is_passed}
 
 -- what a text tells: the paths of the scopes that it opens, its variables, and its changes, each in the order of the text
 pub record Meaning : Type 0 where
   pub scopes : List (List ℕ)
-  pub vars : List VcdVar
+  pub vars : List Var
   pub changes : List Change
 
 -- what was told so far

@@ -8,6 +8,7 @@ ghost use Rattle.vcd_read.specs.Seen.{word_of};
 use crate::VcdFault;
 use crate::codes::Codes;
 use crate::numbers::time_of;
+use crate::texts::{part_of, place_of};
 use crate::words::Word;
 use std::alloc::Global;
 use std::marker::Model;
@@ -42,13 +43,6 @@ impl Model for Changes {
     ghost invariant = { λ c. AreColumns c.time c.times.items c.digits.items c.rows.items };
 }
 
-/// A place in a column. Refused where 32 bits do not hold it, since a text of 64 MiB fills no column so far.
-fn place_of(place: usize) -> Result<u32, NoMemory>
-    ensures { IfOk result (λ found. found ≡ place) }
-{
-    u32::try_from(place).map_err(|_| NoMemory)
-}
-
 /// The row of a place.
 fn row_at(rows: &[Row], i: usize) -> Row
     requires { i < length rows.now }
@@ -67,15 +61,6 @@ fn start_of(rows: &[Row], i: usize) -> usize
     }
     let before = row_at(rows, i - 1);
     before.end as usize
-}
-
-/// A part of the digits.
-fn part_of(digits: &[u8], start: usize, end: usize) -> &[u8]
-    requires order { start ≤ end }
-    requires within { end ≤ length digits.now }
-    ensures { result.now ≡ slice_range digits.now start end }
-{
-    &digits[start..end]
 }
 
 impl Changes {

@@ -1,49 +1,56 @@
-ghost use Rattle.std.specs.Prelude.{◌≡◌, ◌≤◌, ◌<◌, ◌==◌, length, OnOk, IfOk, not};
+ghost use Rattle.std.specs.Prelude.{◌≡◌, ◌≤◌, ◌<◌, ◌-◌, ◌==◌, length, slice_get, unwrap_or, OnOk, IfOk, not};
 ghost use Rattle.vcd_read.specs.Commands.{size_at, code_at, opened_at, closed_at, variable_at, command_at};
-ghost use Rattle.vcd_read.specs.Head.{no_head, scope_of, path_in, with_scope, without_scope, is_counted, without_backslash, name_of, with_var};
+ghost use Rattle.vcd_read.specs.Head.{no_head, with_scope, without_scope, is_counted, without_backslash, name_of, with_var};
 ghost use Rattle.std.specs.List.{position_or_len};
 ghost use Rattle.vcd_read.specs.Changes.{no_story};
 ghost use Rattle.vcd_read.specs.Meaning.{told_by, InHead, InChanges};
+ghost use Rattle.vcd_read.specs.Nesting.{innermost};
 ghost use Rattle.vcd_read.specs.Results.{Gives, Leads};
 ghost use Rattle.vcd_read.specs.Seen.{word_of};
 
 use crate::codes::Codes;
 use crate::numbers::size_of;
+use crate::scopes::Scopes;
+use crate::texts::place_of;
+use crate::vars::Vars;
 use crate::words::{Word, Words};
 use crate::{VcdFault, VcdVar};
 use std::alloc::Global;
 use std::marker::Model;
-use text_core::{NoMemory, Text};
+use text_core::NoMemory;
 
 /// What the head of a text has told so far.
 #[derive(Drop)]
 pub(crate) struct Head {
-    /// The paths of the scopes that are open, the innermost last.
-    nest: Vec<Text>,
-    /// The paths of all scopes that were opened.
-    pub scopes: Vec<Text>,
-    pub vars: Vec<VcdVar>,
+    /// The numbers of the scopes that are open, the innermost last.
+    nest: Vec<u32>,
+    /// All scopes that were opened.
+    pub scopes: Scopes,
+    pub vars: Vars,
     pub codes: Codes,
 }
 
 impl Model for Head {
+    ghost use Rattle.std.specs.Prelude.{map};
     ghost use Rattle.vcd_read.specs.Head.{Head as Told};
+    ghost use Rattle.vcd_read.specs.Nesting.{paths_of, placed, IsHead};
+    ghost use Rattle.vcd_read.specs.Scopes.{path_at};
 
     ghost Value = { Told };
 
-    ghost view = { λ h. record { nest = h.nest.items; scopes = h.scopes.items; vars = h.vars.items; codes = h.codes } };
+    ghost view = { λ h. record { nest = map (path_at (paths_of h.scopes)) h.nest.items; scopes = paths_of h.scopes; vars = map (placed (paths_of h.scopes)) h.vars; codes = h.codes } };
+
+    ghost invariant = { λ h. IsHead h.scopes h.nest.items h.vars };
 }
 
-/// The path of a scope of this name in another.
-fn path_in(alloc: Global, scope: &[u8], name: &[u8]) -> Result<Vec<u8>, NoMemory>
-    ensures { IfOk result (λ path. path.items ≡ path_in scope.now name.now) }
+/// The number of the innermost scope of those that are open; 0 outside every scope.
+fn innermost(nest: &[u32]) -> u32
+    ensures { result ≡ innermost nest.now }
 {
-    let mut path = scope.to_vec(alloc)?;
-    if !scope.is_empty() {
-        path.push(b'.')?;
+    match nest.last() {
+        Some(number) => *number,
+        None => 0,
     }
-    path.extend_from_slice(name)?;
-    Ok(path)
 }
 
 /// Whether the values of variables of this type are bits.
@@ -93,35 +100,26 @@ fn size_at(words: &mut Words<'_>) -> Result<u32, VcdFault>
 }
 
 impl Head {
-    /// A head that has told nothing.
-    fn new(alloc: Global) -> Head
-        ensures { result ≡ no_head }
+    /// A head that has told nothing, with room for what a text of so many bytes can tell.
+    fn new(alloc: Global, bytes: usize) -> Result<Head, NoMemory>
+        ensures { IfOk result (λ head. head ≡ no_head) }
     {
-        Head {
+        Ok(Head {
             nest: Vec::new(alloc),
-            scopes: Vec::new(alloc),
-            vars: Vec::new(alloc),
-            codes: Codes::new(alloc),
-        }
-    }
-
-    /// The path of the innermost scope that is open; empty outside every scope.
-    fn scope(&self) -> &[u8]
-        ensures { result.now ≡ scope_of self.now.nest }
-    {
-        match self.nest.last() {
-            Some(path) => path.bytes(),
-            None => b"",
-        }
+            scopes: Scopes::new(alloc, bytes)?,
+            vars: Vars::new(alloc, bytes)?,
+            codes: Codes::new(alloc, bytes)?,
+        })
     }
 
     /// Opens a scope of this name.
-    fn push_scope(&mut self, alloc: Global, name: &[u8]) -> Result<(), NoMemory>
+    fn push_scope(&mut self, name: &[u8]) -> Result<(), NoMemory>
         ensures { OnOk result (self.new ≡ with_scope self.old name.now) }
     {
-        let path = path_in(alloc, self.scope(), name)?;
-        self.scopes.push(Text::new(alloc, &path)?)?;
-        self.nest.push(Text::new(alloc, &path)?)?;
+        let parent = innermost(&self.nest);
+        let number = place_of(self.scopes.len() + 1)?;
+        self.scopes.push(parent, name)?;
+        self.nest.push(number)?;
         Ok(())
     }
 
@@ -135,7 +133,6 @@ impl Head {
     /// Declares a variable in the innermost scope.
     fn push_var(
         &mut self,
-        alloc: Global,
         counted: bool,
         size: u32,
         code: u32,
@@ -143,11 +140,9 @@ impl Head {
     ) -> Result<(), NoMemory>
         ensures { OnOk result (self.new ≡ with_var counted size code reference.now self.old) }
     {
-        let scope = Text::new(alloc, self.scope())?;
-        let name = Text::new(alloc, name_of(reference))?;
         self.vars.push(VcdVar {
-            scope,
-            name,
+            scope: innermost(&self.nest),
+            name: name_of(reference),
             code,
             size,
             counted,
@@ -157,25 +152,25 @@ impl Head {
 
     /// The number of a code of this size, which is declared with it.
     #[tactic(auto, unfolding(crate::specs::Commands::code_at))]
-    fn code(&mut self, alloc: Global, size: u32, words: &mut Words<'_>) -> Result<u32, VcdFault>
+    fn code(&mut self, size: u32, words: &mut Words<'_>) -> Result<u32, VcdFault>
         ensures code { Gives (λ code. ((code, self.new.codes), words.new)) result (code_at size self.old.codes words.old) }
         ensures others { OnOk result (self.new ≡ record self.old { codes = self.new.codes }) }
         ensures fewer { OnOk result (length words.new < length words.old) }
     {
         let word = words.word()?;
-        self.codes.declare(alloc, &word, size)
+        self.codes.declare(&word, size)
     }
 
     /// Reads a scope that is opened.
     #[tactic(auto, unfolding(crate::specs::Commands::opened_at))]
-    fn open(&mut self, alloc: Global, words: &mut Words<'_>) -> Result<(), VcdFault>
+    fn open(&mut self, words: &mut Words<'_>) -> Result<(), VcdFault>
         ensures head { Gives (λ _. (self.new, words.new)) result (opened_at self.old words.old) }
         ensures fewer { OnOk result (length words.new < length words.old) }
     {
         words.plain()?;
         let name = words.plain()?;
         words.end()?;
-        self.push_scope(alloc, name.bytes)?;
+        self.push_scope(name.bytes)?;
         Ok(())
     }
 
@@ -195,38 +190,33 @@ impl Head {
 
     /// Reads a variable.
     #[tactic(auto, unfolding(crate::specs::Commands::variable_at))]
-    fn variable(&mut self, alloc: Global, words: &mut Words<'_>) -> Result<(), VcdFault>
+    fn variable(&mut self, words: &mut Words<'_>) -> Result<(), VcdFault>
         ensures head { Gives (λ _. (self.new, words.new)) result (variable_at self.old words.old) }
         ensures fewer { OnOk result (length words.new < length words.old) }
     {
         let kind = words.plain()?;
         let size = size_at(words)?;
-        let code = self.code(alloc, size, words)?;
+        let code = self.code(size, words)?;
         let reference = words.plain()?;
         words.pass_to_end()?;
-        self.push_var(alloc, is_counted(kind.bytes), size, code, reference.bytes)?;
+        self.push_var(is_counted(kind.bytes), size, code, reference.bytes)?;
         Ok(())
     }
 
     /// Reads a command other than `$enddefinitions`, which this word begins.
     #[tactic(auto, unfolding(crate::specs::Commands::command_at))]
-    fn command(
-        &mut self,
-        alloc: Global,
-        word: &Word<'_>,
-        words: &mut Words<'_>,
-    ) -> Result<(), VcdFault>
+    fn command(&mut self, word: &Word<'_>, words: &mut Words<'_>) -> Result<(), VcdFault>
         ensures head { Gives (λ _. (self.new, words.new)) result (command_at self.old (word_of word.now) words.old) }
         ensures fewer { OnOk result (length words.new < length words.old) }
     {
         if word.is(b"$scope") {
-            return self.open(alloc, words);
+            return self.open(words);
         }
         if word.is(b"$upscope") {
             return self.close(word, words);
         }
         if word.is(b"$var") {
-            return self.variable(alloc, words);
+            return self.variable(words);
         }
         if !word.begins_with(b'$') || word.is_end() {
             return Err(word.bad());
@@ -235,17 +225,21 @@ impl Head {
     }
 }
 
-/// Reads the head of a text, up to the `$end` of its `$enddefinitions`.
-pub(crate) fn read_head(alloc: Global, words: &mut Words<'_>) -> Result<Head, VcdFault>
+/// Reads the head of a text of so many bytes, up to the `$end` of its `$enddefinitions`.
+pub(crate) fn read_head(
+    alloc: Global,
+    words: &mut Words<'_>,
+    bytes: usize,
+) -> Result<Head, VcdFault>
     ensures { Leads (λ head. told_by InChanges (record { head = head; story = no_story }) words.new) result (told_by InHead (record { head = no_head; story = no_story }) words.old) }
 {
-    let mut head = Head::new(alloc);
+    let mut head = Head::new(alloc, bytes)?;
     while let Some(word) = words.next_word() {
         if word.is(b"$enddefinitions") {
             words.end()?;
             return Ok(head);
         }
-        head.command(alloc, &word, words)?;
+        head.command(&word, words)?;
     }
     Err(VcdFault::NoEndDefinitions)
 }

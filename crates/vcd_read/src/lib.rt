@@ -9,12 +9,17 @@ mod head;
 mod laws;
 mod numbers;
 mod read;
+mod scope;
+mod scopes;
+mod texts;
 mod variable;
+mod vars;
 mod vcd;
 mod words;
 
 pub use fault::VcdFault;
 pub use laws::examples;
 pub use read::read_vcd;
+pub use scope::VcdScope;
 pub use variable::VcdVar;
 pub use vcd::Vcd;

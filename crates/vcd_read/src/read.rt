@@ -19,8 +19,9 @@ const MOST_BYTES: usize = 64 * 1024 * 1024;
 /// one answer that no clause ties to a cause.
 ///
 /// Goes over the text once, and finds codes by hash. A change takes 12 bytes and its digits, each different time 8, a
-/// variable its path, its name, its code and about 130 bytes, and a scope its path. The list of changes reserves 5 bytes
-/// for each byte of the text, and touches what it uses.
+/// variable 20 bytes and its name, a scope 12 bytes, its name and 4 bytes more while it is open, and a code 12 bytes and
+/// its bytes until the text is read: at most about four times the text in all. Room is reserved once, about 11 bytes for
+/// each byte of the text, and what is not used is not touched.
 pub fn read_vcd(alloc: Global, text: &[u8]) -> Result<Vcd, VcdFault>
     ensures meaning { Gives (λ vcd. vcd) result (meaning text.now) }
     ensures kept { IfOk result IsVcd }
@@ -29,7 +30,7 @@ pub fn read_vcd(alloc: Global, text: &[u8]) -> Result<Vcd, VcdFault>
         return Err(VcdFault::TooLong);
     }
     let mut words = Words::of(text);
-    let head = read_head(alloc, &mut words)?;
+    let head = read_head(alloc, &mut words, text.len())?;
     let changes = read_changes(alloc, &head, &mut words, text.len())?;
     Ok(Vcd::new(head.scopes, head.vars, changes))
 }

@@ -48,9 +48,7 @@ fn whole_changes(count: usize) -> u64 {
 fn is_outcome(outcome: u8, cut: &[u8], read: &Result<Vcd, VcdFault>) -> bool {
     let offset = last_word(cut);
     match read {
-        Ok(vcd) => outcome == b'o'
-            && vcd.vars().len() == 8
-            && vcd.changes() == whole_changes(cut.len()),
+        Ok(vcd) => outcome == b'o' && vcd.vars() == 8 && vcd.changes() == whole_changes(cut.len()),
         Err(VcdFault::NoEndDefinitions) => outcome == b'N',
         Err(VcdFault::CutShort) => outcome == b'C',
         Err(VcdFault::BadWord { offset: at }) => outcome == b'B' && *at == offset,

@@ -137,3 +137,16 @@ $enddefinitions $end\r\n\
 shello s\r\n\
 $comment 1! $var #3 $end Z~~ #12 #12 bz ~~ X$end\x0b#13\x0c0e\r\n\
 #13 1e";
+
+/// Declarations in scopes of which several have one path, since names have dots in them and scopes are opened again.
+pub const DOTTED: &[u8] = b"\
+$scope module a.b $end $var wire 1 ! x $end $upscope $end\n\
+$scope module a $end\n\
+$scope module bc $end $var wire 1 ! x $end $upscope $end\n\
+$scope module b $end $var wire 1 ! y $end\n\
+$scope module c.d $end $var wire 1 ! x $end $upscope $end\n\
+$scope module c $end $scope module d $end $var wire 1 ! y $end $upscope $end $upscope $end\n\
+$var wire 1 ! z $end $upscope $end $upscope $end\n\
+$scope module a $end $scope module b $end $var wire 1 ! x $end $upscope $end\n\
+$var wire 1 ! w $end $upscope $end\n\
+$enddefinitions $end\n";

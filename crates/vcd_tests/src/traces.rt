@@ -1,37 +1,47 @@
 //! Traces that are read, with every scope, declaration and change.
 
-use crate::texts::{COMMERCIAL, FOREIGN, ICARUS, OWN, VERILATOR};
+use crate::texts::{COMMERCIAL, DOTTED, FOREIGN, ICARUS, OWN, VERILATOR};
+use std::alloc::Global;
 use std::test::Fail;
-use vcd_read::{Vcd, VcdVar, read_vcd};
+use text_core::NoMemory;
+use vcd_read::{Vcd, read_vcd};
 
-/// A variable: its scope, name, code and size, and whether its values are bits.
-type Var = (&'static str, &'static str, u32, u32, bool);
+/// A scope: the number of the one around it, its name and its path.
+type Scope = (u32, &'static str, &'static str);
+
+/// A variable: the number of its scope, its name, code and size, and whether its values are bits.
+type Var = (u32, &'static str, u32, u32, bool);
 
 /// A change: its time, its code and its digits.
 type Change = (u64, u32, &'static str);
 
-/// What a text tells: its scopes, its variables and its changes.
+/// A path, and the places of the variables of that scope.
+type Group = (&'static str, &'static [u64]);
+
+/// What a text tells: its scopes, its variables, which of them stand in which scope, and its changes.
 struct Told {
     text: &'static [u8],
-    scopes: &'static [&'static str],
+    scopes: &'static [Scope],
     vars: &'static [Var],
+    groups: &'static [Group],
     changes: &'static [Change],
 }
 
-static TOLD: [Told; 5] = [
+static TOLD: [Told; 6] = [
     Told {
         text: OWN,
-        scopes: &["A"],
+        scopes: &[(0, "A", "A")],
         vars: &[
-            ("A", "clk", 0, 1, true),
-            ("A", "en", 1, 1, true),
-            ("A", "_1", 2, 8, true),
-            ("A", "d", 3, 8, true),
-            ("A", "_3", 4, 8, true),
-            ("A", "_4", 5, 8, true),
-            ("A", "_5", 6, 1, true),
-            ("A", "q", 7, 8, true),
+            (1, "clk", 0, 1, true),
+            (1, "en", 1, 1, true),
+            (1, "_1", 2, 8, true),
+            (1, "d", 3, 8, true),
+            (1, "_3", 4, 8, true),
+            (1, "_4", 5, 8, true),
+            (1, "_5", 6, 1, true),
+            (1, "q", 7, 8, true),
         ],
+        groups: &[("A", &[0, 1, 2, 3, 4, 5, 6, 7]), ("", &[]), ("clk", &[])],
         changes: &[
             (0, 0, "0"),
             (0, 1, "1"),
@@ -60,14 +70,15 @@ static TOLD: [Told; 5] = [
     },
     Told {
         text: FOREIGN,
-        scopes: &["tb", "tb.dut"],
+        scopes: &[(0, "tb", "tb"), (1, "dut", "tb.dut")],
         vars: &[
-            ("tb.dut", "clk", 0, 1, true),
-            ("tb.dut", "en", 1, 1, true),
-            ("tb.dut", "d", 2, 8, true),
-            ("tb.dut", "_1", 3, 8, true),
-            ("tb.dut", "_4", 4, 8, true),
+            (2, "clk", 0, 1, true),
+            (2, "en", 1, 1, true),
+            (2, "d", 2, 8, true),
+            (2, "_1", 3, 8, true),
+            (2, "_4", 4, 8, true),
         ],
+        groups: &[("tb", &[]), ("tb.dut", &[0, 1, 2, 3, 4])],
         changes: &[
             (0, 0, "0"),
             (0, 1, "x"),
@@ -85,13 +96,14 @@ static TOLD: [Told; 5] = [
     },
     Told {
         text: ICARUS,
-        scopes: &["tb", "tb.loop[0]"],
+        scopes: &[(0, "tb", "tb"), (1, "loop[0]", "tb.loop[0]")],
         vars: &[
-            ("tb", "q", 0, 8, true),
-            ("tb", "clk", 1, 1, true),
-            ("tb", "level", 2, 64, false),
-            ("tb.loop[0]", "N", 3, 32, true),
+            (1, "q", 0, 8, true),
+            (1, "clk", 1, 1, true),
+            (1, "level", 2, 64, false),
+            (2, "N", 3, 32, true),
         ],
+        groups: &[("tb", &[0, 1, 2]), ("tb.loop[0]", &[3]), ("loop[0]", &[])],
         changes: &[
             (0, 3, "100"),
             (0, 1, "0"),
@@ -106,23 +118,29 @@ static TOLD: [Told; 5] = [
     },
     Told {
         text: VERILATOR,
-        scopes: &["TOP", "TOP.top"],
+        scopes: &[(0, "TOP", "TOP"), (1, "top", "TOP.top")],
         vars: &[
-            ("TOP", "clk", 0, 1, true),
-            ("TOP.top", "clk", 0, 1, true),
-            ("TOP.top", "data", 1, 8, true),
+            (1, "clk", 0, 1, true),
+            (2, "clk", 0, 1, true),
+            (2, "data", 1, 8, true),
         ],
+        groups: &[("TOP", &[0]), ("TOP.top", &[1, 2]), ("TOP.", &[])],
         changes: &[(0, 0, "0"), (0, 1, "00000000"), (5, 0, "1"), (5, 1, "1010")],
     },
     Told {
         text: COMMERCIAL,
-        scopes: &["top", "top.\\esc+aped"],
-        vars: &[
-            ("top.\\esc+aped", "bus", 0, 4, true),
-            ("top.\\esc+aped", "text", 1, 1, false),
-            ("top", "vdd", 2, 7, true),
-            ("", "alone", 3, 1, true),
+        scopes: &[
+            (0, "top", "top"),
+            (1, "\\esc+aped", "top.\\esc+aped"),
+            (1, "\\esc+aped", "top.\\esc+aped"),
         ],
+        vars: &[
+            (2, "bus", 0, 4, true),
+            (2, "text", 1, 1, false),
+            (1, "vdd", 2, 7, true),
+            (0, "alone", 3, 1, true),
+        ],
+        groups: &[("top.\\esc+aped", &[0, 1]), ("top", &[2]), ("", &[3])],
         changes: &[
             (0, 3, "1"),
             (12, 0, "Xz1"),
@@ -133,13 +151,61 @@ static TOLD: [Told; 5] = [
             (13, 3, "1"),
         ],
     },
+    Told {
+        text: DOTTED,
+        scopes: &[
+            (0, "a.b", "a.b"),
+            (0, "a", "a"),
+            (2, "bc", "a.bc"),
+            (2, "b", "a.b"),
+            (4, "c.d", "a.b.c.d"),
+            (4, "c", "a.b.c"),
+            (6, "d", "a.b.c.d"),
+            (0, "a", "a"),
+            (8, "b", "a.b"),
+        ],
+        vars: &[
+            (1, "x", 0, 1, true),
+            (3, "x", 0, 1, true),
+            (4, "y", 0, 1, true),
+            (5, "x", 0, 1, true),
+            (7, "y", 0, 1, true),
+            (4, "z", 0, 1, true),
+            (9, "x", 0, 1, true),
+            (8, "w", 0, 1, true),
+        ],
+        groups: &[
+            ("a", &[7]),
+            ("a.b", &[0, 2, 5, 6]),
+            ("a.bc", &[1]),
+            ("a.b.c", &[]),
+            ("a.b.c.d", &[3, 4]),
+            ("b", &[]),
+            ("a.b.c.d.", &[]),
+        ],
+        changes: &[],
+    },
 ];
 
+/// Whether a scope of a number is this one.
+fn is_scope(vcd: &Vcd, number: u32, wanted: &Scope) -> bool {
+    let (parent, name, path) = *wanted;
+    if number == 0 || u64::from(number) > vcd.scopes() {
+        return false;
+    }
+    let scope = vcd.scope(number);
+    scope.parent == parent && scope.name == name.as_bytes() && vcd.is_scope(number, path)
+}
+
 /// Whether a variable is this one.
-fn is_var(var: &VcdVar, wanted: &Var) -> bool {
+fn is_var(vcd: &Vcd, i: u64, wanted: &Var) -> bool {
+    if i >= vcd.vars() {
+        return false;
+    }
     let (scope, name, code, size, counted) = *wanted;
-    var.scope.bytes() == scope.as_bytes()
-        && var.name.bytes() == name.as_bytes()
+    let var = vcd.var(i);
+    var.scope == scope
+        && var.name == name.as_bytes()
         && var.code == code
         && var.size == size
         && var.counted == counted
@@ -154,14 +220,31 @@ fn is_change(vcd: &Vcd, i: u64, wanted: &Change) -> bool {
         && vcd.digits(i) == digits.as_bytes()
 }
 
+/// Whether these and no others are a file's scopes.
+fn has_scopes(vcd: &Vcd, wanted: &[Scope]) -> bool {
+    vcd.scopes() == wanted.len() as u64
+        && wanted.iter().zip(1u32..).all(|(wanted, number)| vcd.has_scope(wanted.2)
+            && is_scope(vcd, number, wanted))
+}
+
 /// Whether these and no others are a file's variables.
 fn has_vars(vcd: &Vcd, wanted: &[Var]) -> bool {
-    let vars = vcd.vars();
-    vars.len() == wanted.len()
-        && vars
+    vcd.vars() == wanted.len() as u64
+        && wanted
             .iter()
-            .zip(wanted)
-            .all(|(var, wanted)| is_var(var, wanted))
+            .enumerate()
+            .all(|(i, wanted)| is_var(vcd, i as u64, wanted))
+}
+
+/// Whether these and no others are the variables of scopes.
+fn has_groups(alloc: Global, vcd: &Vcd, wanted: &[Group]) -> Result<bool, NoMemory> {
+    for (path, places) in wanted {
+        let found = vcd.vars_in(alloc, path)?;
+        if found.as_slice() != *places {
+            return Ok(false);
+        }
+    }
+    Ok(true)
 }
 
 /// Whether these and no others are a file's changes.
@@ -177,15 +260,13 @@ fn has_changes(vcd: &Vcd, wanted: &[Change]) -> bool {
 fn texts_tell_every_declaration_and_change(rt: HostRuntime) -> Result<(), Fail> {
     for (i, told) in TOLD.iter().enumerate() {
         let vcd = read_vcd(rt.alloc(), told.text)?;
-        assert!(rt;
-            told.scopes.iter().all(|scope| vcd.has_scope(scope)),
-            "scopes {i}"
-        );
+        assert!(rt; has_scopes(&vcd, told.scopes), "scopes {i}");
         assert!(rt;
             !vcd.has_scope("") && !vcd.has_scope("dut") && !vcd.has_scope("tb."),
             "others {i}"
         );
         assert!(rt; has_vars(&vcd, told.vars), "variables {i}");
+        assert!(rt; has_groups(rt.alloc(), &vcd, told.groups)?, "groups {i}");
         assert!(rt; has_changes(&vcd, told.changes), "changes {i}");
     }
     Ok(())

@@ -20,7 +20,7 @@ pub returns-in_err-end : goal.returns-in_err-end
 returns-in_err-end c =
     let state = state_of c.loop-word.head in
     let last : is_keyword (codes "$enddefinitions") (word_of c.in-Some.word) ≡ true = cc in
-    let p = err_from_is_err_and c.from_residual.result c.from_residual.ensures.1 in
+    let p = err_from_is_err_and c.from_residual-in_err-end.result c.from_residual-in_err-end.ensures.1 in
     rw (p.1, p.2) (fault_leads c.in_err-end.field-0.0 (told_by InChanges state) (end_at c.next_word.new.self) _ c.in_err-end.ensures.rest
     (sym c.loop-word.invariant ∙ ap (told_by InHead state) c.in-Some.ensures.word ∙ head_end_law state (word_of c.in-Some.word) c.next_word.new.self last))
 

@@ -1,0 +1,27 @@
+-- Which names are known.
+use Rattle.std.specs.Prelude.{Bool, false, ◌||◌, List, bytes_eq}
+use Rattle.std.specs.List.{list_any}
+use Rattle.exec_core.specs.Block as blocks
+
+-- a name, as its bytes
+abbrev pub Name : Type 0
+Name = blocks.Name
+
+-- whether each name is known
+abbrev pub Known : Type 0
+Known = Name → Bool
+
+abbrev pub none : Known
+none x = false
+
+-- those of a list
+abbrev pub has : List Name → Known
+has names x = list_any (bytes_eq x) names
+
+-- one more
+abbrev pub with : Name → Known → Known
+with y known = λ x. bytes_eq x y || known x
+
+-- these as well
+abbrev pub either : Known → Known → Known
+either new known = λ x. new x || known x

@@ -1,0 +1,11 @@
+pub mod Known
+pub mod Statements
+pub mod Faults
+pub mod Names
+pub mod Ports
+pub mod Widths
+pub mod Drivers
+pub mod Paths
+pub mod Verdict
+pub mod Samples
+pub mod Maps

@@ -1,0 +1,57 @@
+ghost use Rattle.std.specs.Prelude.{◌≡◌, [], ◌∷◌, ◌++◌, IfOk, OnOk, not, if◌then◌else◌};
+ghost use Rattle.check_core.specs.Known.{has, none, with};
+
+use indexmap::IndexSet;
+use std::alloc::Global;
+use std::marker::Model;
+use text_core::NoMemory;
+
+/// A set of names. Contracts see them in the order in which they came, no two the same; `has` tells which are in it.
+#[derive(Drop)]
+pub struct NameSet {
+    names: IndexSet<Vec<u8>>,
+}
+
+impl Model for NameSet {
+    ghost use Rattle.std.specs.Prelude.{List, ℕ, map};
+
+    ghost Value = { List (List ℕ) };
+
+    ghost view = { λ n. map (λ name. name.items) n.names.keys };
+}
+
+impl NameSet {
+    /// No names. Takes no memory.
+    pub fn new(alloc: Global) -> NameSet
+        ensures { has result ≡ none }
+    {
+        NameSet {
+            names: IndexSet::new(alloc),
+        }
+    }
+
+    /// Whether a name is among them.
+    pub fn contains(&self, name: &[u8]) -> bool
+        ensures { result ≡ has self.now name.now }
+    {
+        self.names.contains(name)
+    }
+
+    /// Puts a name last, unless it is there, and tells whether it was new.
+    fn put(&mut self, alloc: Global, name: &[u8]) -> Result<bool, NoMemory>
+        ensures added { IfOk result (λ added. added ≡ not (has self.old name.now)) }
+        ensures names { IfOk result (λ added. self.new ≡ (if added then self.old ++ name.now ∷ [] else self.old)) }
+    {
+        Ok(self.names.insert(name.to_vec(alloc)?)?)
+    }
+
+    /// Puts a name in, and tells whether it was new.
+    pub fn insert(&mut self, alloc: Global, name: &[u8]) -> Result<bool, NoMemory>
+        ensures added { IfOk result (λ added. added ≡ not (has self.old name.now)) }
+        ensures names { IfOk result (λ added. self.new ≡ (if added then self.old ++ name.now ∷ [] else self.old)) }
+        ensures known { OnOk result (has self.new ≡ with name.now (has self.old)) }
+    {
+        let added = self.put(alloc, name)?;
+        Ok(added)
+    }
+}

@@ -1,0 +1,4 @@
+pub mod ChildNames
+pub mod UnknownSteps
+pub mod TakenSteps
+pub mod ConnNames

@@ -1,0 +1,9 @@
+use Rattle.std.proofs.Common.{◌≡◌, drop, map}
+use Rattle.design_core.specs.View.{block_of}
+use Rattle.check_core.specs.Faults.{first_of}
+use Rattle.check_core.specs.Widths.{bad_in_block}
+use Rattle.check_widths.proofs.bad.bad_in_blocks.Given as goal
+
+-- what is left tells what all tells
+abbrev pub invariant-loop-block : goal.invariant-loop-block
+invariant-loop-block l = first_of bad_in_block (map block_of (drop l.block-index l.blocks)) ≡ first_of bad_in_block (map block_of l.blocks)

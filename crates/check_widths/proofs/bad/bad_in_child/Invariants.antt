@@ -1,0 +1,9 @@
+use Rattle.std.proofs.Common.{◌≡◌, drop, map}
+use Rattle.design_core.specs.View.{conn_of}
+use Rattle.check_core.specs.Faults.{first_of}
+use Rattle.check_core.specs.Widths.{bad_conn}
+use Rattle.check_widths.proofs.bad.bad_in_child.Given as goal
+
+-- what is left tells what all tells
+abbrev pub invariant-loop-conn : goal.invariant-loop-conn
+invariant-loop-conn l = first_of bad_conn (map conn_of (drop l.conn-index l.child.conns.items)) ≡ first_of bad_conn (map conn_of l.child.conns.items)

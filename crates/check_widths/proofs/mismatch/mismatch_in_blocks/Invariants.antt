@@ -1,0 +1,10 @@
+use Rattle.std.proofs.Common.{◌≡◌, drop, map}
+use Rattle.design_core.specs.View.{block_of}
+use Rattle.check_core.specs.Widths.{mismatch_in_block}
+use Rattle.check_widths.specs.WidthMaps.{widths_at}
+use Rattle.check_core.specs.Faults.{first_of}
+use Rattle.check_widths.proofs.mismatch.mismatch_in_blocks.Given as goal
+
+-- what is left tells what all tells
+abbrev pub invariant-loop-block : goal.invariant-loop-block
+invariant-loop-block l = first_of (mismatch_in_block (widths_at l.signals)) (map block_of (drop l.block-index l.blocks)) ≡ first_of (mismatch_in_block (widths_at l.signals)) (map block_of l.blocks)

@@ -1,0 +1,19 @@
+use crate::Variant;
+use text_core::{Listed, Text};
+
+/// An instance of a variant: its path, and the number of the instance that it stands in, if it is not the top.
+#[derive(Debug, Drop)]
+pub struct Instance {
+    pub path: Text,
+    pub variant: u32,
+    pub parent: Option<u32>,
+}
+
+/// An elaborated design: the module of its top, its variants in the order of their first instances, and its instances in
+/// preorder.
+#[derive(Debug, Drop)]
+pub struct Design {
+    pub top: Text,
+    pub variants: Vec<Variant>,
+    pub instances: Listed<Instance>,
+}

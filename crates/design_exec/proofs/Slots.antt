@@ -1,0 +1,182 @@
+-- The slots that elaboration gives are numbers one after another.
+use Rattle.std.proofs.Common.{◌≡◌, ℕ, zero, suc, ◌+◌, ◌<◌, ◌==◌, Bool, true, false, cond, List, [], ◌∷◌, ◌++◌, map, option_map, unwrap_or, refl, sym, ap, ap₂, ◌∙◌, subst, arith, ne_eqb, eqb-true, add-zero}
+use Rattle.std.specs.Prelude.{filter, slice_get}
+use Rattle.std.specs.List.{enumerate_from, flat_map}
+use Rattle.std.proofs.lemmas.List.{map-append, append-nil}
+use Rattle.std.proofs.lemmas.List.Elements.{filter-append}
+use Rattle.gen_tree.specs.Tree.{Module}
+use Rattle.exec_core.specs.Block.{slots, body_slots}
+use Rattle.exec_core.specs.Lists.{EachOf, IsNotIn, AreApart}
+use Rattle.exec_core.specs.Design.{Process}
+use Rattle.exec_core.specs.Run.{slots_in}
+use Rattle.design_core.specs.declared.variant.Signal.{Signal}
+use Rattle.design_core.specs.declared.design.Instance as design_instance
+use Rattle.design_core.specs.Design.{Stmt, Assign, Let, If, Body, Done, Then, Else, NoElse, Otherwise, Block, Variant, Design}
+use Rattle.design_core.specs.Slots.{Head, heads, stmt_heads, else_heads, size, stmt_size, else_size}
+use Rattle.elab_core.specs.Elaborated.{Instance}
+use Rattle.elab_core.specs.Design.{numbered, numbered_stmt, numbered_else, numbered_blocks, blocks_size, numbered_variant, first_slot}
+use Rattle.design_exec.specs.Processes.{processes_of, stmt_of, body_of, else_of, process, processes_at, blocks_in, signals_in}
+use Rattle.design_exec.specs.Numbered.{from, slots_of, AreNumbered}
+
+-- ---- numbers one after another
+
+further : (k n : ℕ) → k + 1 + n ≡ k + suc n
+further k n = omega arith
+
+from_append : (k m n : ℕ) → from k (m + n) ≡ from k m ++ from (k + m) n
+from_append k zero n = ap (from k) (none n) ∙ ap (λ j. from j n) (sym (add-zero k))
+  where
+    none : (n : ℕ) → 0 + n ≡ n
+    none n = omega arith
+from_append k (suc m) n = ap (from k) (one_more m n) ∙ ap (λ l. k ∷ l) (from_append (k + 1) m n ∙ ap (λ j. from (k + 1) m ++ from j n) (further k m))
+  where
+    one_more : (m n : ℕ) → suc m + n ≡ suc (m + n)
+    one_more m n = omega arith
+
+pub below : (m k n : ℕ) → m < k → IsNotIn m (from k n)
+below m k zero h = tt
+below m k (suc n) h = (λ e. absurd (omega (arith, e, h)), below m (k + 1) n (omega (arith, h)))
+
+pub from_apart : (k n : ℕ) → AreApart (from k n)
+from_apart k zero = tt
+from_apart k (suc n) = (below k (k + 1) n (omega arith), from_apart (k + 1) n)
+
+-- ---- statements
+
+slots-append : (hs gs : List Head) → slots_of (hs ++ gs) ≡ slots_of hs ++ slots_of gs
+slots-append hs gs = map-append (λ (h : Head). h.slot) hs gs
+
+joined : (k m n : ℕ) (hs gs : List Head) → slots_of hs ≡ from k m → slots_of gs ≡ from (k + m) n → slots_of (hs ++ gs) ≡ from k (m + n)
+joined k m n hs gs a b = slots-append hs gs ∙ ap₂ (λ (p q : List ℕ). p ++ q) a b ∙ sym (from_append k m n)
+
+with_one : (m n : ℕ) → 1 + m + n ≡ suc (m + n)
+with_one m n = omega arith
+
+mutual
+  numbered_slots : (k : ℕ) (b : Body) → slots_of (heads (numbered k b)) ≡ from k (size b)
+  numbered_slots k Done = refl
+  numbered_slots k (Then s rest) =
+      joined k (stmt_size s) (size rest) (stmt_heads (numbered_stmt k s)) (heads (numbered (k + stmt_size s) rest)) (stmt_numbered k s) (numbered_slots (k + stmt_size s) rest)
+
+  stmt_numbered : (k : ℕ) (s : Stmt) → slots_of (stmt_heads (numbered_stmt k s)) ≡ from k (stmt_size s)
+  stmt_numbered k (Assign slot line gens x e) = refl
+  stmt_numbered k (Let slot line gens x e) = refl
+  stmt_numbered k (If slot line gens c first second) =
+      ap (λ l. k ∷ l)
+      (joined (k + 1) (size first) (else_size second) (heads (numbered (k + 1) first)) (else_heads (numbered_else (k + 1 + size first) second))
+      (numbered_slots (k + 1) first) (else_numbered (k + 1 + size first) second))
+      ∙ ap (from k) (sym (with_one (size first) (else_size second)))
+
+  else_numbered : (k : ℕ) (b : Else) → slots_of (else_heads (numbered_else k b)) ≡ from k (else_size b)
+  else_numbered k NoElse = refl
+  else_numbered k (Otherwise body) = numbered_slots k body
+
+abbrev block_heads : Block → List Head
+block_heads b = heads b.body
+
+pub blocks_numbered : (k : ℕ) (bs : List Block) → slots_of (flat_map block_heads (numbered_blocks k bs)) ≡ from k (blocks_size bs)
+blocks_numbered k [] = refl
+blocks_numbered k (b ∷ bs) =
+    joined k (size b.body) (blocks_size bs) (heads (numbered k b.body)) (flat_map block_heads (numbered_blocks (k + size b.body) bs))
+    (numbered_slots k b.body) (blocks_numbered (k + size b.body) bs)
+
+-- ---- the same statements in a process
+
+mutual
+  body_has : (c : Bool) (b : Body) → body_slots (body_of c b) ≡ slots_of (heads b)
+  body_has c Done = refl
+  body_has c (Then s rest) = ap₂ (λ (p q : List ℕ). p ++ q) (stmt_has c s) (body_has c rest) ∙ sym (slots-append (stmt_heads s) (heads rest))
+
+  stmt_has : (c : Bool) (s : Stmt) → slots (stmt_of c s) ≡ slots_of (stmt_heads s)
+  stmt_has c (Assign slot line gens x e) = refl
+  stmt_has c (Let slot line gens x e) = refl
+  stmt_has c (If slot line gens t first second) =
+      ap (λ l. slot ∷ l) (ap₂ (λ (p q : List ℕ). p ++ q) (body_has c first) (else_has c second) ∙ sym (slots-append (heads first) (else_heads second)))
+
+  else_has : (c : Bool) (b : Else) → body_slots (else_of c b) ≡ slots_of (else_heads b)
+  else_has c NoElse = refl
+  else_has c (Otherwise body) = body_has c body
+
+abbrev process_slots : Process → List ℕ
+process_slots b = body_slots b.body
+
+processes_have : (i : ℕ) (signals : List Signal) (bs : List Block) → flat_map process_slots (map (process i signals) bs) ≡ slots_of (flat_map block_heads bs)
+processes_have i signals [] = refl
+processes_have i signals (b ∷ bs) =
+    ap₂ (λ (p q : List ℕ). p ++ q) (body_has b.clocked b.body) (processes_have i signals bs) ∙ sym (slots-append (heads b.body) (flat_map block_heads bs))
+
+-- ---- the processes of one instance
+
+abbrev at : ℕ → Process → Bool
+at i b = b.instance == i
+
+all_of : (i k : ℕ) (signals : List Signal) (bs : List Block) → (k == i) ≡ true → filter (at i) (map (process k signals) bs) ≡ map (process k signals) bs
+all_of i k signals [] t = refl
+all_of i k signals (b ∷ bs) t =
+    ap (λ c. cond c (process k signals b ∷ filter (at i) (map (process k signals) bs)) (filter (at i) (map (process k signals) bs))) t
+    ∙ ap (λ (l : List Process). process k signals b ∷ l) (all_of i k signals bs t)
+
+none_of : (i k : ℕ) (signals : List Signal) (bs : List Block) → (k == i) ≡ false → filter (at i) (map (process k signals) bs) ≡ []
+none_of i k signals [] t = refl
+none_of i k signals (b ∷ bs) t =
+    ap (λ c. cond c (process k signals b ∷ filter (at i) (map (process k signals) bs)) (filter (at i) (map (process k signals) bs))) t
+    ∙ none_of i k signals bs t
+
+none_later : (d : Design) (i k : ℕ) (list : List design_instance.Instance) → i < k → filter (at i) (flat_map (processes_at d) (enumerate_from k list)) ≡ []
+none_later d i k [] h = refl
+none_later d i k (r ∷ list) h =
+    filter-append (at i) (processes_at d (k, r)) (flat_map (processes_at d) (enumerate_from (k + 1) list))
+    ∙ ap₂ (λ (p q : List Process). p ++ q) (none_of i k (signals_in d r.variant) (blocks_in d r.variant) (ne_eqb k i (λ e. absurd (omega (arith, e, h)))))
+    (none_later d i (k + 1) list (omega (arith, h)))
+
+-- no two statements of a variant's blocks have one slot
+abbrev EachApart : Design → Type 0
+EachApart d = (v : ℕ) → AreApart (slots_of (flat_map block_heads (blocks_in d v)))
+
+abbrev later : Design → ℕ → ℕ → List design_instance.Instance → List Process
+later d i k list = filter (at i) (flat_map (processes_at d) (enumerate_from k list))
+
+-- the processes of an instance and those behind it, where this is its number or another
+first_or_later : (d : Design) (i k : ℕ) (r : design_instance.Instance) (list : List design_instance.Instance) (b : Bool) → (k == i) ≡ b → EachApart d
+    → AreApart (flat_map process_slots (later d i (k + 1) list))
+    → AreApart (flat_map process_slots (filter (at i) (processes_at d (k, r)) ++ later d i (k + 1) list))
+first_or_later d i k r list true t h g =
+    subst (λ (l : List Process). AreApart (flat_map process_slots l))
+    (sym (ap₂ (λ (p q : List Process). p ++ q) (all_of i k (signals_in d r.variant) (blocks_in d r.variant) t) (none_later d i (k + 1) list (omega (arith, eqb-true k i t)))
+    ∙ append-nil (processes_at d (k, r))))
+    (subst AreApart (sym (processes_have k (signals_in d r.variant) (blocks_in d r.variant))) (h r.variant))
+first_or_later d i k r list false t h g =
+    subst (λ (l : List Process). AreApart (flat_map process_slots (l ++ later d i (k + 1) list))) (sym (none_of i k (signals_in d r.variant) (blocks_in d r.variant) t)) g
+
+one_instance : (d : Design) (i k : ℕ) (list : List design_instance.Instance) → EachApart d → AreApart (flat_map process_slots (later d i k list))
+one_instance d i k [] h = tt
+one_instance d i k (r ∷ list) h =
+    subst (λ (l : List Process). AreApart (flat_map process_slots l))
+    (sym (filter-append (at i) (processes_at d (k, r)) (flat_map (processes_at d) (enumerate_from (k + 1) list))))
+    (first_or_later d i k r list (k == i) refl h (one_instance d i (k + 1) list h))
+
+-- ---- the variants of an elaborated design
+
+are_numbered : (modules : List Module) (variants : List Instance) (v : ℕ × Instance) → AreNumbered (numbered_variant modules variants v)
+are_numbered modules variants v = record {
+  first = first_slot variants v;
+  count = blocks_size v.1.content.blocks;
+  slots = blocks_numbered (first_slot variants v) v.1.content.blocks;
+}
+
+pub each_numbered : (modules : List Module) (variants : List Instance) (list : List (ℕ × Instance)) → EachOf AreNumbered (map (numbered_variant modules variants) list)
+each_numbered modules variants [] = tt
+each_numbered modules variants (v ∷ list) = (are_numbered modules variants v, each_numbered modules variants list)
+
+-- the blocks of the variant of a number, among variants
+abbrev blocks_among : List Variant → ℕ → List Block
+blocks_among variants v = unwrap_or (option_map (λ (w : Variant). w.blocks) (slice_get variants v)) []
+
+apart_among : (variants : List Variant) (v : ℕ) → EachOf AreNumbered variants → AreApart (slots_of (flat_map block_heads (blocks_among variants v)))
+apart_among [] v h = tt
+apart_among (w ∷ variants) zero h = subst AreApart (sym (h.0).slots) (from_apart (h.0).first (h.0).count)
+apart_among (w ∷ variants) (suc v) h = apart_among variants v h.1
+
+-- no two statements of an instance have one slot
+pub instances_apart : (d : Design) → EachOf AreNumbered d.variants → (i : ℕ) → AreApart (slots_in (processes_of d) i)
+instances_apart d h i = one_instance d i 0 d.instances (λ v. apart_among d.variants v h)

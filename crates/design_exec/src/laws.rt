@@ -1,0 +1,13 @@
+ghost use Rattle.design_exec.specs.Sample.{Translates};
+ghost use Rattle.design_exec.specs.Numbered.{ElaborationNumbers};
+
+/// A design of two instances, as elaboration gives it, is the one whose execution is worked by hand. Computes nothing.
+pub fn translates_the_sample()
+    ensures { Translates }
+{}
+
+/// In a design that elaboration gives the slots of a variant are numbers one after another, and no two statements of an instance
+/// have one slot. Computes nothing.
+pub fn elaboration_numbers()
+    ensures { ElaborationNumbers }
+{}

@@ -1,0 +1,4 @@
+pub mod Steps
+pub mod NumberSteps
+pub mod Names
+pub mod Numbers

@@ -1,0 +1,6 @@
+pub mod Heights
+pub mod Kept
+pub mod ExprCases
+pub mod Exits
+pub mod StmtCases
+pub mod StmtLoops

@@ -1,0 +1,62 @@
+-- The statements that a block has so far, and the steps of the walk over statements.
+use Rattle.std.specs.Prelude.{ℕ, ℤ, Vec}
+use Rattle.std.specs.Global.{Global}
+use Rattle.gen_tree.specs.Tree.{Fam, Stmts, no_stmt, no_else, otherwise}
+use Rattle.gen_tree.specs.Tree as tree
+use Rattle.elab_core.specs.declared.Count.TheVariants.{Statements, Turns}
+use Rattle.elab_core.specs.Walk.{Walk, Gives, ◌>>=◌, counts}
+use Rattle.elab_core.specs.Numbers.{bound, fam_name}
+use Rattle.elab_core.specs.Elab.{expr, statements, else_body}
+use Rattle.design_core.specs.declared.Stmt as code_stmt
+use Rattle.exec_core.specs.Block.{Name}
+use Rattle.design_core.specs.Design.{Gens, Expr, Body, Done, Else}
+use Rattle.design_core.specs.Design as design
+use Rattle.design_core.specs.View.{body_of}
+
+-- what a list of statements is
+unfoldable pub made_of : Vec code_stmt.Stmt Global → Body
+made_of made = body_of made.items
+
+-- an assignment as it is elaborated
+unfoldable pub assigned : ℕ → Gens → Fam → tree.Expr → Walk design.Stmt
+assigned line gens f e = do
+  counted ← counts Statements line
+  x ← fam_name line gens f
+  v ← expr line gens e
+  Gives (design.Assign 0 line gens x v)
+
+-- a `let` as it is elaborated
+unfoldable pub bound_let : ℕ → Gens → Fam → tree.Expr → Walk design.Stmt
+bound_let line gens f e = do
+  counted ← counts Statements line
+  x ← fam_name line gens f
+  v ← expr line gens e
+  Gives (design.Let 0 line gens x v)
+
+-- the count of an `if`, and its condition
+unfoldable pub tested : ℕ → Gens → tree.Expr → Walk Expr
+tested line gens c = do
+  counted ← counts Statements line
+  expr line gens c
+
+-- the branches of an `if`
+unfoldable pub branches : Stmts → tree.Else → Gens → Walk (Body × Else)
+branches first second gens = do
+  yes_body ← statements first gens Done
+  no_body ← else_body second gens
+  Gives (yes_body, no_body)
+
+-- a turn of a loop, with the names inside
+unfoldable pub turn : ℕ → Stmts → Gens → Body → Walk Body
+turn line body inner made = do
+  counted ← counts Turns line
+  statements body inner made
+
+-- what a turn gives, by its number
+unfoldable pub in_turn : Stmts → Name → Gens → ℤ → Body → Walk Body
+in_turn body x gens k made = statements body (bound x k gens) made
+
+-- the statements of an `else`
+abbrev pub else_stmts : tree.Else → Stmts
+else_stmts no_else = no_stmt
+else_stmts (otherwise body) = body

@@ -1,0 +1,159 @@
+//! Expressions and statements made of parts.
+
+ghost use Rattle.std.specs.Prelude.{◌≡◌};
+ghost use Rattle.design_core.specs.Design as design;
+ghost use Rattle.design_core.specs.View.{expr_of, stmt_of, body_of, else_of};
+ghost use Rattle.elab_core.specs.Operators.{unary_of, binary_of};
+ghost use Rattle.elab_core.specs.Elaborated.{added};
+ghost use Rattle.elab_core.specs.Results.{NoMemoryOr};
+ghost use Rattle.elab_base.specs.Scope.{gens_of};
+ghost use Rattle.elab_body.specs.Body.{made_of};
+
+use design_core::{Expr, Stmt};
+use elab_base::Scope;
+use elab_core::ElabFault;
+use std::alloc::Global;
+use std::boxed::Box;
+use text_core::{Listed, Text};
+
+/// An operator on a value.
+pub(crate) fn unary(alloc: Global, op: gen_tree::UnOp, value: Expr) -> Result<Expr, ElabFault>
+    ensures { NoMemoryOr (λ made. expr_of made ≡ design.Unary (unary_of op) (expr_of value)) result }
+{
+    let op = match op {
+        gen_tree::UnOp::Not => design_core::UnOp::Not,
+        gen_tree::UnOp::All => design_core::UnOp::All,
+        gen_tree::UnOp::Any => design_core::UnOp::Any,
+        gen_tree::UnOp::Parity => design_core::UnOp::Parity,
+    };
+    let value = Box::new(alloc, value)?;
+    Ok(Expr::Un(op, value))
+}
+
+/// An operator of the source, as one of the elaborated design.
+fn elaborated(op: gen_tree::Op) -> design_core::Op
+    ensures { result ≡ binary_of op }
+{
+    match op {
+        gen_tree::Op::Add => design_core::Op::Add,
+        gen_tree::Op::Sub => design_core::Op::Sub,
+        gen_tree::Op::Mul => design_core::Op::Mul,
+        gen_tree::Op::And => design_core::Op::And,
+        gen_tree::Op::Or => design_core::Op::Or,
+        gen_tree::Op::Xor => design_core::Op::Xor,
+        gen_tree::Op::Eq => design_core::Op::Eq,
+        gen_tree::Op::Ne => design_core::Op::Ne,
+        gen_tree::Op::Lt => design_core::Op::Lt,
+        gen_tree::Op::Le => design_core::Op::Le,
+        gen_tree::Op::Shl => design_core::Op::Shl,
+        gen_tree::Op::Shr => design_core::Op::Shr,
+        gen_tree::Op::Cat => design_core::Op::Cat,
+    }
+}
+
+/// An operator between two values.
+pub(crate) fn binary(
+    alloc: Global,
+    op: gen_tree::Op,
+    first: Expr,
+    second: Expr,
+) -> Result<Expr, ElabFault>
+    ensures { NoMemoryOr (λ made. expr_of made ≡ design.Binary (binary_of op) (expr_of first) (expr_of second)) result }
+{
+    let op = elaborated(op);
+    let first = Box::new(alloc, first)?;
+    let second = Box::new(alloc, second)?;
+    Ok(Expr::Bin(op, first, second))
+}
+
+/// One of two values.
+pub(crate) fn mux(alloc: Global, test: Expr, first: Expr, second: Expr) -> Result<Expr, ElabFault>
+    ensures { NoMemoryOr (λ made. expr_of made ≡ design.Mux (expr_of test) (expr_of first) (expr_of second)) result }
+{
+    let test = Box::new(alloc, test)?;
+    let first = Box::new(alloc, first)?;
+    let second = Box::new(alloc, second)?;
+    Ok(Expr::Mux(test, first, second))
+}
+
+/// A value, made wider.
+pub(crate) fn zext(alloc: Global, value: Expr, width: i64) -> Result<Expr, ElabFault>
+    ensures { NoMemoryOr (λ made. expr_of made ≡ design.Zext (expr_of value) width) result }
+{
+    let value = Box::new(alloc, value)?;
+    Ok(Expr::Zext(value, width))
+}
+
+/// Some of the bits of a value.
+pub(crate) fn slice(alloc: Global, value: Expr, high: i64, low: i64) -> Result<Expr, ElabFault>
+    ensures { NoMemoryOr (λ made. expr_of made ≡ design.Slice (expr_of value) high low) result }
+{
+    let value = Box::new(alloc, value)?;
+    Ok(Expr::Slice(value, high, low))
+}
+
+/// An assignment.
+#[tactic(auto, using(design_core::proofs::Views::design_views))]
+pub(crate) fn assignment(line: u32, gens: Listed<(Text, i64)>, target: Text, value: Expr) -> Stmt
+    ensures { stmt_of result ≡ design.Assign 0 line gens target (expr_of value) }
+{
+    Stmt::Assign {
+        slot: 0,
+        line,
+        gens,
+        target,
+        value,
+    }
+}
+
+/// A `let`.
+#[tactic(auto, using(design_core::proofs::Views::design_views))]
+pub(crate) fn binding(line: u32, gens: Listed<(Text, i64)>, name: Text, value: Expr) -> Stmt
+    ensures { stmt_of result ≡ design.Let 0 line gens name (expr_of value) }
+{
+    Stmt::Let {
+        slot: 0,
+        line,
+        gens,
+        name,
+        value,
+    }
+}
+
+/// An `if`.
+#[tactic(auto, using(design_core::proofs::Views::design_views))]
+pub(crate) fn choice(
+    line: u32,
+    gens: Listed<(Text, i64)>,
+    test: Expr,
+    yes: Vec<Stmt>,
+    no: Option<Vec<Stmt>>,
+) -> Stmt
+    ensures { stmt_of result ≡ design.If 0 line gens (expr_of test) (body_of yes.items) (else_of no) }
+{
+    Stmt::If {
+        slot: 0,
+        line,
+        gens,
+        test,
+        yes,
+        no,
+    }
+}
+
+/// All names with their numbers, as a list.
+pub(crate) fn listed(alloc: Global, scope: &Scope) -> Result<Listed<(Text, i64)>, ElabFault>
+    ensures { NoMemoryOr (λ gens. gens ≡ gens_of scope.now) result }
+{
+    let gens = scope.gens(alloc)?;
+    Ok(Listed::new(gens))
+}
+
+/// One statement more.
+#[tactic(auto, unfolding(crate::specs::Body::made_of), using(crate::proofs::StmtLoops::body_pushed))]
+pub(crate) fn add(made: &mut Vec<Stmt>, statement: Stmt) -> Result<(), ElabFault>
+    ensures { NoMemoryOr (λ _. made_of made.new ≡ added (made_of made.old) (stmt_of statement)) result }
+{
+    made.push(statement)?;
+    Ok(())
+}

@@ -1,0 +1,76 @@
+ghost use Rattle.std.specs.Prelude.{◌≡◌, OnOk};
+ghost use Rattle.gen_tree.specs.View.{expr_of as source_of};
+ghost use Rattle.design_core.specs.View.{expr_of};
+ghost use Rattle.elab_core.specs.Results.{Judged};
+ghost use Rattle.elab_core.specs.Walk.{judge};
+ghost use Rattle.elab_core.specs.Elab.{expr as walk};
+ghost use Rattle.elab_base.specs.Met.{met_of};
+ghost use Rattle.elab_base.specs.Scope.{gens_of};
+
+use crate::build::{binary, mux, slice, unary, zext};
+use elab_base::{Met, Scope, family_name, literal_at, number_at, two_numbers};
+use elab_core::{Count, ElabFault};
+use gen_tree::Expr;
+use std::alloc::Global;
+use text_core::Text;
+
+/// An expression whose names have these numbers. Each part is counted, then come its operands and integers; all faults
+/// are on this line.
+#[tactic(auto, using(crate::proofs::ExprCases::expr_steps))]
+pub fn expression(
+    alloc: Global,
+    met: &mut Met,
+    expr: &Expr,
+    line: u32,
+    scope: &Scope,
+) -> Result<design_core::Expr, ElabFault>
+    ensures judged { Judged (λ e. expr_of e) result (met_of met.new) (judge (met_of met.old) (walk line (gens_of scope.now) (source_of expr.now))) }
+    ensures instances { OnOk result (met.new.instances ≡ met.old.instances) }
+{
+    met.take(Count::Parts, line)?;
+    match expr {
+        Expr::Read(name) => {
+            let name = family_name(alloc, line, scope, name)?;
+            Ok(design_core::Expr::Read(name))
+        }
+        Expr::Out(child, output) => {
+            let child = family_name(alloc, line, scope, child)?;
+            let output = Text::new(alloc, output.bytes())?;
+            Ok(design_core::Expr::Out(child, output))
+        }
+        Expr::Value(literal) => {
+            let literal = literal_at(alloc, line, scope, literal)?;
+            Ok(design_core::Expr::Value(literal))
+        }
+        Expr::Un(op, value) => {
+            let value = expression(alloc, met, value, line, scope)?;
+            let made = unary(alloc, *op, value)?;
+            Ok(made)
+        }
+        Expr::Bin(op, first, second) => {
+            let first = expression(alloc, met, first, line, scope)?;
+            let second = expression(alloc, met, second, line, scope)?;
+            let made = binary(alloc, *op, first, second)?;
+            Ok(made)
+        }
+        Expr::Mux(test, first, second) => {
+            let test = expression(alloc, met, test, line, scope)?;
+            let first = expression(alloc, met, first, line, scope)?;
+            let second = expression(alloc, met, second, line, scope)?;
+            let made = mux(alloc, test, first, second)?;
+            Ok(made)
+        }
+        Expr::Zext(value, width) => {
+            let value = expression(alloc, met, value, line, scope)?;
+            let width = number_at(alloc, line, scope, width)?;
+            let made = zext(alloc, value, width)?;
+            Ok(made)
+        }
+        Expr::Slice(value, high, low) => {
+            let value = expression(alloc, met, value, line, scope)?;
+            let (high, low) = two_numbers(alloc, line, scope, high, low)?;
+            let made = slice(alloc, value, high, low)?;
+            Ok(made)
+        }
+    }
+}

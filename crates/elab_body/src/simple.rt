@@ -1,0 +1,75 @@
+//! Assignments, `let`s and conditions: what takes no other statement.
+
+ghost use Rattle.std.specs.Prelude.{◌≡◌, OnOk};
+ghost use Rattle.gen_tree.specs.View.{expr_of as source_of, fam_of};
+ghost use Rattle.design_core.specs.View.{expr_of, stmt_of};
+ghost use Rattle.elab_core.specs.Results.{Judged};
+ghost use Rattle.elab_core.specs.Walk.{judge};
+ghost use Rattle.elab_base.specs.Met.{met_of};
+ghost use Rattle.elab_base.specs.Scope.{gens_of};
+ghost use Rattle.elab_body.specs.Body.{assigned as assigned_by, bound_let as bound_by, tested as tested_by};
+
+use crate::build::{assignment, binding, listed};
+use crate::expression;
+use design_core::Stmt;
+use elab_base::{Met, Scope, family_name};
+use elab_core::{Count, ElabFault};
+use gen_tree::{Expr, Fam};
+use std::alloc::Global;
+
+/// An assignment: its count, its target, its value.
+#[tactic(auto, using(crate::proofs::StmtCases::assigned_steps))]
+pub(crate) fn assigned(
+    alloc: Global,
+    met: &mut Met,
+    line: u32,
+    scope: &Scope,
+    target: &Fam,
+    value: &Expr,
+) -> Result<Stmt, ElabFault>
+    ensures judged { Judged (λ s. stmt_of s) result (met_of met.new) (judge (met_of met.old) (assigned_by line (gens_of scope.now) (fam_of target.now) (source_of value.now))) }
+    ensures instances { OnOk result (met.new.instances ≡ met.old.instances) }
+{
+    met.take(Count::Statements, line)?;
+    let target = family_name(alloc, line, scope, target)?;
+    let value = expression(alloc, met, value, line, scope)?;
+    let gens = listed(alloc, scope)?;
+    Ok(assignment(line, gens, target, value))
+}
+
+/// A `let`: its count, its name, its value.
+#[tactic(auto, using(crate::proofs::StmtCases::bound_steps))]
+pub(crate) fn bound(
+    alloc: Global,
+    met: &mut Met,
+    line: u32,
+    scope: &Scope,
+    name: &Fam,
+    value: &Expr,
+) -> Result<Stmt, ElabFault>
+    ensures judged { Judged (λ s. stmt_of s) result (met_of met.new) (judge (met_of met.old) (bound_by line (gens_of scope.now) (fam_of name.now) (source_of value.now))) }
+    ensures instances { OnOk result (met.new.instances ≡ met.old.instances) }
+{
+    met.take(Count::Statements, line)?;
+    let name = family_name(alloc, line, scope, name)?;
+    let value = expression(alloc, met, value, line, scope)?;
+    let gens = listed(alloc, scope)?;
+    Ok(binding(line, gens, name, value))
+}
+
+/// The count of an `if`, and its condition.
+#[tactic(auto, using(crate::proofs::StmtCases::tested_steps))]
+pub(crate) fn tested(
+    alloc: Global,
+    met: &mut Met,
+    line: u32,
+    scope: &Scope,
+    test: &Expr,
+) -> Result<design_core::Expr, ElabFault>
+    ensures judged { Judged (λ e. expr_of e) result (met_of met.new) (judge (met_of met.old) (tested_by line (gens_of scope.now) (source_of test.now))) }
+    ensures instances { OnOk result (met.new.instances ≡ met.old.instances) }
+{
+    met.take(Count::Statements, line)?;
+    let test = expression(alloc, met, test, line, scope)?;
+    Ok(test)
+}

@@ -1,0 +1,260 @@
+ghost use Rattle.std.specs.Prelude.{◌≡◌, OnOk, if◌then◌else◌};
+ghost use Rattle.gen_tree.specs.Tree as tree;
+ghost use Rattle.gen_tree.specs.View.{expr_of as source_of, int_of, stmt_of as source_stmt_of, stmts_of, else_of as source_else_of};
+ghost use Rattle.design_core.specs.View.{body_of, else_of};
+ghost use Rattle.design_core.specs.Design.{Done};
+ghost use Rattle.elab_core.specs.Results.{Judged};
+ghost use Rattle.elab_core.specs.Walk.{judge};
+ghost use Rattle.elab_core.specs.Elab.{statement as statement_walk, statements as statements_walk, else_body, turns as turns_walk};
+ghost use Rattle.elab_base.specs.Met.{met_of};
+ghost use Rattle.elab_base.specs.Scope.{gens_of};
+ghost use Rattle.elab_body.specs.Body.{made_of, branches as branches_walk, turn as turn_walk, in_turn, else_stmts};
+
+use crate::build::{add, choice, listed};
+use crate::simple::{assigned, bound, tested};
+use elab_base::{Met, Scope, Turns, comparison, turns_of};
+use elab_core::{Count, ElabFault};
+use gen_tree::{Cmp, Expr, Int, Stmt};
+use std::alloc::Global;
+use text_core::Text;
+
+/// Statements one after another, behind those that were made. They have slot 0.
+#[cycle(statements)]
+#[tactic(auto, using(crate::proofs::StmtLoops::stmts_steps, crate::proofs::Heights::height_at))]
+pub fn statements(
+    alloc: Global,
+    met: &mut Met,
+    body: &[Stmt],
+    scope: &Scope,
+    made: &mut Vec<design_core::Stmt>,
+) -> Result<(), ElabFault>
+    ensures judged { Judged (λ _. made_of made.new) result (met_of met.new) (judge (met_of met.old) (statements_walk (stmts_of body.now) (gens_of scope.now) (made_of made.old))) }
+    ensures instances { OnOk result (met.new.instances ≡ met.old.instances) }
+{
+    for statement in body {
+        one_statement(alloc, met, statement, scope, made)?;
+    }
+    Ok(())
+}
+
+/// The statements of a block or a branch.
+#[cycle(statements)]
+#[tactic(auto, unfolding(crate::specs::Body::made_of))]
+pub fn block(
+    alloc: Global,
+    met: &mut Met,
+    body: &[Stmt],
+    scope: &Scope,
+) -> Result<Vec<design_core::Stmt>, ElabFault>
+    ensures judged { Judged (λ made. body_of made.items) result (met_of met.new) (judge (met_of met.old) (statements_walk (stmts_of body.now) (gens_of scope.now) Done)) }
+    ensures instances { OnOk result (met.new.instances ≡ met.old.instances) }
+{
+    let mut made = Vec::new(alloc);
+    statements(alloc, met, body, scope, &mut made)?;
+    Ok(made)
+}
+
+/// One statement.
+#[cycle(statements)]
+#[tactic(auto, using(gen_tree::proofs::Views::view_steps, crate::proofs::Heights::heights, crate::proofs::StmtCases::stmt_steps))]
+fn one_statement(
+    alloc: Global,
+    met: &mut Met,
+    statement: &Stmt,
+    scope: &Scope,
+    made: &mut Vec<design_core::Stmt>,
+) -> Result<(), ElabFault>
+    ensures judged { Judged (λ _. made_of made.new) result (met_of met.new) (judge (met_of met.old) (statement_walk (source_stmt_of statement.now) (gens_of scope.now) (made_of made.old))) }
+    ensures instances { OnOk result (met.new.instances ≡ met.old.instances) }
+{
+    match statement {
+        Stmt::Assign {
+            line,
+            target,
+            value,
+        } => {
+            let statement = assigned(alloc, met, *line, scope, target, value)?;
+            add(made, statement)?;
+            Ok(())
+        }
+        Stmt::Let { line, name, value } => {
+            let statement = bound(alloc, met, *line, scope, name, value)?;
+            add(made, statement)?;
+            Ok(())
+        }
+        Stmt::If {
+            line,
+            test,
+            yes,
+            no,
+        } => {
+            chosen(alloc, met, *line, test, yes, no, scope, made)?;
+            Ok(())
+        }
+        Stmt::For {
+            line,
+            var,
+            from,
+            to,
+            body,
+        } => {
+            let turns = turns_of(alloc, *line, scope, from, to)?;
+            all_turns(alloc, met, *line, &turns, var, body, &*scope, made)?;
+            Ok(())
+        }
+        Stmt::GenIf {
+            line,
+            left,
+            cmp,
+            right,
+            yes,
+            no,
+        } => {
+            taken(alloc, met, *line, left, *cmp, right, yes, no, scope, made)?;
+            Ok(())
+        }
+    }
+}
+
+/// An `if`: its count and condition, then its branches.
+#[cycle(statements)]
+#[tactic(auto, using(crate::proofs::StmtCases::choose_steps))]
+fn chosen(
+    alloc: Global,
+    met: &mut Met,
+    line: u32,
+    test: &Expr,
+    yes: &[Stmt],
+    no: &Option<Vec<Stmt>>,
+    scope: &Scope,
+    made: &mut Vec<design_core::Stmt>,
+) -> Result<(), ElabFault>
+    ensures judged { Judged (λ _. made_of made.new) result (met_of met.new) (judge (met_of met.old) (statement_walk (tree.choose line (source_of test.now) (stmts_of yes.now) (source_else_of no.now)) (gens_of scope.now) (made_of made.old))) }
+    ensures instances { OnOk result (met.new.instances ≡ met.old.instances) }
+{
+    let test = tested(alloc, met, line, scope, test)?;
+    let (yes, no) = branches(alloc, met, yes, no, scope)?;
+    let gens = listed(alloc, scope)?;
+    add(made, choice(line, gens, test, yes, no))?;
+    Ok(())
+}
+
+/// The branches of an `if`.
+#[cycle(statements)]
+#[tactic(auto, using(crate::proofs::StmtCases::branches_steps))]
+fn branches(
+    alloc: Global,
+    met: &mut Met,
+    yes: &[Stmt],
+    no: &Option<Vec<Stmt>>,
+    scope: &Scope,
+) -> Result<(Vec<design_core::Stmt>, Option<Vec<design_core::Stmt>>), ElabFault>
+    ensures judged { Judged (λ made. (body_of made.0.items, else_of made.1)) result (met_of met.new) (judge (met_of met.old) (branches_walk (stmts_of yes.now) (source_else_of no.now) (gens_of scope.now))) }
+    ensures instances { OnOk result (met.new.instances ≡ met.old.instances) }
+{
+    let yes = block(alloc, met, yes, scope)?;
+    let no = otherwise(alloc, met, no, scope)?;
+    Ok((yes, no))
+}
+
+/// The statements of an `else`, where there is one.
+#[cycle(statements)]
+#[tactic(auto, using(crate::proofs::StmtCases::else_steps, crate::proofs::Heights::height_otherwise))]
+fn otherwise(
+    alloc: Global,
+    met: &mut Met,
+    no: &Option<Vec<Stmt>>,
+    scope: &Scope,
+) -> Result<Option<Vec<design_core::Stmt>>, ElabFault>
+    ensures judged { Judged (λ made. else_of made) result (met_of met.new) (judge (met_of met.old) (else_body (source_else_of no.now) (gens_of scope.now))) }
+    ensures instances { OnOk result (met.new.instances ≡ met.old.instances) }
+{
+    match no {
+        None => Ok(None),
+        Some(no) => {
+            let made = block(alloc, met, no, scope)?;
+            Ok(Some(made))
+        }
+    }
+}
+
+/// The turns of a loop, one after another.
+#[cycle(statements)]
+#[tactic(auto, using(crate::proofs::StmtLoops::turns_steps, crate::proofs::StmtLoops::signed_steps))]
+fn all_turns<'s>(
+    alloc: Global,
+    met: &mut Met,
+    line: u32,
+    turns: &Turns,
+    var: &'s Text,
+    body: &[Stmt],
+    scope: &'s Scope<'s>,
+    made: &mut Vec<design_core::Stmt>,
+) -> Result<(), ElabFault>
+    ensures judged { Judged (λ _. made_of made.new) result (met_of met.new) (judge (met_of met.old) (turns_walk line (in_turn (stmts_of body.now) var.now (gens_of scope.now)) turns.now.from turns.now.count (made_of made.old))) }
+    ensures instances { OnOk result (met.new.instances ≡ met.old.instances) }
+{
+    for turn in 0..turns.count {
+        let inner = Scope::Loop {
+            outer: scope,
+            name: var,
+            number: turns.number(turn),
+        };
+        one_turn(alloc, met, line, body, &inner, made)?;
+    }
+    Ok(())
+}
+
+/// A turn of a loop: its count, then its statements.
+#[cycle(statements)]
+#[tactic(auto, using(crate::proofs::StmtCases::turn_steps))]
+fn one_turn(
+    alloc: Global,
+    met: &mut Met,
+    line: u32,
+    body: &[Stmt],
+    inner: &Scope,
+    made: &mut Vec<design_core::Stmt>,
+) -> Result<(), ElabFault>
+    ensures judged { Judged (λ _. made_of made.new) result (met_of met.new) (judge (met_of met.old) (turn_walk line (stmts_of body.now) (gens_of inner.now) (made_of made.old))) }
+    ensures instances { OnOk result (met.new.instances ≡ met.old.instances) }
+{
+    met.take(Count::Turns, line)?;
+    statements(alloc, met, body, inner, made)?;
+    Ok(())
+}
+
+/// The branch of a `gen if` that is taken.
+#[cycle(statements)]
+#[tactic(auto, using(crate::proofs::StmtCases::given_steps, crate::proofs::Heights::height_branch))]
+fn taken(
+    alloc: Global,
+    met: &mut Met,
+    line: u32,
+    left: &Int,
+    cmp: Cmp,
+    right: &Int,
+    yes: &[Stmt],
+    no: &Option<Vec<Stmt>>,
+    scope: &Scope,
+    made: &mut Vec<design_core::Stmt>,
+) -> Result<(), ElabFault>
+    ensures judged { Judged (λ _. made_of made.new) result (met_of met.new) (judge (met_of met.old) (statement_walk (tree.given line (int_of left.now) cmp (int_of right.now) (stmts_of yes.now) (source_else_of no.now)) (gens_of scope.now) (made_of made.old))) }
+    ensures instances { OnOk result (met.new.instances ≡ met.old.instances) }
+{
+    let holds = comparison(alloc, line, scope, left, cmp, right)?;
+    let branch = branch_of(holds, yes, no);
+    statements(alloc, met, branch, scope, made)?;
+    Ok(())
+}
+
+/// The statements of the branch that is taken.
+fn branch_of<'a>(holds: bool, yes: &'a [Stmt], no: &'a Option<Vec<Stmt>>) -> &'a [Stmt]
+    ensures { stmts_of result.now ≡ (if holds then stmts_of yes.now else else_stmts (source_else_of no.now)) }
+{
+    match no {
+        _ if holds => yes,
+        Some(no) => no,
+        None => &[],
+    }
+}

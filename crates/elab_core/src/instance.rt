@@ -1,0 +1,31 @@
+use design_core::{Block, Conn, Signal};
+use text_core::{Listed, Text};
+
+/// An instance inside a module, as the walk meets it: its module by the place in the source, and its parameters.
+#[derive(Debug, Drop)]
+pub struct Child {
+    pub line: u32,
+    pub name: Text,
+    pub place: usize,
+    pub params: Listed<(Text, i64)>,
+    pub conns: Vec<Conn>,
+}
+
+/// What a module's body gives in an instance. The statements of the blocks have slot 0.
+#[derive(Debug, Drop)]
+pub struct Content {
+    pub signals: Vec<Signal>,
+    pub children: Vec<Child>,
+    pub blocks: Vec<Block>,
+}
+
+/// An instance as the walk gives it: its path, the number of the instance that it stands in, its module by the place in
+/// the source, its parameters, and what its body gives.
+#[derive(Debug, Drop)]
+pub struct Instance {
+    pub path: Text,
+    pub parent: Option<u32>,
+    pub place: usize,
+    pub params: Listed<(Text, i64)>,
+    pub content: Content,
+}

@@ -1,0 +1,13 @@
+pub mod Mapped
+pub mod Placed
+pub mod ValueSteps
+pub mod Exits
+pub mod SignalCases
+pub mod SignalLoops
+pub mod GatherSteps
+pub mod Heights
+pub mod AskedCases
+pub mod ItemCases
+pub mod ItemLoops
+pub mod Counted
+pub mod TopCases

@@ -1,0 +1,77 @@
+use Rattle.std.proofs.Common.{ℕ, ◌<◌, ◌∙◌, [], ◌++◌, codes, map, sym, ap, refl, Err, arith}
+use Rattle.std.proofs.lemmas.Result.{err_from_is_err_and}
+use Rattle.gen_tree.specs.View.{items_of, port_of, module_of, modules_of}
+use Rattle.elab_core.specs.Walk.{judge}
+use Rattle.elab_core.specs.Elab.{ports, items_walk, instance}
+use Rattle.elab_base.specs.Met.{met_of}
+use Rattle.elab_body.proofs.Exits.{exit_judged}
+use Rattle.elab_walk.specs.Walked.{made_of, here_of, asked_of, entry}
+use Rattle.elab_walk.proofs.GatherSteps.{made_many}
+use Rattle.elab_walk.proofs.ItemCases.{module_fault, module_items_fault, module_done, inst_below, instance_refused, instance_fault, instance_done}
+use Rattle.elab_walk.proofs.item.+walking.Goals as goal
+
+pub body_of-returns-in_err-signals-clause-judged : goal.body_of-returns-in_err-signals-clause-judged
+body_of-returns-in_err-signals-clause-judged t c =
+    let p = err_from_is_err_and c.from_residual.result c.from_residual.ensures.1 in
+    exit_judged _ _ _ _ _ (p.1 ∙ ap (λ x. Err x) p.2)
+    (λ known. module_fault (modules_of c.args.modules.now.all.now) (instance (modules_of c.args.modules.now.all.now) c.args.room) (here_of c.args.here.now) (module_of c.args.found.now) c.args.params.now (met_of c.args.met.now) _
+    (ap (λ xs. judge (met_of c.args.met.now) (ports (map port_of xs) c.args.params.now [])) (sym c.deref.ensures.value) ∙ c.in_err-signals.ensures.judged known))
+
+pub body_of-returns-in_err-items-clause-judged : goal.body_of-returns-in_err-items-clause-judged
+body_of-returns-in_err-items-clause-judged t c =
+    let p = err_from_is_err_and c.from_residual-in_err-items.result c.from_residual-in_err-items.ensures.1 in
+    exit_judged _ _ _ _ _ (p.1 ∙ ap (λ x. Err x) p.2)
+    (λ known. module_items_fault (modules_of c.args.modules.now.all.now) (instance (modules_of c.args.modules.now.all.now) c.args.room) (here_of c.args.here.now) (module_of c.args.found.now) c.args.params.now (met_of c.args.met.now)
+    c.in_ok-signals.signals.items (met_of c.ports.new.met) (made_of c.begun-made.result) _
+    (ap (λ xs. judge (met_of c.args.met.now) (ports (map port_of xs) c.args.params.now [])) (sym c.deref.ensures.value) ∙ c.in_ok-signals.ensures.judged)
+    c.begun-made.ensures
+    (ap (λ xs. judge (met_of c.ports.new.met) (items_walk (modules_of c.args.modules.now.all.now) (instance (modules_of c.args.modules.now.all.now) c.args.room) (here_of c.args.here.now) (items_of xs) c.args.params.now (made_of c.begun-made.result))) (sym c.deref-2.ensures.value)
+    ∙ c.in_err-items.ensures.judged known))
+
+pub body_of-returns-clause-judged : goal.body_of-returns-clause-judged
+body_of-returns-clause-judged t c =
+    module_done (modules_of c.args.modules.now.all.now) (instance (modules_of c.args.modules.now.all.now) c.args.room) (here_of c.args.here.now) (module_of c.args.found.now) c.args.params.now (met_of c.args.met.now)
+    c.in_ok-signals.signals.items (met_of c.ports.new.met) _ (made_of c.begun-made.result) _
+    (ap (λ xs. judge (met_of c.args.met.now) (ports (map port_of xs) c.args.params.now [])) (sym c.deref.ensures.value) ∙ c.in_ok-signals.ensures.judged)
+    c.begun-made.ensures
+    (ap (λ xs. judge (met_of c.ports.new.met) (items_walk (modules_of c.args.modules.now.all.now) (instance (modules_of c.args.modules.now.all.now) c.args.room) (here_of c.args.here.now) (items_of xs) c.args.params.now (made_of c.begun-made.result))) (sym c.deref-2.ensures.value)
+    ∙ c.in_ok-items.ensures.judged)
+
+pub child-returns-in_err-instances-clause-judged : goal.child-returns-in_err-instances-clause-judged
+child-returns-in_err-instances-clause-judged t c =
+    let p = err_from_is_err_and c.from_residual-in_err-instances.result c.from_residual-in_err-instances.ensures.1 in
+    exit_judged _ _ _ _ _ (p.1 ∙ ap (λ x. Err x) p.2)
+    (λ known. inst_below _ _ _ _ _ _ _ _ _ _ _ (asked_of c.in_ok-want.want (module_of c.in_ok-want.found.now)) (met_of c.asked.new.met) c.asked.new.met.instances _
+    c.in_ok-want.ensures.judged (c.in_ok-want.ensures.instances ∙ c.requires) (c.in_err-instances.ensures.judged known))
+
+pub child-add_child-requires-clause-few : goal.child-add_child-requires-clause-few
+child-add_child-requires-clause-few t c = omega (arith, c.in_ok-instances.ensures.number, c.in_ok-want.ensures.instances, c.requires, made_many c.args.made.now)
+
+pub instances_below-returns-in_err-entry-clause-judged : goal.instances_below-returns-in_err-entry-clause-judged
+instances_below-returns-in_err-entry-clause-judged t c =
+    let p = err_from_is_err_and c.from_residual-in_err-entry.result c.from_residual-in_err-entry.ensures.1 in
+    let some : 0 < c.args.room = omega arith in
+    exit_judged _ _ _ _ _ (p.1 ∙ ap (λ x. Err x) p.2)
+    (λ known. instance_refused (modules_of c.args.modules.now.all.now) c.args.room (asked_of c.args.want.now (module_of c.args.found.now)) (here_of c.args.here.now) c.args.met.now.instances (met_of c.args.met.now) _ some
+    (ap (λ xs. judge (met_of c.args.met.now) (entry c.args.want.now.line (map port_of xs))) (sym c.deref.ensures.value) ∙ c.in_err-entry.ensures.judged known))
+
+pub instances_below-returns-in_err-made-clause-judged : goal.instances_below-returns-in_err-made-clause-judged
+instances_below-returns-in_err-made-clause-judged t c =
+    let p = err_from_is_err_and c.from_residual-in_err-made.result c.from_residual-in_err-made.ensures.1 in
+    let some : 0 < c.args.room = omega arith in
+    exit_judged _ _ _ _ _ (p.1 ∙ ap (λ x. Err x) p.2)
+    (λ known. ap (λ (k : ℕ). judge (met_of c.args.met.now) (instance (modules_of c.args.modules.now.all.now) c.args.room (asked_of c.args.want.now (module_of c.args.found.now)) (here_of c.args.here.now) k)) (sym c.next_number-number.ensures)
+    ∙ instance_fault (modules_of c.args.modules.now.all.now) c.args.room (asked_of c.args.want.now (module_of c.args.found.now)) (here_of c.args.here.now) c.next_number-number.result (met_of c.args.met.now) _ _ _ _ some
+    (ap (λ xs. judge (met_of c.args.met.now) (entry c.args.want.now.line (map port_of xs))) (sym c.deref.ensures.value) ∙ c.in_ok-entry.ensures.judged)
+    refl (c.in_ok-path.ensures ∙ (λ i. c.bytes-2.ensures i ++ (codes "." ++ c.bytes-3.ensures i))) (c.in_err-made.ensures.judged known))
+
+pub instances_below-returns-clause-judged : goal.instances_below-returns-clause-judged
+instances_below-returns-clause-judged t c =
+    let some : 0 < c.args.room = omega arith in
+    ap (λ (k : ℕ). judge (met_of c.args.met.now) (instance (modules_of c.args.modules.now.all.now) c.args.room (asked_of c.args.want.now (module_of c.args.found.now)) (here_of c.args.here.now) k)) (sym c.next_number-number.ensures)
+    ∙ instance_done (modules_of c.args.modules.now.all.now) c.args.room (asked_of c.args.want.now (module_of c.args.found.now)) (here_of c.args.here.now) c.next_number-number.result (met_of c.args.met.now) _ _ _ _ _ _ some
+    (ap (λ xs. judge (met_of c.args.met.now) (entry c.args.want.now.line (map port_of xs))) (sym c.deref.ensures.value) ∙ c.in_ok-entry.ensures.judged)
+    refl (c.in_ok-path.ensures ∙ (λ i. c.bytes-2.ensures i ++ (codes "." ++ c.bytes-3.ensures i))) c.in_ok-made.ensures.judged c.in_ok-all.ensures.instances
+
+pub instances_below-returns-clause-number : goal.instances_below-returns-clause-number
+instances_below-returns-clause-number t c = omega (arith, c.next_number-number.ensures)

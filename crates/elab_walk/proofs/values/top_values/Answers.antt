@@ -1,0 +1,23 @@
+use Rattle.std.proofs.Common.{◌∙◌, ap, Err}
+use Rattle.std.proofs.lemmas.Result.{err_from_is_err_and}
+use Rattle.gen_tree.specs.View.{module_of}
+use Rattle.elab_walk.proofs.Exits.{exit_answers}
+use Rattle.elab_walk.proofs.ValueSteps.{top_twice, top_fault, top_done}
+use Rattle.elab_walk.proofs.values.top_values.Goals as goal
+
+pub returns-in_err-names : goal.returns-in_err-names
+returns-in_err-names c =
+    let p = err_from_is_err_and c.from_residual.result c.from_residual.ensures.1 in
+    exit_answers _ _ _ _ (p.1 ∙ ap (λ x. Err x) p.2)
+    (λ known. top_twice (module_of c.args.found.now) c.args.all.now _ (c.in_err-names.ensures.distinct known))
+
+pub returns-in_err-params : goal.returns-in_err-params
+returns-in_err-params c =
+    let p = err_from_is_err_and c.from_residual-in_err-params.result c.from_residual-in_err-params.ensures.1 in
+    exit_answers _ _ _ _ (p.1 ∙ ap (λ x. Err x) p.2)
+    (λ known. top_fault (module_of c.args.found.now) c.args.all.now c.in_ok-names.names c.in_ok-given.given _
+    c.in_ok-names.ensures.distinct c.in_ok-names.ensures.names c.in_ok-given.ensures (c.in_err-params.ensures known))
+
+pub returns : goal.returns
+returns c = top_done (module_of c.args.found.now) c.args.all.now c.in_ok-names.names c.in_ok-given.given c.in_ok-params.params
+    c.in_ok-names.ensures.distinct c.in_ok-names.ensures.names c.in_ok-given.ensures c.in_ok-params.ensures

@@ -1,0 +1,15 @@
+//! The walk over modules, items and instances.
+#![tactic(auto)]
+
+mod asked;
+mod asking;
+mod gather;
+mod item;
+mod made;
+mod modules;
+mod names;
+mod signals;
+mod top;
+mod values;
+
+pub use top::walk;

@@ -1,0 +1,15 @@
+pub mod Agreeing
+pub mod Slots
+pub mod Wholes
+pub mod Checking
+pub mod Lists
+pub mod Threads
+pub mod Moving
+pub mod Sources
+pub mod Folded
+pub mod Cycles
+pub mod Running
+pub mod Keeping
+pub mod Samples
+pub mod KeptTrees
+pub mod Roots

@@ -1,0 +1,15 @@
+pub mod Lists
+pub mod Block
+pub mod Exec
+pub mod Trees
+pub mod Agree
+pub mod Leaves
+pub mod Paths
+pub mod Whole
+pub mod Design
+pub mod Run
+pub mod Accepted
+pub mod States
+pub mod Kept
+pub mod KeptStates
+pub mod Sample

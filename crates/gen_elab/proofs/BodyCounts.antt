@@ -1,0 +1,79 @@
+-- The statements of a body are counted.
+use Rattle.std.proofs.Common.{◌≡◌, ℕ, ◌+◌, ◌≤◌, refl, ap, ◌∙◌, arith}
+use Rattle.gen_tree.specs.Tree as tree
+use Rattle.gen_tree.specs.Tree.{assign, bind, choose, repeat, given, Stmts, no_stmt, stmt, no_else, otherwise}
+use Rattle.elab_core.specs.declared.Count.TheVariants.{Statements}
+use Rattle.elab_core.specs.Walk.{and_then, Seen, one_more}
+use Rattle.elab_core.specs.Numbers.{bound, fam_name, two_numbers, turn_count, holds}
+use Rattle.design_core.specs.Design.{Gens, Stmt, Assign, Let, If, Body, Done, Then}
+use Rattle.elab_core.specs.Elaborated.{added}
+use Rattle.elab_core.specs.Design.{stmt_size, size, else_size}
+use Rattle.elab_core.specs.Elab.{expr, statement, statements, else_body, else_statements}
+use Rattle.gen_elab.proofs.Counts.{Ends, ends_then, ends_as, after_any, Rises, rises_on, stays, turns_keep, ends_either}
+
+pub size_added : (made : Body) (s : Stmt) → size (added made s) ≡ size made + stmt_size s
+size_added Done s = omega arith
+size_added (Then first rest) s = ap (λ n. stmt_size first + n) (size_added rest s) ∙ omega arith
+
+-- as many statements more as were counted, at most, since these counts and this body
+pub record Grows (before : Seen) (made : Body) (after : Seen) (more : Body) : Type 0 where
+  pub rises : Rises before after
+  pub size : size more + before.statements ≤ after.statements + size made
+
+same : (seen : Seen) (made : Body) → Grows seen made seen made
+same seen made = record { rises = stays seen; size = omega arith }
+
+grows_on : (a b c : Seen) (x y z : Body) → Grows a x b y → Grows b y c z → Grows a x c z
+grows_on a b c x y z p q = record { rises = rises_on a b c p.rises q.rises; size = omega (arith, p.size, q.size) }
+
+later : (a b c : Seen) (made more : Body) → Rises a b → Grows b made c more → Grows a made c more
+later a b c made more r p = record { rises = rises_on a b c r p.rises; size = omega (arith, r.statements, p.size) }
+
+-- one statement was counted, and this much inside it
+one : (seen s t : Seen) (made : Body) (x : Stmt) (inside : ℕ) → s ≡ one_more Statements seen → Rises s t → stmt_size x ≡ 1 + inside → inside + s.statements ≤ t.statements → Grows seen made t (added made x)
+one seen s t made x inside is r large within = record {
+  rises = record { instances = omega (arith, ap (λ (u : Seen). u.instances) is, r.instances); statements = omega (arith, ap (λ (u : Seen). u.statements) is, r.statements) };
+  size = omega (arith, size_added made x, large, within, ap (λ (u : Seen). u.statements) is);
+}
+
+mutual
+  unfolding statement Ends and_then
+
+  pub stmt_counts : (s : tree.Stmt) (gens : Gens) (made : Body) (seen : Seen) → Ends (λ t more. Grows seen made t more) seen (statement s gens made)
+  stmt_counts (assign line f e) gens made seen =
+      after_any _ (fam_name line gens f) _ (one_more Statements seen) (λ s x r. after_any _ (expr line gens e) _ s (λ t v q.
+      one seen (one_more Statements seen) t made (Assign 0 line gens x v) 0 refl (rises_on _ s t r q) refl (omega (arith, r.statements, q.statements))))
+  stmt_counts (bind line f e) gens made seen =
+      after_any _ (fam_name line gens f) _ (one_more Statements seen) (λ s x r. after_any _ (expr line gens e) _ s (λ t v q.
+      one seen (one_more Statements seen) t made (Let 0 line gens x v) 0 refl (rises_on _ s t r q) refl (omega (arith, r.statements, q.statements))))
+  stmt_counts (choose line c first second) gens made seen =
+      after_any _ (expr line gens c) _ (one_more Statements seen) (λ s test r. ends_then _ _ (statements first gens Done) _ s (stmts_counts first gens Done s) (λ t yes_body p.
+      ends_then _ _ (else_body second gens) _ t (else_counts second gens t) (λ u no_body q.
+      one seen (one_more Statements seen) u made (If 0 line gens test yes_body no_body) (size yes_body + else_size no_body) refl (rises_on _ s u r (rises_on s t u p.rises q.0)) (omega arith)
+      (omega (arith, r.statements, p.size, q.1)))))
+  stmt_counts (repeat line x from to body) gens made seen =
+      after_any _ (two_numbers line gens from to) _ seen (λ s range r. after_any _ (turn_count line range.0 range.1) _ s (λ t count q.
+      turns_keep (λ u more. Grows seen made u more) line (λ k more. statements body (bound x k gens) more) range.0 count made t
+      (λ what u more p. record { rises = record { instances = p.rises.instances; statements = p.rises.statements }; size = p.size })
+      (λ k u more p. ends_as _ _ (statements body (bound x k gens) more) u (stmts_counts body (bound x k gens) more u) (λ v then_more g. grows_on seen u v made more then_more p g))
+      (record { rises = rises_on seen s t r q; size = omega (arith, r.statements, q.statements) })))
+  stmt_counts (given line left cmp right first second) gens made seen =
+      after_any _ (two_numbers line gens left right) _ seen (λ s pair r.
+      ends_either _ (holds cmp pair.0 pair.1) (statements first gens made) (else_statements second gens made) s
+      (ends_as _ _ (statements first gens made) s (stmts_counts first gens made s) (λ t more p. later seen s t made more r p))
+      (ends_as _ _ (else_statements second gens made) s (else_stmts_counts second gens made s) (λ t more p. later seen s t made more r p)))
+
+  pub stmts_counts : (body : Stmts) (gens : Gens) (made : Body) (seen : Seen) → Ends (λ t more. Grows seen made t more) seen (statements body gens made)
+  stmts_counts no_stmt gens made seen = same seen made
+  stmts_counts (stmt s rest) gens made seen =
+      ends_then _ _ (statement s gens made) (λ more. statements rest gens more) seen (stmt_counts s gens made seen) (λ t more p.
+      ends_as _ _ (statements rest gens more) t (stmts_counts rest gens more t) (λ u all q. grows_on seen t u made more all p q))
+
+  else_counts : (e : tree.Else) (gens : Gens) (seen : Seen) → Ends (λ t made. Rises seen t × (else_size made + seen.statements ≤ t.statements)) seen (else_body e gens)
+  else_counts no_else gens seen = (stays seen, omega arith)
+  else_counts (otherwise body) gens seen =
+      ends_then _ _ (statements body gens Done) _ seen (stmts_counts body gens Done seen) (λ t made p. (p.rises, omega (arith, p.size)))
+
+  else_stmts_counts : (e : tree.Else) (gens : Gens) (made : Body) (seen : Seen) → Ends (λ t more. Grows seen made t more) seen (else_statements e gens made)
+  else_stmts_counts no_else gens made seen = same seen made
+  else_stmts_counts (otherwise body) gens made seen = stmts_counts body gens made seen

@@ -1,0 +1,62 @@
+ghost use Rattle.std.specs.Prelude.{◌≡◌, ◌<◌, ◌^◌, map};
+ghost use Rattle.design_core.specs.View.{block_of, body_of, else_of, stmt_of};
+ghost use Rattle.elab_core.specs.Design.{blocks_size, size, else_size, stmt_size};
+
+use design_core::{Block, Stmt};
+
+/// How many statements stand in a body, with those inside others.
+#[cycle(counting)]
+#[tactic(auto, using(crate::proofs::SizeLemmas::sizes))]
+pub(crate) fn count(body: &[Stmt]) -> u32
+    requires { size (body_of body.now) < 2 ^ 32 }
+    ensures { result ≡ size (body_of body.now) }
+{
+    let mut total = 0;
+    for stmt in body {
+        total += count_stmt(stmt);
+    }
+    total
+}
+
+/// How many statements a statement is, with those inside it.
+#[cycle(counting)]
+#[tactic(auto, using(design_core::proofs::Views::design_views, crate::proofs::SizeLemmas::sizes))]
+fn count_stmt(stmt: &Stmt) -> u32
+    requires { stmt_size (stmt_of stmt.now) < 2 ^ 32 }
+    ensures { result ≡ stmt_size (stmt_of stmt.now) }
+{
+    match stmt {
+        Stmt::Assign { .. } => 1,
+        Stmt::Let { .. } => 1,
+        Stmt::If { yes, no, .. } => {
+            let first = count(yes);
+            let second = count_else(no);
+            1 + first + second
+        }
+    }
+}
+
+/// How many statements an `else` holds, if one stands there.
+#[cycle(counting)]
+fn count_else(no: &Option<Vec<Stmt>>) -> u32
+    requires { else_size (else_of no.now) < 2 ^ 32 }
+    ensures { result ≡ else_size (else_of no.now) }
+{
+    match no {
+        Some(body) => count(body),
+        None => 0,
+    }
+}
+
+/// How many statements blocks have.
+#[tactic(auto, using(crate::proofs::SizeLemmas::sizes))]
+pub(crate) fn count_blocks(blocks: &[Block]) -> u32
+    requires { blocks_size (map block_of blocks.now) < 2 ^ 32 }
+    ensures { result ≡ blocks_size (map block_of blocks.now) }
+{
+    let mut total = 0;
+    for block in blocks {
+        total += count(&block.body);
+    }
+    total
+}
