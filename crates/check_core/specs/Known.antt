@@ -1,5 +1,5 @@
 -- Which names are known.
-use Rattle.std.specs.Prelude.{Bool, false, ◌||◌, List, bytes_eq}
+use Rattle.std.specs.Prelude.{◌≡◌, Bool, false, ◌||◌, ◌&&◌, List, ◌++◌, bytes_eq}
 use Rattle.std.specs.List.{list_any}
 use Rattle.exec_core.specs.Block as blocks
 
@@ -25,3 +25,12 @@ with y known = λ x. bytes_eq x y || known x
 -- these as well
 abbrev pub either : Known → Known → Known
 either new known = λ x. new x || known x
+
+-- those that both know
+abbrev pub both : Known → Known → Known
+both first second = λ x. first x && second x
+
+-- a list of names that begins with another
+pub record Begins (old new : List Name) : Type 0 where
+  pub more : List Name
+  pub is : new ≡ old ++ more

@@ -1,5 +1,5 @@
-ghost use Rattle.std.specs.Prelude.{◌≡◌, [], ◌∷◌, ◌++◌, IfOk, OnOk, not, if◌then◌else◌};
-ghost use Rattle.check_core.specs.Known.{has, none, with};
+ghost use Rattle.std.specs.Prelude.{◌≡◌, ◌≤◌, [], ◌∷◌, ◌++◌, length, take, drop, IfOk, OnOk, not, if◌then◌else◌};
+ghost use Rattle.check_core.specs.Known.{Begins, both, either, has, none, with};
 
 use indexmap::IndexSet;
 use std::alloc::Global;
@@ -53,5 +53,50 @@ impl NameSet {
     {
         let added = self.put(alloc, name)?;
         Ok(added)
+    }
+
+    /// How many names there are.
+    pub fn count(&self) -> usize
+        ensures { result ≡ length self.now }
+    {
+        self.names.len()
+    }
+
+    /// Moves the names from a place on into a new set. The place is at most their number.
+    pub fn split_off(&mut self, at: usize) -> Result<NameSet, NoMemory>
+        requires { at ≤ length self.old }
+        ensures kept { OnOk result (self.new ≡ take at self.old) }
+        ensures tail { IfOk result (λ tail. tail ≡ drop at self.old) }
+    {
+        Ok(NameSet {
+            names: self.names.split_off(at)?,
+        })
+    }
+
+    /// Puts one of two sets' names in, if it is in the other too.
+    fn insert_if(&mut self, alloc: Global, name: &[u8], other: &NameSet) -> Result<(), NoMemory>
+        ensures known { OnOk result (has self.new ≡ (if has other.now name.now then with name.now (has self.old) else has self.old)) }
+        ensures before { OnOk result (Begins self.old self.new) }
+    {
+        if other.contains(name) {
+            self.insert(alloc, name)?;
+        }
+        Ok(())
+    }
+
+    /// Puts the names in that two sets have both, behind those that are there.
+    pub fn insert_common(
+        &mut self,
+        alloc: Global,
+        first: &NameSet,
+        second: &NameSet,
+    ) -> Result<(), NoMemory>
+        ensures known { OnOk result (has self.new ≡ either (has self.old) (both (has first.now) (has second.now))) }
+        ensures before { OnOk result (Begins self.old self.new) }
+    {
+        for name in first.names.iter() {
+            self.insert_if(alloc, name, second)?;
+        }
+        Ok(())
     }
 }

@@ -1,0 +1,53 @@
+-- What is assigned on every path so far, while a block is walked.
+use Rattle.std.specs.Prelude.{ℕ, Bool, not, ◌||◌, ◌&&◌, if◌then◌else◌, List, [], ◌∷◌, Option}
+use Rattle.design_core.specs.Design.{Stmt, Assign, Let, If, Body, Else}
+use Rattle.check_core.specs.declared.fault.CheckFault.{CheckFault}
+use Rattle.check_core.specs.declared.fault.CheckFault.TheVariants.{Latch}
+use Rattle.check_core.specs.Known.{Name, Known, with}
+use Rattle.check_core.specs.Faults.{spot}
+use Rattle.check_core.specs.Names.{unless_known}
+use Rattle.check_core.specs.Drivers.{Drive}
+use Rattle.check_core.specs.Paths.{skips, body_skips, else_skips}
+
+-- the watched names that some path has not assigned
+abbrev pub missing : Known → Known → Known
+missing watched assigned = λ y. watched y && not (assigned y)
+
+-- what every path has assigned after a statement, after statements and after what an `else` holds
+abbrev pub after_stmt : Known → Stmt → Known
+after_stmt assigned s = λ y. assigned y || not (skips s y)
+
+abbrev pub after_body : Known → Body → Known
+after_body assigned b = λ y. assigned y || not (body_skips b y)
+
+abbrev pub after_else : Known → Else → Known
+after_else assigned e = λ y. assigned y || not (else_skips e y)
+
+-- after both branches of an `if`
+abbrev pub after_both : Known → Body → Else → Known
+after_both assigned first second = λ y. assigned y || not (body_skips first y || else_skips second y)
+
+-- the own names of statements, one after another: targets, unless the block is clocked, and lets
+abbrev pub own_after : Bool → Known → Stmt → Known
+own_after clocked known (Assign slot line gens x e) = if clocked then known else with x known
+own_after clocked known (Let slot line gens x e) = with x known
+own_after clocked known (If slot line gens c first second) = known
+
+abbrev pub own_among : Bool → Known → List Stmt → Known
+own_among clocked known [] = known
+own_among clocked known (s ∷ rest) = own_among clocked (own_after clocked known s) rest
+
+-- the lets of statements, without those inside them
+abbrev pub let_names : List Stmt → List Name
+let_names [] = []
+let_names (Assign slot line gens x e ∷ rest) = let_names rest
+let_names (Let slot line gens x e ∷ rest) = x ∷ let_names rest
+let_names (If slot line gens c first second ∷ rest) = let_names rest
+
+-- a target that is not among those that every path assigns, in a block of this line
+abbrev pub left_out : Known → ℕ → Drive → Option CheckFault
+left_out assigned line d = unless_known (assigned d.1) (Latch (spot line d.1))
+
+-- what every path through statements assigns
+abbrev pub assigned_in : Body → Known
+assigned_in b = λ y. not (body_skips b y)
