@@ -12,7 +12,7 @@ use text_core::{Listed, Text};
 pub(crate) type Word = (&'static str, i64);
 
 /// A name as a text.
-fn name(text: &Text) -> Result<&str, Fail> {
+pub(crate) fn name(text: &Text) -> Result<&str, Fail> {
     Ok(std::str::from_utf8(text.bytes())?)
 }
 
@@ -29,7 +29,7 @@ fn count(what: Count) -> &'static str {
 }
 
 /// A fault with its number, its name and its fields.
-fn fault(alloc: Global, fault: &ElabFault) -> Result<String, Fail> {
+pub(crate) fn fault(alloc: Global, fault: &ElabFault) -> Result<String, Fail> {
     Ok(match fault {
         ElabFault::UnknownModule { line, name: x } => {
             format!(in alloc; "5 UnknownModule line {line} name {}", name(x)?)?
@@ -127,7 +127,7 @@ fn design(alloc: Global, design: &Design) -> Result<String, Fail> {
 }
 
 /// A source elaborated from a top with parameters; None: the case itself is at fault.
-fn elaboration(
+pub(crate) fn elaboration(
     alloc: Global,
     source: &[u8],
     top: &str,
