@@ -22,8 +22,10 @@ use Rattle.first_form.proofs.RunLemmas.{is_trail}
 use Rattle.first_form.proofs.Fitting.{read_fits}
 use Rattle.dbg_app.specs.Command.{Row}
 use Rattle.dbg_app.specs.declared.design_fault.DesignFault.{DesignFault}
-use Rattle.dbg_app.specs.declared.design_fault.DesignFault.TheVariants.{Text, NotYet}
-use Rattle.dbg_app.specs.Answers.{Answer, Contents, Asks, NoDesign, NoStimulus, Trail, IsDesign, IsDesignCause, RefusesDesign, RefusesStimulus, ShowsTrail, usage_fault, design_fault, stimulus_fault, IfAsked}
+use Rattle.dbg_app.specs.declared.design_fault.DesignFault.TheVariants.{Text, Elaboration, Check, NotYet}
+use Rattle.dbg_app.specs.Refusals.{refusal_of}
+use Rattle.gen_tree.specs.Tree as wide
+use Rattle.dbg_app.specs.Answers.{Answer, Contents, Asks, NoDesign, NoStimulus, Trail, IsDesign, IsDesignCause, Refuses, ReadsRefused, RefusesDesign, RefusesStimulus, ShowsTrail, usage_fault, design_fault, stimulus_fault, IfAsked}
 use Rattle.dbg_app.specs.Judged.{JudgesRow, HasRows, TakesText, TakesTextFront, judged_status}
 use Rattle.dbg_app.specs.Outcome.{is_status, TakesDesignLine, TakesStimulusLine, TakesSome, EndsAsAsked, Completes}
 use Rattle.dbg_app.specs.declared.judge.Judged.{Judged}
@@ -108,7 +110,30 @@ front_taken (Some files) (Some row) (judged.NoStimulus fault) old new j h t = in
 front_taken (Some files) (Some row) (Accepted form stim) old new j h t =
     inr (record { status = 0; text = trail_text (design_of form) h.1.0; asked = j h.1.0 h.1.1; taken = t.taken (trail_text (design_of form) h.1.0) (h.1.0, h.1.1, refl) })
 
+-- ---- the whole text
+
+pub done_taken : (told : Option Contents) (row : Option Row) (judged : Judged) (status : ℕ) (old new : Option (List ℕ)) → IfAsked told row (λ files row. JudgesRow files row judged) → HasRows judged → status ≡ judged_status judged → TakesText judged old new
+    → IfAsked told row (λ files row. EndsAsAsked files row status old new)
+done_taken None row judged status old new j h e t = tt
+done_taken (Some files) None judged status old new j h e t = tt
+done_taken (Some files) (Some row) NoCommand status old new j h e t = absurd j
+done_taken (Some files) (Some row) (judged.NoDesign fault) status old new j h e t =
+    record { text = design_fault fault; asked = subst (λ (s : ℕ). Asks files row (record { status = s; text = design_fault fault })) (sym e) j; taken = t.taken (design_fault fault) refl }
+done_taken (Some files) (Some row) (judged.NoStimulus fault) status old new j h e t =
+    record { text = stimulus_fault fault; asked = subst (λ (s : ℕ). Asks files row (record { status = s; text = stimulus_fault fault })) (sym e) j; taken = t.taken (stimulus_fault fault) refl }
+done_taken (Some files) (Some row) (Accepted form stim) status old new j h e t = record {
+  text = trail_text (design_of form) h.1.0;
+  asked = subst (λ (s : ℕ). Asks files row (record { status = s; text = trail_text (design_of form) h.1.0 })) (sym e) (j h.1.0 h.1.1);
+  taken = t.taken (trail_text (design_of form) h.1.0) (h.1.0, h.1.1, refl);
+}
+
 -- ---- one answer
+
+abbrev is_not_yet : DesignFault → Bool
+is_not_yet (Text fault) = false
+is_not_yet (Elaboration fault) = false
+is_not_yet (Check fault) = false
+is_not_yet NotYet = true
 
 some_one : {A : Type 0} (o : Option A) (x y : A) → o ≡ Some x → o ≡ Some y → x ≡ y
 some_one o x y p q = let both : Some x ≡ Some y = sym p ∙ q in cc
@@ -126,13 +151,61 @@ form_of top source tree d = second (bytes_eq tree.name top) (is_form tree) d.for
 -- a text that is a design is refused for no cause
 no_cause : (top source : List ℕ) (tree : Module) (fault : DesignFault) → IsDesign top source tree → IsDesignCause top source fault → ⊥
 no_cause top source tree (Text fault) design c = c.1 (no_fault source (wide_module tree ∷ []) fault design.reads c.0)
-no_cause top source tree NotYet design c = c.2 tree design
+no_cause top source tree (Elaboration fault) design c =
+    let none : refusal_of c.modules top ≡ None = subst (λ ms. refusal_of ms top ≡ None) (one_reading source _ _ design.reads c.reads) design.accepted in
+    let no : Some (Elaboration fault) ≡ None = sym c.refuses ∙ none in cc
+no_cause top source tree (Check fault) design c =
+    let none : refusal_of c.modules top ≡ None = subst (λ ms. refusal_of ms top ≡ None) (one_reading source _ _ design.reads c.reads) design.accepted in
+    let no : Some (Check fault) ≡ None = sym c.refuses ∙ none in cc
+no_cause top source tree NotYet design c = c.refuses.1 tree (one_reading source _ _ c.reads design.reads) design.form
+
+-- modules are refused for one thing
+the_refusal : (top : List ℕ) (modules : List wide.Module) (fault : DesignFault) → Refuses top modules fault → refusal_of modules top ≡ (if is_not_yet fault then None else Some fault)
+the_refusal top modules (Text fault) r = absurd r
+the_refusal top modules (Elaboration fault) r = r
+the_refusal top modules (Check fault) r = r
+the_refusal top modules NotYet r = r.0
+
+same_refusal : (a b : DesignFault) → (if is_not_yet a then None else Some a) ≡ (if is_not_yet b then None else Some b) → a ≡ b
+same_refusal NotYet NotYet e = refl
+same_refusal NotYet (Text b) e = absurd (let no : None ≡ Some (Text b) = e in cc)
+same_refusal NotYet (Elaboration b) e = absurd (let no : None ≡ Some (Elaboration b) = e in cc)
+same_refusal NotYet (Check b) e = absurd (let no : None ≡ Some (Check b) = e in cc)
+same_refusal (Text a) NotYet e = absurd (let no : Some (Text a) ≡ None = e in cc)
+same_refusal (Elaboration a) NotYet e = absurd (let no : Some (Elaboration a) ≡ None = e in cc)
+same_refusal (Check a) NotYet e = absurd (let no : Some (Check a) ≡ None = e in cc)
+same_refusal (Text a) (Text b) e = cc
+same_refusal (Text a) (Elaboration b) e = cc
+same_refusal (Text a) (Check b) e = cc
+same_refusal (Elaboration a) (Text b) e = cc
+same_refusal (Elaboration a) (Elaboration b) e = cc
+same_refusal (Elaboration a) (Check b) e = cc
+same_refusal (Check a) (Text b) e = cc
+same_refusal (Check a) (Elaboration b) e = cc
+same_refusal (Check a) (Check b) e = cc
+
+one_refused : (top source : List ℕ) (a b : DesignFault) → ReadsRefused top source a → ReadsRefused top source b → a ≡ b
+one_refused top source a b p q =
+    let modules : p.modules ≡ q.modules = one_reading source _ _ p.reads q.reads in
+    same_refusal a b (sym (the_refusal top p.modules a p.refuses) ∙ ap (λ ms. refusal_of ms top) modules ∙ the_refusal top q.modules b q.refuses)
 
 -- a text is refused for one cause
 one_cause : (top source : List ℕ) (a b : DesignFault) → IsDesignCause top source a → IsDesignCause top source b → a ≡ b
 one_cause top source (Text a) (Text b) p q = ap Text (one_fault source a b p.0 q.0 p.1 q.1)
-one_cause top source (Text a) NotYet p q = absurd (p.1 (no_fault source q.0 a q.1 p.0))
-one_cause top source NotYet (Text b) p q = absurd (q.1 (no_fault source p.0 b p.1 q.0))
+one_cause top source (Text a) (Elaboration b) p q = absurd (p.1 (no_fault source q.modules a q.reads p.0))
+one_cause top source (Text a) (Check b) p q = absurd (p.1 (no_fault source q.modules a q.reads p.0))
+one_cause top source (Text a) NotYet p q = absurd (p.1 (no_fault source q.modules a q.reads p.0))
+one_cause top source (Elaboration a) (Text b) p q = absurd (q.1 (no_fault source p.modules b p.reads q.0))
+one_cause top source (Elaboration a) (Elaboration b) p q = one_refused top source _ _ p q
+one_cause top source (Elaboration a) (Check b) p q = one_refused top source _ _ p q
+one_cause top source (Elaboration a) NotYet p q = one_refused top source _ _ p q
+one_cause top source (Check a) (Text b) p q = absurd (q.1 (no_fault source p.modules b p.reads q.0))
+one_cause top source (Check a) (Elaboration b) p q = one_refused top source _ _ p q
+one_cause top source (Check a) (Check b) p q = one_refused top source _ _ p q
+one_cause top source (Check a) NotYet p q = one_refused top source _ _ p q
+one_cause top source NotYet (Text b) p q = absurd (q.1 (no_fault source p.modules b p.reads q.0))
+one_cause top source NotYet (Elaboration b) p q = one_refused top source _ _ p q
+one_cause top source NotYet (Check b) p q = one_refused top source _ _ p q
 one_cause top source NotYet NotYet p q = refl
 
 no_source : (files : Contents) (row : Row) (a : Answer) → (r : RefusesDesign files row a) → (source : List ℕ) → files row.source ≡ Some source → (tree : Module) → IsDesign row.top source tree → ⊥

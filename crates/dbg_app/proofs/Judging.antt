@@ -1,6 +1,6 @@
 -- What was judged, file by file, is what the command asks for.
 use Rattle.std.proofs.Common.{◌≡◌, ℕ, Bool, true, false, List, [], ◌∷◌, Option, Some, None, Result, Ok, Err, IfOk, IfSome, ◌≢◌, refl, sym, ◌∙◌, subst, if◌then◌else◌}
-use Rattle.std.specs.Prelude.{ok_or}
+use Rattle.std.specs.Prelude.{ok_or, option_map}
 use Rattle.bv_core.specs.Value.{Bits}
 use Rattle.gen_tree.specs.Tree as wide
 use Rattle.gen_text.specs.Source.{Reads}
@@ -20,9 +20,19 @@ use Rattle.exec_core.specs.Whole.{Place}
 use Rattle.design_core.specs.TrailText.{trail_text}
 use Rattle.first_form.specs.Elaborated.{design_of}
 use Rattle.first_form.specs.Runs.{GivesRows, HasRun, EachRuns}
-use Rattle.dbg_app.specs.Answers.{Contents, Asks, NoStimulus, Trail, stimulus_fault}
-use Rattle.dbg_app.specs.declared.design_fault.DesignFault.TheVariants.{NotYet}
-use Rattle.dbg_app.specs.Judged.{IsOneOrNone, IsDesignOrNot, JudgesSource, JudgesStimulus, IsWhole}
+use Rattle.dbg_app.specs.Answers.{Contents, Asks, NoStimulus, Trail, Refuses, stimulus_fault}
+use Rattle.dbg_app.specs.declared.design_fault.DesignFault.{DesignFault}
+use Rattle.dbg_app.specs.declared.design_fault.DesignFault.TheVariants.{Text, Elaboration, Check, NotYet}
+use Rattle.dbg_app.specs.Refusals.{refusal_of, refusal_after, told_fault}
+use Rattle.design_core.specs.Design.{Design}
+use Rattle.elab_core.specs.Walk as walk
+use Rattle.elab_core.specs.Design.{elaborated}
+use Rattle.elab_core.specs.Results as elab_results
+use Rattle.elab_core.specs.declared.fault.ElabFault.{ElabFault}
+use Rattle.elab_core.specs.declared.fault.ElabFault.TheVariants as elab_faults
+use Rattle.check_core.specs.declared.fault.CheckFault.{CheckFault}
+use Rattle.check_core.specs.Verdict.{verdict}
+use Rattle.dbg_app.specs.Judged.{IsOneOrNone, IsAcceptedOrNot, IsDesignOrNot, JudgesSource, JudgesStimulus, IsWhole}
 
 -- a module of the first form is one in one way
 pub same_form : (m n : Module) → wide_module m ∷ [] ≡ wide_module n ∷ [] → m ≡ n
@@ -41,11 +51,51 @@ pub accepted : {E : Type 0} (top : List ℕ) (modules : List wide.Module) (tree 
 accepted top modules tree (Ok o) are e = accepted_by (is_first_form top tree) top modules tree o are refl e
 accepted top modules tree (Err fault) are e = tt
 
+-- modules that are refused for nothing else were judged by their form
+pub formed_so : (top : List ℕ) (modules : List wide.Module) (found : Option Module) → refusal_of modules top ≡ None → IsOneOrNone top modules found → IsAcceptedOrNot top modules (ok_or found NotYet)
+formed_so top modules (Some tree) clean one = record { accepted = clean; one = one }
+formed_so top modules None clean none = (clean, λ tree are form. none tree (record { are = are; form = form }))
+
+-- modules that are refused were judged so
+pub refused_so : (top : List ℕ) (modules : List wide.Module) (fault : DesignFault) → refusal_of modules top ≡ Some fault → Refuses top modules fault
+refused_so top modules fault is = by_result (elaborated modules top []) fault is is
+  where
+    by_verdict : (found : Option CheckFault) (fault : DesignFault) → option_map (λ f. Check f) found ≡ Some fault → refusal_of modules top ≡ Some fault → Refuses top modules fault
+    by_verdict None fault e is = absurd (let no : None ≡ Some fault = e in cc)
+    by_verdict (Some f) (Text fault) e is = absurd (let no : Some (Check f) ≡ Some (Text fault) = e in cc)
+    by_verdict (Some f) (Elaboration fault) e is = absurd (let no : Some (Check f) ≡ Some (Elaboration fault) = e in cc)
+    by_verdict (Some f) (Check fault) e is = is
+    by_verdict (Some f) NotYet e is = absurd (let no : Some (Check f) ≡ Some NotYet = e in cc)
+
+    by_result : (found : Result Design walk.Fault) (fault : DesignFault) → refusal_after found ≡ Some fault → refusal_of modules top ≡ Some fault → Refuses top modules fault
+    by_result (Ok d) fault e is = by_verdict (verdict d) fault e is
+    by_result (Err f) (Text fault) e is = absurd (let no : Some (Elaboration (told_fault f)) ≡ Some (Text fault) = e in cc)
+    by_result (Err f) (Elaboration fault) e is = is
+    by_result (Err f) (Check fault) e is = absurd (let no : Some (Elaboration (told_fault f)) ≡ Some (Check fault) = e in cc)
+    by_result (Err f) NotYet e is = absurd (let no : Some (Elaboration (told_fault f)) ≡ Some NotYet = e in cc)
+
 -- a text that is read as these modules was judged as they are
-pub read_so : (top source : List ℕ) (modules : List wide.Module) (found : Option Module) → Reads source modules → IsOneOrNone top modules found → IsDesignOrNot top source (ok_or found NotYet)
-read_so top source modules (Some tree) reads one = record { reads = subst (λ (ms : List wide.Module). Reads source ms) one.are reads; form = one.form }
-read_so top source modules None reads none =
-    (modules, reads, λ tree design. none tree (record { are = one_reading source modules (wide_module tree ∷ []) reads design.reads; form = design.form }))
+pub read_so : (top source : List ℕ) (modules : List wide.Module) (found : Result Module DesignFault) → Reads source modules → IsAcceptedOrNot top modules found → IsDesignOrNot top source found
+read_so top source modules (Ok tree) reads is = record {
+  reads = subst (λ (ms : List wide.Module). Reads source ms) is.one.are reads;
+  accepted = subst (λ (ms : List wide.Module). refusal_of ms top ≡ None) is.one.are is.accepted;
+  form = is.one.form;
+}
+read_so top source modules (Err (Text fault)) reads is = absurd is
+read_so top source modules (Err (Elaboration fault)) reads is = record { modules = modules; reads = reads; refuses = is }
+read_so top source modules (Err (Check fault)) reads is = record { modules = modules; reads = reads; refuses = is }
+read_so top source modules (Err NotYet) reads is = record { modules = modules; reads = reads; refuses = is }
+
+-- ---- what elaboration and the checks answer, as a refusal
+
+-- a faulty event is told as the fault that it is
+pub told_again : (fault : ElabFault) → elab_results.is_fault fault ≡ true → told_fault (elab_results.fault_of fault) ≡ fault
+told_again (elab_faults.UnknownModule line x) e = refl
+told_again (elab_faults.UnknownParameter line x) e = refl
+told_again (elab_faults.ElabRange line) e = refl
+told_again (elab_faults.TooDeep line x) e = refl
+told_again (elab_faults.TooLarge line what limit) e = refl
+told_again elab_faults.NoMemory e = absurd cc
 
 -- what is answered for a text is what the definition says, where memory did not run out
 pub refused_for : (fault : StimFault) (said : Result (List (List Bits)) StimFault) → fault ≢ NoMemory → Gives {X = Stimulus} (λ stim. stim.rows) (Err fault) said → said ≡ Err fault

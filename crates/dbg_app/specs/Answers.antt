@@ -19,7 +19,8 @@ use Rattle.first_form.specs.Elaborated.{design_of}
 use Rattle.first_form.specs.Ports.{inputs_of, ArePortsOf}
 use Rattle.first_form.specs.Runs.{GivesRows}
 use Rattle.dbg_app.specs.declared.design_fault.DesignFault.{DesignFault}
-use Rattle.dbg_app.specs.declared.design_fault.DesignFault.TheVariants.{Text, NotYet}
+use Rattle.dbg_app.specs.declared.design_fault.DesignFault.TheVariants.{Text, Elaboration, Check, NotYet}
+use Rattle.dbg_app.specs.Refusals.{elab_fault, check_fault, refusal_of}
 use Rattle.dbg_app.specs.Command.{Row}
 
 -- a status, and the text that goes with it
@@ -42,6 +43,8 @@ text_fault text_faults.NoMemory = []
 -- the line of a source that is refused
 abbrev pub design_fault : DesignFault → List ℕ
 design_fault (Text fault) = text_fault fault
+design_fault (Elaboration fault) = elab_fault fault
+design_fault (Check fault) = check_fault fault
 design_fault NotYet = codes "design fault 0 NotYet\n"
 
 -- the line of a stimulus that is refused: the number and the name of the refusal, and its row and column where it has them
@@ -56,15 +59,32 @@ stimulus_fault NoMemory = []
 abbrev pub Contents : Type 0
 Contents = List ℕ → Option (List ℕ)
 
--- the text is a source of the first form, whose module this is
+-- the text is a source of the first form, whose module this is, and its design is accepted
 pub record IsDesign (top source : List ℕ) (tree : Module) : Type 0 where
   pub reads : Reads source (wide_module tree ∷ [])
+  pub accepted : refusal_of (wide_module tree ∷ []) top ≡ None
   pub form : is_first_form top tree ≡ true
 
--- why a text is no design: it is not read for this cause; or it is read, and no module of the first form with this name reads it
+-- why modules that were read are no design: their top is not elaborated, or its design is not accepted, for this cause; or it is
+-- accepted, and they are no module of the first form with this name
+abbrev pub Refuses : List ℕ → List wide.Module → DesignFault → Type 0
+Refuses top modules (Text fault) = ⊥
+Refuses top modules (Elaboration fault) = refusal_of modules top ≡ Some (Elaboration fault)
+Refuses top modules (Check fault) = refusal_of modules top ≡ Some (Check fault)
+Refuses top modules NotYet = (refusal_of modules top ≡ None) × ((tree : Module) → modules ≡ wide_module tree ∷ [] → is_first_form top tree ≡ true → ⊥)
+
+-- a text is read as modules that are refused so
+pub record ReadsRefused (top source : List ℕ) (fault : DesignFault) : Type 0 where
+  pub modules : List wide.Module
+  pub reads : Reads source modules
+  pub refuses : Refuses top modules fault
+
+-- why a text is no design: it is not read for this cause; or it is read, and refused so
 abbrev pub IsDesignCause : List ℕ → List ℕ → DesignFault → Type 0
 IsDesignCause top source (Text fault) = IsCause source fault × (fault ≢ text_faults.NoMemory)
-IsDesignCause top source NotYet = (modules : List wide.Module) × Reads source modules × ((tree : Module) → IsDesign top source tree → ⊥)
+IsDesignCause top source (Elaboration fault) = ReadsRefused top source (Elaboration fault)
+IsDesignCause top source (Check fault) = ReadsRefused top source (Check fault)
+IsDesignCause top source NotYet = ReadsRefused top source NotYet
 
 -- the source is refused, with the line of its refusal
 pub record RefusesDesign (files : Contents) (row : Row) (answer : Answer) : Type 0 where

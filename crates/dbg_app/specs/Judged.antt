@@ -1,10 +1,9 @@
 -- What was judged is what is asked for.
-use Rattle.std.specs.Prelude.{◌≡◌, ◌≢◌, ◌<◌, ◌≤◌, ℕ, true, List, [], ◌∷◌, Option, Some, None, Result, Ok, Err, Vec, length}
+use Rattle.std.specs.Prelude.{◌≡◌, ◌≢◌, ◌<◌, ◌≤◌, ℕ, true, false, List, [], ◌∷◌, Option, Some, None, Result, Ok, Err, Vec, length}
 use Rattle.std.specs.declared.alloc.Global.{Global}
 use Rattle.io_edge.specs.Taken.{Appends, AppendsFront}
 use Rattle.bv_core.specs.Value.{Bits}
 use Rattle.gen_tree.specs.Tree as wide
-use Rattle.gen_text.specs.declared.TextFault.TheVariants as text_faults
 use Rattle.first_tree.specs.declared.Module.{Module}
 use Rattle.first_tree.specs.Wide.{wide_module}
 use Rattle.first_form.specs.Form.{is_first_form}
@@ -19,9 +18,9 @@ use Rattle.stim_text.specs.Stimulus.{Stimulus, IsStimulus}
 use Rattle.stim_text.specs.declared.StimFault.{StimFault}
 use Rattle.stim_text.specs.declared.StimFault.TheVariants.{NoMemory}
 use Rattle.dbg_app.specs.Command.{Row}
+use Rattle.dbg_app.specs.Refusals.{is_no_memory, refusal_of}
 use Rattle.dbg_app.specs.declared.design_fault.DesignFault.{DesignFault}
-use Rattle.dbg_app.specs.declared.design_fault.DesignFault.TheVariants.{Text}
-use Rattle.dbg_app.specs.Answers.{Contents, Asks, IsDesign, IsDesignCause, usage_fault, design_fault, stimulus_fault}
+use Rattle.dbg_app.specs.Answers.{Contents, Asks, IsDesign, IsDesignCause, Refuses, usage_fault, design_fault, stimulus_fault}
 use Rattle.dbg_app.specs.declared.judge.Judged.{Judged}
 use Rattle.dbg_app.specs.declared.judge.Judged.TheVariants.{NoCommand, NoDesign, NoStimulus, Accepted}
 
@@ -40,6 +39,15 @@ abbrev pub IsOneOrNone : List ℕ → List wide.Module → Option Module → Typ
 IsOneOrNone top modules (Some tree) = IsOne top modules tree
 IsOneOrNone top modules None = (tree : Module) → IsOne top modules tree → ⊥
 
+-- these modules are a design that is accepted, and this module of the first form; or they are refused
+pub record IsAccepted (top : List ℕ) (modules : List wide.Module) (tree : Module) : Type 0 where
+  pub accepted : refusal_of modules top ≡ None
+  pub one : IsOne top modules tree
+
+abbrev pub IsAcceptedOrNot : List ℕ → List wide.Module → Result Module DesignFault → Type 0
+IsAcceptedOrNot top modules (Ok tree) = IsAccepted top modules tree
+IsAcceptedOrNot top modules (Err fault) = Refuses top modules fault
+
 -- the text is this design, or it is refused
 abbrev pub IsDesignOrNot : List ℕ → List ℕ → Result Module DesignFault → Type 0
 IsDesignOrNot top source (Ok tree) = IsDesign top source tree
@@ -48,7 +56,7 @@ IsDesignOrNot top source (Err fault) = IsDesignCause top source fault
 -- a refusal that is not want of memory
 abbrev pub HasLine : Result Module DesignFault → Type 0
 HasLine (Ok tree) = Unit {0}
-HasLine (Err fault) = fault ≢ Text text_faults.NoMemory
+HasLine (Err fault) = is_no_memory fault ≡ false
 
 -- a source was judged
 abbrev pub JudgesSource : Option (List ℕ) → List ℕ → Result Module DesignFault → Type 0
@@ -71,7 +79,7 @@ JudgesStimulus file ports found = (text : List ℕ) × (file ≡ Some text) × J
 -- what was accepted has a run, and what was refused has a line
 abbrev pub HasRows : Judged → Type 0
 HasRows NoCommand = Unit {0}
-HasRows (NoDesign fault) = fault ≢ Text text_faults.NoMemory
+HasRows (NoDesign fault) = is_no_memory fault ≡ false
 HasRows (NoStimulus fault) = fault ≢ NoMemory
 HasRows (Accepted form stim) = ArePortsOf form stim.ports × HasRun (inputs_of form) stim.rows
 

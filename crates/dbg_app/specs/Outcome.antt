@@ -1,12 +1,11 @@
 -- How a run ends.
-use Rattle.std.specs.Prelude.{◌≡◌, ◌≢◌, ℕ, List, Bool, Option, ◌||◌, ◌==◌, ◌⊎◌}
+use Rattle.std.specs.Prelude.{◌≡◌, ◌≢◌, ℕ, List, Bool, false, Option, ◌||◌, ◌==◌, ◌⊎◌}
 use Rattle.io_edge.specs.Taken.{Appends, AppendsFront}
-use Rattle.gen_text.specs.declared.TextFault.TheVariants as text_faults
 use Rattle.stim_text.specs.declared.StimFault.{StimFault}
 use Rattle.stim_text.specs.declared.StimFault.TheVariants as stim_faults
 use Rattle.dbg_app.specs.declared.design_fault.DesignFault.{DesignFault}
-use Rattle.dbg_app.specs.declared.design_fault.DesignFault.TheVariants.{Text}
 use Rattle.dbg_app.specs.Command.{Row}
+use Rattle.dbg_app.specs.Refusals.{is_no_memory}
 use Rattle.dbg_app.specs.Answers.{Answer, Contents, Asks, design_fault, stimulus_fault}
 use Rattle.dbg_app.specs.declared.stop.Stop.{Stop}
 use Rattle.dbg_app.specs.declared.stop.Stop.TheVariants.{ReadFault, WriteFault, NoMemory}
@@ -27,7 +26,7 @@ stop_status NoMemory = 9
 -- the line of a refused source was taken
 pub record TakesDesignLine (old new : Option (List ℕ)) : Type 0 where
   pub fault : DesignFault
-  pub refuses : fault ≢ Text text_faults.NoMemory
+  pub refuses : is_no_memory fault ≡ false
   pub taken : Appends old new (design_fault fault)
 
 -- the line of a refused stimulus was taken

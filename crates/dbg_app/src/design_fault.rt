@@ -1,10 +1,16 @@
+use check_core::CheckFault;
+use elab_core::ElabFault;
 use gen_text::TextFault;
 
-/// Why a source is refused.
-#[derive(Clone, Copy, Debug, PartialEq, Eq)]
+/// Why a source is refused. Want of memory, which each of the three faults can tell, refuses no source.
+#[derive(Debug, Drop)]
 pub enum DesignFault {
-    /// It is not read. Want of memory refuses no source.
+    /// It is not read.
     Text(TextFault),
-    /// It is read, and is not of the forms that are accepted today, or has not the module that is asked for.
+    /// It is read, and its top is not elaborated.
+    Elaboration(ElabFault),
+    /// It is elaborated, and the design is not accepted.
+    Check(CheckFault),
+    /// The design is accepted, and the source is not of the form that runs today.
     NotYet,
 }

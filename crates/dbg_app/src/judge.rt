@@ -1,20 +1,28 @@
 //! Reads the files of a command in the order of its words, and judges each.
 
-ghost use Rattle.std.specs.Prelude.{◌≡◌, ◌<◌, ◌≤◌, ◌↔◌, IsTrue, [], ◌∷◌, Some, None, IfOk, IfSome, OnOk, OnErr, IsErrOf};
+ghost use Rattle.std.specs.Prelude.{◌≡◌, ◌<◌, ◌≤◌, ◌↔◌, IsTrue, false, option_map, [], ◌∷◌, Some, None, IfOk, IfSome, OnOk, OnErr, IsErrOf};
 ghost use Rattle.io_edge.specs.Faults.{Rose};
 ghost use Rattle.io_edge.specs.Taken.{Appends, AppendsFront};
 ghost use Rattle.dbg_app.specs.Command.{row_of, names_of};
 ghost use Rattle.dbg_app.specs.Answers.{IfAsked};
 ghost use Rattle.dbg_app.specs.Rows.{row_as};
 ghost use Rattle.gen_tree.specs.View.{source_of};
-ghost use Rattle.dbg_app.specs.Judged.{IsOneOrNone, IsDesignOrNot, HasLine, Finds, JudgesSource, JudgesText, IsWhole, JudgesStimulus, HasRows, JudgesRow, judged_status};
+ghost use Rattle.design_core.specs.DesignView.{design_of as elaborated_design};
+ghost use Rattle.check_core.specs.Verdict.{verdict};
+ghost use Rattle.dbg_app.specs.Refusals.{is_no_memory, refusal_of as the_refusal_of};
+ghost use Rattle.dbg_app.specs.declared.design_fault.DesignFault.TheVariants.{Check};
+ghost use Rattle.dbg_app.specs.Judged.{IsOneOrNone, IsAcceptedOrNot, IsDesignOrNot, HasLine, Finds, JudgesSource, JudgesText, IsWhole, JudgesStimulus, HasRows, JudgesRow, judged_status};
 ghost use Rattle.dbg_app.specs.Outcome.{is_status};
 
 use crate::row::{Row, read_row};
 use crate::{DesignFault, Stop};
-use design_core::Ports;
+use check_core::CheckFault;
+use design_core::{Design, Ports};
+use elab_core::ElabFault;
 use first_form::FirstForm;
 use first_tree::narrow;
+use gen_check::check;
+use gen_elab::{Given, elaborate};
 use gen_text::{TextFault, read_source};
 use gen_tree::Source;
 use io_edge::{FileEnd, Files, Words};
@@ -86,6 +94,46 @@ fn form_of(alloc: Global, source: &Source, top: &[u8]) -> Result<Option<FirstFor
     }
 }
 
+/// Why the checks refuse a design, if they do.
+fn check_refusal(alloc: Global, design: &Design) -> Result<Option<DesignFault>, NoMemory>
+    ensures refusal { IfOk result (λ refusal. refusal ≡ option_map (λ fault. Check fault) (verdict (elaborated_design design.now))) }
+    ensures line { IfOk result (λ refusal. IfSome refusal (λ fault. is_no_memory fault ≡ false)) }
+{
+    match check(alloc, design) {
+        Ok(()) => Ok(None),
+        Err(CheckFault::NoMemory) => Err(NoMemory),
+        Err(fault) => Ok(Some(DesignFault::Check(fault))),
+    }
+}
+
+/// Why the design of a source that was read is refused, if it is: elaboration goes before the checks.
+fn refusal_of(alloc: Global, source: &Source, top: &[u8]) -> Result<Option<DesignFault>, NoMemory>
+    ensures refusal { IfOk result (λ refusal. refusal ≡ the_refusal_of (source_of source.now) top.now) }
+    ensures line { IfOk result (λ refusal. IfSome refusal (λ fault. is_no_memory fault ≡ false)) }
+{
+    let given = Given::new(alloc);
+    match elaborate(alloc, source, top, &given) {
+        Ok(design) => check_refusal(alloc, &design),
+        Err(ElabFault::NoMemory) => Err(NoMemory),
+        Err(fault) => Ok(Some(DesignFault::Elaboration(fault))),
+    }
+}
+
+/// The form of a source that was read, or why it is refused.
+fn accepted_of(
+    alloc: Global,
+    source: &Source,
+    top: &[u8],
+) -> Result<Result<FirstForm, DesignFault>, NoMemory>
+    ensures design { IfOk result (IsAcceptedOrNot top.now (source_of source.now)) }
+    ensures line { IfOk result HasLine }
+{
+    match refusal_of(alloc, source, top)? {
+        Some(fault) => Ok(Err(fault)),
+        None => Ok(form_of(alloc, source, top)?.ok_or(DesignFault::NotYet)),
+    }
+}
+
 /// The design of a source, or why it is refused.
 fn design_of(
     alloc: Global,
@@ -98,7 +146,7 @@ fn design_of(
     ensures no_write { IsErrOf result Stop.WriteFault → ⊥ }
 {
     match read_source(alloc, source) {
-        Ok(tree) => Ok(form_of(alloc, &tree, top)?.ok_or(DesignFault::NotYet)),
+        Ok(tree) => Ok(accepted_of(alloc, &tree, top)?),
         Err(TextFault::NoMemory) => Err(Stop::NoMemory),
         Err(fault) => Ok(Err(DesignFault::Text(fault))),
     }

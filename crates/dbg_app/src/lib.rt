@@ -3,6 +3,7 @@
 
 mod design_fault;
 mod judge;
+mod lines;
 mod program;
 mod row;
 mod stop;

@@ -1,18 +1,16 @@
-ghost use Rattle.std.specs.Prelude.{◌≡◌, ◌≤◌, ◌<◌, ◌⊎◌, None, IsTrue, OnOk, OnErr, IfOk, IsErrOf, string_bytes};
+ghost use Rattle.std.specs.Prelude.{◌≡◌, ◌≤◌, ◌<◌, ◌⊎◌, None, IsTrue, OnOk, OnErr, IsErrOf};
 ghost use Rattle.io_edge.specs.Faults.{Rose};
 ghost use Rattle.io_edge.specs.Taken.{Appends, AppendsFront};
 ghost use Rattle.dbg_app.specs.Command.{row_of, names_of};
-ghost use Rattle.dbg_app.specs.Answers.{usage_fault, text_fault, design_fault, stimulus_fault, IfAsked};
+ghost use Rattle.dbg_app.specs.Answers.{usage_fault, IfAsked};
 ghost use Rattle.dbg_app.specs.Judged.{HasRows, TakesText, TakesTextFront, judged_status};
 ghost use Rattle.dbg_app.specs.Outcome.{is_status, is_usage_status, TakesDesignLine, TakesStimulusLine, EndsAsAsked, TakesSome, Completes};
 
+use crate::Stop;
 use crate::judge::{Judged, judge};
-use crate::{DesignFault, Stop};
-use gen_text::TextFault;
+use crate::lines::{design_line, stimulus_line};
 use io_edge::{Files, Sink, Words};
 use std::alloc::Global;
-use stim_text::StimFault;
-use text_core::NoMemory;
 
 /// How a run ended: its status, which is 0, 2, 3, 4, 7, 8 or 9.
 #[derive(Clone, Copy, Debug, PartialEq, Eq)]
@@ -29,7 +27,7 @@ pub struct Ended {
 /// |---|---|---|
 /// | 0 | none of the rest | the whole trail |
 /// | 2 | the words are no command | `usage fault` |
-/// | 3 | SRC is no source, or not one of the forms that are accepted today with the module TOP | `design fault`, with the number and name of the refusal, and its offset or line |
+/// | 3 | SRC is no source, or its design from the module TOP is refused, or is accepted and not of the form that runs today | `design fault`, with the number and name of the refusal, and its fields |
 /// | 4 | STIM is refused for the design's ports | `stimulus fault`, with the number and name of the refusal, and its row and column |
 /// | 7 | a file was not read | nothing |
 /// | 8 | the output failed | a front of it |
@@ -126,8 +124,8 @@ fn write<S: Sink>(alloc: Global, judged: &Judged, out: &mut S) -> Result<(), Sto
     ensures no_read { IsErrOf result Stop.ReadFault → ⊥ }
 {
     match judged {
-        Judged::NoCommand => write_line("usage fault\n", out),
-        Judged::NoDesign(fault) => write_line(&design_line(alloc, *fault)?, out),
+        Judged::NoCommand => write_line(b"usage fault\n", out),
+        Judged::NoDesign(fault) => write_line(&design_line(alloc, fault)?, out),
         Judged::NoStimulus(fault) => write_line(&stimulus_line(alloc, *fault)?, out),
         Judged::Accepted(form, stim) => {
             form.write_trail(alloc, stim, out)?;
@@ -136,55 +134,13 @@ fn write<S: Sink>(alloc: Global, judged: &Judged, out: &mut S) -> Result<(), Sto
     }
 }
 
-/// The line of a source that is refused.
-fn design_line(alloc: Global, fault: DesignFault) -> Result<String, NoMemory>
-    ensures { IfOk result (λ line. string_bytes line ≡ design_fault fault) }
-{
-    match fault {
-        DesignFault::Text(fault) => text_line(alloc, fault),
-        DesignFault::NotYet => Ok(format!(in alloc; "design fault 0 NotYet\n")?),
-    }
-}
-
-/// The line of a text that is not read. Want of memory has none.
-fn text_line(alloc: Global, fault: TextFault) -> Result<String, NoMemory>
-    ensures { IfOk result (λ line. string_bytes line ≡ text_fault fault) }
-{
-    match fault {
-        TextFault::TooLong => Ok(format!(in alloc; "design fault 1 TooLong\n")?),
-        TextFault::NotAscii { offset } => Ok(format!(in alloc;
-            "design fault 2 NotAscii offset {offset}\n"
-        )?),
-        TextFault::BadToken { line } => Ok(format!(in alloc;
-            "design fault 3 BadToken line {line}\n"
-        )?),
-        TextFault::Syntax { line } => Ok(format!(in alloc; "design fault 4 Syntax line {line}\n")?),
-        TextFault::NoMemory => Err(NoMemory),
-    }
-}
-
-/// The line of a stimulus that is refused. Want of memory has none.
-fn stimulus_line(alloc: Global, fault: StimFault) -> Result<String, NoMemory>
-    ensures { IfOk result (λ line. string_bytes line ≡ stimulus_fault fault) }
-{
-    match fault {
-        StimFault::HeaderMismatch => Ok(format!(in alloc; "stimulus fault 1 HeaderMismatch\n")?),
-        StimFault::BadRow { row } => Ok(format!(in alloc; "stimulus fault 2 BadRow row {row}\n")?),
-        StimFault::DoesNotFit { row, column } => Ok(format!(in alloc;
-            "stimulus fault 3 DoesNotFit row {row} column {column}\n"
-        )?),
-        StimFault::TooLong => Ok(format!(in alloc; "stimulus fault 4 TooLong\n")?),
-        StimFault::NoMemory => Err(NoMemory),
-    }
-}
-
 /// Writes a line.
-fn write_line<S: Sink>(line: &str, out: &mut S) -> Result<(), Stop>
+fn write_line<S: Sink>(line: &[u8], out: &mut S) -> Result<(), Stop>
     ensures ok { OnOk result (Appends (S.taken out.old) (S.taken out.new) line.now) }
     ensures front { OnErr result (AppendsFront (S.taken out.old) (S.taken out.new) line.now) }
     ensures write { IsErrOf result Stop.WriteFault → Rose (S.fault_count out.old) (S.fault_count out.new) }
     ensures no_read { IsErrOf result Stop.ReadFault → ⊥ }
 {
-    out.put(line.as_bytes())?;
+    out.put(line)?;
     Ok(())
 }

@@ -520,10 +520,7 @@ fn refusals_are_tested_in_their_order(rt: HostRuntime) -> Result<(), Fail> {
 
 /// Designs that are accepted.
 static ACCEPTED: [(&str, &str); 18] = [
-    (
-        "module X { }",
-        "accepted",
-    ),
+    ("module X { }", "accepted"),
     (
         "module X { input c : 1; output x : 1; comb { x = 1'h0; if c { x = c; } } }",
         "accepted",
@@ -536,10 +533,7 @@ static ACCEPTED: [(&str, &str); 18] = [
         "module X { input x : 1; output a : 1; output b : 1; wire c : 1; comb { a = x; b = c; } comb { c = a; } }",
         "accepted",
     ),
-    (
-        "module X { reg r : 8 = 8'hff; }",
-        "accepted",
-    ),
+    ("module X { reg r : 8 = 8'hff; }", "accepted"),
     (
         "module X { reg r : 1 = 1'h0; ff { r <= (r + 1'h1); r <= r; } }",
         "accepted",

@@ -8,9 +8,12 @@ use std::test::Fail;
 
 /// A refusal with its number, its name and its place.
 fn placed(alloc: Global, refusal: &str, at: &Spot) -> Result<String, Fail> {
-    Ok(
-        format!(in alloc; "{refusal} line {} name {} instance {}", at.line, name(&at.name)?, name(&at.instance)?)?,
-    )
+    Ok(format!(in alloc;
+        "{refusal} line {} name {} instance {}",
+        at.line,
+        name(&at.name)?,
+        name(&at.instance)?
+    )?)
 }
 
 /// A refusal with its number, its name and its fields.

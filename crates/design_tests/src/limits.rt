@@ -18,7 +18,10 @@ fn compare(rt: &impl Abort, alloc: Global, cases: &[(&str, &str)]) -> Result<(),
 static TURNS: [(&str, &str); 3] = [
     ("module X { for i in 0..4096 { } }", "1"),
     ("module X { comb { for i in 0..4096 { } } }", "1"),
-    ("module L { } module X { for i in 0..4095 { inst u#i : L { } } }", "4096"),
+    (
+        "module L { } module X { for i in 0..4095 { inst u#i : L { } } }",
+        "4096",
+    ),
 ];
 
 #[test]

@@ -42,7 +42,10 @@ pub(crate) fn fault(alloc: Global, fault: &ElabFault) -> Result<String, Fail> {
             format!(in alloc; "8 TooDeep line {line} name {}", name(x)?)?
         }
         ElabFault::TooLarge { line, what, limit } => {
-            format!(in alloc; "9 TooLarge line {line} what {} limit {limit}", count(*what))?
+            format!(in alloc;
+                "9 TooLarge line {line} what {} limit {limit}",
+                count(*what)
+            )?
         }
         ElabFault::NoMemory => format!(in alloc; "NoMemory")?,
     })
@@ -62,13 +65,22 @@ fn gens(alloc: Global, gens: &Listed<(Text, i64)>) -> Result<String, Fail> {
 fn statement(alloc: Global, told: &mut String, stmt: &Stmt, depth: u32) -> Result<(), Fail> {
     let (slot, line, bound) = match stmt {
         Stmt::Assign {
-            slot, line, gens, ..
+            slot,
+            line,
+            gens,
+            ..
         }
         | Stmt::Let {
-            slot, line, gens, ..
+            slot,
+            line,
+            gens,
+            ..
         }
         | Stmt::If {
-            slot, line, gens, ..
+            slot,
+            line,
+            gens,
+            ..
         } => (slot, line, gens),
     };
     let one = format!(in alloc; "{slot} {line}{}\n", gens(alloc, bound)?)?;
@@ -92,8 +104,11 @@ fn statement(alloc: Global, told: &mut String, stmt: &Stmt, depth: u32) -> Resul
 
 /// A variant: its module, its parameters and its signals with their widths, and then its statements.
 fn variant(alloc: Global, told: &mut String, variant: &Variant) -> Result<(), Fail> {
-    let head =
-        format!(in alloc; "{}{}:", name(&variant.module)?, gens(alloc, &variant.params)?)?;
+    let head = format!(in alloc;
+        "{}{}:",
+        name(&variant.module)?,
+        gens(alloc, &variant.params)?
+    )?;
     told.push_str(&head)?;
     for signal in variant.signals.items() {
         let one = format!(in alloc; " {}:{}", name(&signal.name)?, signal.width)?;

@@ -1,5 +1,5 @@
 use Rattle.std.proofs.Common.{◌<◌, lit<}
-use Rattle.dbg_app.proofs.Ending.{usage_taken, design_line_taken, stimulus_line_taken, front_taken}
+use Rattle.dbg_app.proofs.Ending.{usage_taken, design_line_taken, stimulus_line_taken, front_taken, done_taken}
 use Rattle.dbg_app.proofs.program.act.Goals as goal
 
 pub returns-in-Ok-clause-usage_front : goal.returns-in-Ok-clause-usage_front
@@ -22,3 +22,8 @@ returns-in-Ok-clause-stimulus_line g c = λ four.
 pub returns-in-Ok-clause-front : goal.returns-in-Ok-clause-front
 returns-in-Ok-clause-front g c = λ late.
     front_taken (g.F.Files.told c.args.files.now) _ c.in-Ok.judged _ _ c.in-Ok.ensures.judged c.in-Ok.ensures.rows (c.end.ensures.front late)
+
+pub returns-in-Ok-clause-done : goal.returns-in-Ok-clause-done
+returns-in-Ok-clause-done g c = λ early.
+    let e = c.end.ensures in
+    done_taken (g.F.Files.told c.args.files.now) _ c.in-Ok.judged _ _ _ c.in-Ok.ensures.judged c.in-Ok.ensures.rows (e.status early) (e.done early)

@@ -12,9 +12,9 @@ loop-name-init c = record {
 pub loop-name-preserved : goal.loop-name-preserved
 loop-name-preserved c = record {
   known = common_next _ _ _ _ _ c.in_ok-insert_if.ensures.known
-    ∙ ap (λ (l : List Name). either (has c.loop-name.self) (both (has l) (has c.args.second.now)))
-    (ap (λ (x : Name). x ∷ map (λ name. name.items) c.next.new.self) c.deref.ensures.value ∙ sym (ap (λ l. map (λ name. name.items) l) c.in-Some.ensures.steps))
-    ∙ c.loop-name.invariant.known;
+      ∙ ap (λ (l : List Name). either (has c.loop-name.self) (both (has l) (has c.args.second.now)))
+      (ap (λ (x : Name). x ∷ map (λ name. name.items) c.next.new.self) c.deref.ensures.value ∙ sym (ap (λ l. map (λ name. name.items) l) c.in-Some.ensures.steps))
+      ∙ c.loop-name.invariant.known;
   before = begins_both _ _ _ c.loop-name.invariant.before c.in_ok-insert_if.ensures.before;
 }
 
