@@ -15,7 +15,7 @@ use Rattle.sim_core.specs.Leaves.{gathered, register_in, start_in, number_in, in
 use Rattle.sim_core.specs.Given.{HaveWidths, Gives, given, node_value, next_registers, IsValue}
 use Rattle.sim_core.specs.Steps.{bits_at}
 use Rattle.sim_core.specs.State.{Simulated, AreSolved, IsSimulator, settled_under, after_edge}
-use Rattle.sim_core.proofs.Origins.{any_can_be_given, same_count}
+use Rattle.sim_core.proofs.Origins.{any_can_be_given, same_count, nodes_have_widths}
 
 -- ---- a new simulator
 
@@ -140,7 +140,7 @@ module _ (net : NetParts) (is_net : IsNet net) where
 pub next_widths : (net : NetParts) → IsNet net → (inputs registers : List Bits) → HaveWidths (inputs_of net.nodes) inputs → HaveWidths (registers_of net.nodes) registers
     → HaveWidths (registers_of net.nodes) (next_registers net inputs registers)
 next_widths net is_net inputs registers i r =
-    source_widths net is_net (node_value net.nodes inputs registers) (λ j l. node_width net is_net inputs registers i r j l)
+    source_widths net is_net (node_value net.nodes inputs registers) (λ j l. nodes_have_widths net is_net inputs registers i r j l)
 
 -- lists that agree at what stands in them
 map_along : (V W : ℕ → Bits) (n : ℕ) → ((j : ℕ) → j < n → V j ≡ W j) → (xs : List ℕ) → All (λ x. x < n) xs → map V xs ≡ map W xs
@@ -214,4 +214,4 @@ module _ (net : NetParts) (sources : List ℕ) (registers inputs values : List B
     edge_told new is =
         subst (λ (x : Simulated). IfSome x.settled (λ given. ◌≡◌ {A = Simulated} (record { net = net; registers = new; settled = None; settles = settles }) (after_edge given x))) view
         (told settled inputs (λ given. ◌≡◌ {A = Simulated} (record { net = net; registers = new; settled = None; settles = settles }) (record { net = net; registers = next_registers net given registers; settled = None; settles = settles }))
-         (λ e. ap (λ rs. record { net = net; registers = rs; settled = None; settles = settles }) (is ∙ next_taken e)))
+        (λ e. ap (λ rs. record { net = net; registers = rs; settled = None; settles = settles }) (is ∙ next_taken e)))

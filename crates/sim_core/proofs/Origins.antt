@@ -6,17 +6,19 @@ use Rattle.std.proofs.lemmas.List.{length-map}
 use Rattle.std.proofs.lemmas.List.Elements.{All-head, All-tail}
 use Rattle.bv_core.specs.Value.{Bits, IsBits}
 use Rattle.std.proofs.lemmas.Nat.{pow_pos}
+use Rattle.bv_core.specs.Operators.{width1_of, width2_of}
+use Rattle.bv_core.proofs.Results.{one_has_width, two_have_width, choice_has_width}
 use Rattle.tree_core.specs.Tree as tree
-use Rattle.tree_core.specs.Width.{origin_width, IsOrigin, IsOf}
+use Rattle.tree_core.specs.Width.{origin_width, tree_width, IsOrigin, IsOf, IsWhole}
 use Rattle.tree_core.specs.Fold.{same_origin}
 use Rattle.tree_core.proofs.Same.{same_origin-sound, same_origin-refl}
-use Rattle.net_core.specs.Nodes.{Shape, Fixed, TopInput, Register, OfOne, OfTwo, OfMux, shape_at, node_tree, trees_of}
+use Rattle.net_core.specs.Nodes.{Shape, Fixed, TopInput, Register, OfOne, OfTwo, OfMux, shape_at, node_tree, trees_of, tree_of}
 use Rattle.net_core.specs.Nets.{NetParts, IsNet}
 use Rattle.net_core.specs.Builder.{AreShared}
 use Rattle.net_core.proofs.TreeLists.{tree_is, trees_length}
 use Rattle.sim_core.specs.Leaves.{gathered, input_in, register_in, inputs_of, registers_of}
 use Rattle.sim_core.specs.Given.{HaveWidths, Gives, value_beside, given}
-use Rattle.sim_core.specs.Laws.{AnyCanBeGiven, WidthsAreGiven}
+use Rattle.sim_core.specs.Laws.{AnyCanBeGiven, WidthsAreGiven, NodesHaveWidths}
 
 -- ---- different inputs and registers
 
@@ -174,3 +176,34 @@ beside_of (p ∷ os) (v ∷ values) e all o good =
 pub widths_are_given : WidthsAreGiven
 widths_are_given net inputs registers i r all_inputs all_registers (tree.Input name width) good = beside_of (inputs_of net.nodes) inputs i all_inputs (tree.Input name width) good
 widths_are_given net inputs registers i r all_inputs all_registers (tree.Register instance name start) good = beside_of (registers_of net.nodes) registers r all_registers (tree.Register instance name start) good
+
+beside_width : (os : List tree.Origin) (values : List Bits) → HaveWidths os values → (o : tree.Origin) → (value_beside (zip os values) o).width ≡ origin_width o
+beside_width [] values e o = refl
+beside_width (p ∷ os) [] e o = cc
+beside_width (p ∷ os) (v ∷ values) e o =
+    let rest : map (λ (x : Bits). x.width) values ≡ map origin_width os = cc in
+    let first : v.width ≡ origin_width p = cc in
+    by_test first (beside_width os values rest o) (same_origin p o) refl
+  where
+    by_test : v.width ≡ origin_width p → (value_beside (zip os values) o).width ≡ origin_width o → (b : Bool) → same_origin p o ≡ b → (if same_origin p o then v else value_beside (zip os values) o).width ≡ origin_width o
+    by_test first later true t = ap (λ b. (if b then v else value_beside (zip os values) o).width) t ∙ first ∙ ap origin_width (same_origin-sound p o t)
+    by_test first later false t = ap (λ b. (if b then v else value_beside (zip os values) o).width) t ∙ later
+
+given_width : (ns : List Shape) (inputs registers : List Bits) → HaveWidths (inputs_of ns) inputs → HaveWidths (registers_of ns) registers → (o : tree.Origin) → (given ns inputs registers o).width ≡ origin_width o
+given_width ns inputs registers i r (tree.Input name width) = beside_width (inputs_of ns) inputs i (tree.Input name width)
+given_width ns inputs registers i r (tree.Register instance name start) = beside_width (registers_of ns) registers r (tree.Register instance name start)
+
+value_width : (E : tree.Origin → Bits) → ((o : tree.Origin) → (E o).width ≡ origin_width o) → (t : tree.Whole) → IsWhole t → (tree.value_of E t).width ≡ tree_width t
+value_width E known (tree.Const b) whole = refl
+value_width E known (tree.Leaf o) whole = known o
+value_width E known (tree.One op a) whole = one_has_width op (tree.value_of E a) ∙ ap (width1_of op) (value_width E known a whole.0)
+value_width E known (tree.Two op a b) whole =
+    two_have_width op (tree.value_of E a) (tree.value_of E b) ∙ ap₂ (width2_of op) (value_width E known a whole.0) (value_width E known b whole.1)
+value_width E known (tree.Mux c a b) whole =
+    choice_has_width (tree.value_of E c) (tree.value_of E a) (tree.value_of E b)
+    (value_width E known c whole.0 ∙ whole.3.0, value_width E known a whole.1 ∙ whole.3.1 ∙ sym (value_width E known b whole.2))
+    ∙ value_width E known a whole.1
+
+pub nodes_have_widths : NodesHaveWidths
+nodes_have_widths net is_net inputs registers i r j l =
+    value_width (given net.nodes inputs registers) (given_width net.nodes inputs registers i r) (tree_of net.nodes j) (is_net.shared.trees.whole j (omega (arith, trees_length net.nodes)))

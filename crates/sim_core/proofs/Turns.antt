@@ -1,5 +1,5 @@
 -- After a clock edge each register has the value of the node of its next value.
-use Rattle.std.proofs.Common.{◌≡◌, ℕ, zero, suc, ◌+◌, ◌<◌, true, List, [], ◌∷◌, length, map, Some, slice_get, refl, sym, ap, ◌∙◌, subst, arith}
+use Rattle.std.proofs.Common.{◌≡◌, ℕ, zero, suc, ◌+◌, ◌<◌, true, List, [], ◌∷◌, length, map, Option, Some, unwrap_or, slice_get, refl, sym, ap, ◌∙◌, subst, arith}
 use Rattle.bv_core.specs.Value.{Bits}
 use Rattle.tree_core.specs.Tree as tree
 use Rattle.net_core.specs.Nodes.{Shape, Fixed, TopInput, Register, OfOne, OfTwo, OfMux, shape_at, node_tree, trees_of, trees_from}
@@ -60,8 +60,8 @@ registers_take_next_values net is_net inputs registers later i r w k register ne
     let pair = is_net.nexts.registers k (register, next) at in
     let found = named net.nexts k register next at in
     let one : found.place ≡ k = is_net.nexts.once found.place k register (next_of net.nexts register) next found.at at in
-    let both : Some (register, next_of net.nexts register) ≡ Some (register, next) = sym found.at ∙ ap (slice_get net.nexts) one ∙ at in
-    let same : next_of net.nexts register ≡ next = cc in
+    let both : ◌≡◌ {A = Option (ℕ × ℕ)} (Some (register, next_of net.nexts register)) (Some (register, next)) = sym found.at ∙ ap (slice_get net.nexts) one ∙ at in
+    let same : next_of net.nexts register ≡ next = ap (λ (o : Option (ℕ × ℕ)). (unwrap_or o (0, 0)).1) both in
     let is = tree_is net.nodes is_net.shared.numbered register pair.within in
     let shape = register_shape (trees_of net.nodes) (shape_at net.nodes register) (ap is_register (sym is) ∙ pair.register) in
     let gives = any_can_be_given net is_net later (next_registers net inputs registers) w (next_widths net is_net inputs registers i r) in

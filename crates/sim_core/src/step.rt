@@ -40,7 +40,11 @@ fn step<'a>(
             (value, inputs, registers)
         }
         Node::Mux(c, a, b) => {
-            let value = choose(value_at(values, *c), value_at(values, *a), value_at(values, *b));
+            let value = choose(
+                value_at(values, *c),
+                value_at(values, *a),
+                value_at(values, *b),
+            );
             (value, inputs, registers)
         }
     }

@@ -21,9 +21,11 @@ loop-place-preserved c =
     let one : c.loop-place.place - 1 + 1 ≡ c.loop-place.place = omega arith in
     let at = pair_at c.nexts-nexts.result.now c.args.net.now.nexts (c.loop-place.place - 1) (record { 0 = 0 }, record { 0 = 0 }) c.nexts-nexts.ensures.nexts below in
     let within = pair_within c.args.net.now.nodes c.args.net.now.nexts (c.loop-place.place - 1) _ _ c.nexts-nexts.ensures.fit at in
-    let long = c.loop-place.invariant.0 in
-    (length-set c.loop-place.found.items _ _ ∙ long, omega arith,
-     λ i l. place_next c.args.net.now.nexts (c.loop-place.place - 1) _ _ c.loop-place.found.items at
-         (subst (λ n. (get_or c.nexts-nexts.result.now (c.loop-place.place - 1) (record { 0 = 0 }, record { 0 = 0 })).0.0 < n) (sym long) within)
-         (λ j m. c.loop-place.invariant.2 j (subst (λ n. j < n) long m) ∙ ap (λ p. next_of (drop p c.args.net.now.nexts) j) (sym one))
-         i (subst (λ n. i < n) (sym long) l))
+    let long = c.loop-place.invariant.0 in (
+      length-set c.loop-place.found.items _ _ ∙ long,
+      omega arith,
+      λ i l. place_next c.args.net.now.nexts (c.loop-place.place - 1) _ _ c.loop-place.found.items at
+          (subst (λ n. (get_or c.nexts-nexts.result.now (c.loop-place.place - 1) (record { 0 = 0 }, record { 0 = 0 })).0.0 < n) (sym long) within)
+          (λ j m. c.loop-place.invariant.2 j (subst (λ n. j < n) long m) ∙ ap (λ p. next_of (drop p c.args.net.now.nexts) j) (sym one))
+          i (subst (λ n. i < n) (sym long) l),
+    )
