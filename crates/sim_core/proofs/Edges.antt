@@ -19,7 +19,7 @@ use Rattle.sim_core.proofs.Origins.{any_can_be_given, same_count, nodes_have_wid
 
 -- ---- a new simulator
 
-start_widths : (ns : List Shape) → HaveWidths (registers_of ns) (starts_of ns)
+pub start_widths : (ns : List Shape) → HaveWidths (registers_of ns) (starts_of ns)
 start_widths [] = refl
 start_widths (Fixed b ∷ ns) = start_widths ns
 start_widths (TopInput name width ∷ ns) = start_widths ns

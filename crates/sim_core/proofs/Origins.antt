@@ -177,7 +177,7 @@ pub widths_are_given : WidthsAreGiven
 widths_are_given net inputs registers i r all_inputs all_registers (tree.Input name width) good = beside_of (inputs_of net.nodes) inputs i all_inputs (tree.Input name width) good
 widths_are_given net inputs registers i r all_inputs all_registers (tree.Register instance name start) good = beside_of (registers_of net.nodes) registers r all_registers (tree.Register instance name start) good
 
-beside_width : (os : List tree.Origin) (values : List Bits) → HaveWidths os values → (o : tree.Origin) → (value_beside (zip os values) o).width ≡ origin_width o
+pub beside_width : (os : List tree.Origin) (values : List Bits) → HaveWidths os values → (o : tree.Origin) → (value_beside (zip os values) o).width ≡ origin_width o
 beside_width [] values e o = refl
 beside_width (p ∷ os) [] e o = cc
 beside_width (p ∷ os) (v ∷ values) e o =
