@@ -4,7 +4,9 @@
 #![tactic(auto)]
 
 mod columns;
+mod laws;
 mod record;
 mod trace;
 
+pub use laws::{samples_have_widths, traces_by_hand};
 pub use trace::SimTrace;
