@@ -1,20 +1,19 @@
 -- What a simulator's calls make of its state.
-use Rattle.std.proofs.Common.{◌≡◌, ℕ, zero, suc, ◌+◌, ◌<◌, ◌≤◌, ◌==◌, Bool, true, false, true≢false, List, [], ◌∷◌, ◌++◌, length, map, take, drop, if◌then◌else◌, Option, Some, None, slice_get, get_or, refl, sym, ap, ap₂, ◌∙◌, subst, arith, eqb-true, eq-eqb}
+use Rattle.std.proofs.Common.{◌≡◌, ℕ, zero, suc, ◌+◌, ◌<◌, ◌==◌, Bool, true, false, true≢false, List, [], ◌∷◌, length, map, if◌then◌else◌, Option, Some, None, slice_get, refl, sym, ap, ap₂, ◌∙◌, subst, arith, eqb-true, eq-eqb}
 use Rattle.std.specs.Prelude.{All, IsSome, IfSome}
-use Rattle.std.proofs.lemmas.List.{length-map, take_at, get_or-map}
+use Rattle.std.proofs.lemmas.List.{length-map}
 use Rattle.std.proofs.lemmas.List.Elements.{All-nil, All-cons, All-head, All-tail}
 use Rattle.bv_core.specs.Value.{Bits}
 use Rattle.tree_core.specs.Tree as tree
-use Rattle.tree_core.specs.Width.{origin_width, tree_width}
+use Rattle.tree_core.specs.Width.{tree_width}
 use Rattle.net_core.specs.Nodes.{Shape, Fixed, TopInput, Register, OfOne, OfTwo, OfMux, shape_at, node_tree, trees_of, tree_of, width_at}
-use Rattle.net_core.specs.Nets.{NetParts, IsNet, NextsFit, IsNext, is_register, Solves}
-use Rattle.net_core.specs.Builder.{AreShared}
+use Rattle.net_core.specs.Nets.{NetParts, IsNet, IsNext, is_register}
 use Rattle.net_core.proofs.TreeLists.{tree_is}
 use Rattle.net_core.proofs.Solutions.{one_solution}
-use Rattle.sim_core.specs.Leaves.{gathered, register_in, start_in, number_in, inputs_of, registers_of, starts_of, numbers_from, next_of, sources_of}
+use Rattle.sim_core.specs.Leaves.{inputs_of, registers_of, starts_of, numbers_from, next_of, sources_of}
 use Rattle.sim_core.specs.Given.{HaveWidths, Gives, given, node_value, next_registers, IsValue}
 use Rattle.sim_core.specs.Steps.{bits_at}
-use Rattle.sim_core.specs.State.{Simulated, AreSolved, IsSimulator, settled_under, after_edge}
+use Rattle.sim_core.specs.State.{Simulated, IsSimulator, settled_under, after_edge}
 use Rattle.sim_core.proofs.Origins.{any_can_be_given, same_count, nodes_have_widths}
 
 -- ---- a new simulator

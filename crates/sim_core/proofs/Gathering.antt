@@ -1,6 +1,6 @@
 -- What nodes have, one behind the other.
 use Rattle.std.proofs.Common.{◌≡◌, ℕ, zero, suc, ◌+◌, ◌<◌, ◌≤◌, Bool, true, false, List, [], ◌∷◌, ◌++◌, length, map, drop, get_or, if◌then◌else◌, append-nil, append_assoc, refl, sym, ap, ◌∙◌, arith, length-append, set, ◌==◌, Some, slice_get, eqb-true, eq-eqb, true≢false}
-use Rattle.std.proofs.lemmas.List.{drop_more, drop_all, length_push, map-append, drop_at, length-map, get_or-set_same, get_or-set_other}
+use Rattle.std.proofs.lemmas.List.{drop_more, drop_all, map-append, get_or-set_same, get_or-set_other}
 use Rattle.bv_core.specs.declared.reference.NodeId.{NodeId}
 use Rattle.net_core.specs.Nets.{nexts_of, NextsFit}
 use Rattle.net_core.specs.Nodes.{Shape, no_shape, shape_at}

@@ -1,5 +1,5 @@
 -- The inputs and registers of a net are all different, so each can be given a value.
-use Rattle.std.proofs.Common.{◌≡◌, ℕ, zero, suc, ◌<◌, ◌⊎◌, inl, inr, ⊎_elim, Bool, true, false, true≢false, ◌||◌, List, [], ◌∷◌, ◌++◌, length, map, if◌then◌else◌, refl, sym, ap, ap₂, ◌∙◌, subst, arith}
+use Rattle.std.proofs.Common.{◌≡◌, ℕ, suc, ◌<◌, ◌⊎◌, inl, inr, ⊎_elim, Bool, true, false, true≢false, ◌||◌, List, [], ◌∷◌, ◌++◌, length, map, if◌then◌else◌, refl, sym, ap, ap₂, ◌∙◌, subst, arith}
 use Rattle.std.specs.Prelude.{All}
 use Rattle.std.specs.List.{list_any, zip}
 use Rattle.std.proofs.lemmas.List.{length-map}
@@ -13,11 +13,10 @@ use Rattle.tree_core.specs.Width.{origin_width, tree_width, IsOrigin, IsOf, IsWh
 use Rattle.tree_core.specs.Fold.{same_origin}
 use Rattle.tree_core.proofs.Same.{same_origin-sound, same_origin-refl}
 use Rattle.net_core.specs.Nodes.{Shape, Fixed, TopInput, Register, OfOne, OfTwo, OfMux, shape_at, node_tree, trees_of, tree_of}
-use Rattle.net_core.specs.Nets.{NetParts, IsNet}
 use Rattle.net_core.specs.Builder.{AreShared}
 use Rattle.net_core.proofs.TreeLists.{tree_is, trees_length}
 use Rattle.sim_core.specs.Leaves.{gathered, input_in, register_in, inputs_of, registers_of}
-use Rattle.sim_core.specs.Given.{HaveWidths, Gives, value_beside, given}
+use Rattle.sim_core.specs.Given.{HaveWidths, value_beside, given}
 use Rattle.sim_core.specs.Laws.{AnyCanBeGiven, WidthsAreGiven, NodesHaveWidths}
 
 -- ---- different inputs and registers

@@ -1,17 +1,16 @@
 -- After a clock edge each register has the value of the node of its next value.
-use Rattle.std.proofs.Common.{◌≡◌, ℕ, zero, suc, ◌+◌, ◌<◌, true, List, [], ◌∷◌, length, map, Option, Some, unwrap_or, slice_get, refl, sym, ap, ◌∙◌, subst, arith}
+use Rattle.std.proofs.Common.{◌≡◌, ℕ, zero, suc, ◌+◌, ◌<◌, true, List, [], ◌∷◌, length, map, Option, Some, unwrap_or, slice_get, refl, sym, ap, ◌∙◌, arith}
 use Rattle.bv_core.specs.Value.{Bits}
 use Rattle.tree_core.specs.Tree as tree
 use Rattle.net_core.specs.Nodes.{Shape, Fixed, TopInput, Register, OfOne, OfTwo, OfMux, shape_at, node_tree, trees_of, trees_from}
-use Rattle.net_core.specs.Nets.{NetParts, IsNet, is_register}
+use Rattle.net_core.specs.Nets.{is_register}
 use Rattle.net_core.proofs.TreeLists.{tree_is}
-use Rattle.net_core.proofs.Solutions.{one_solution}
-use Rattle.sim_core.specs.Leaves.{registers_of, inputs_of, numbers_from, next_of, sources_of}
-use Rattle.sim_core.specs.Given.{HaveWidths, given, node_value, next_registers}
+use Rattle.sim_core.specs.Leaves.{registers_of, numbers_from, next_of}
+use Rattle.sim_core.specs.Given.{given, node_value, next_registers}
 use Rattle.sim_core.specs.Laws.{RegistersTakeNextValues}
 use Rattle.sim_core.specs.Sample.{Counts}
 use Rattle.sim_core.proofs.Origins.{any_can_be_given}
-use Rattle.sim_core.proofs.Edges.{next_widths, Named, named}
+use Rattle.sim_core.proofs.Edges.{next_widths, named}
 
 taken_from : (E : tree.Origin → Bits) (V : ℕ → Bits) (nexts : List (ℕ × ℕ)) (k : ℕ) (ms : List Shape) → map E (registers_of ms) ≡ map V (map (next_of nexts) (numbers_from k ms))
     → (i : ℕ) → i < length ms → (instance name : List ℕ) (start : Bits) → shape_at ms i ≡ Register instance name start → E (tree.Register instance name start) ≡ V (next_of nexts (k + i))

@@ -1,9 +1,9 @@
 -- The values of nodes, one node after another.
-use Rattle.std.proofs.Common.{◌≡◌, ℕ, zero, suc, ◌+◌, ◌<◌, ◌≤◌, ⊎_elim, List, [], ◌∷◌, ◌++◌, length, map, drop, get_or, set, refl, sym, ap, ap₂, ◌∙◌, subst, arith, length-append}
+use Rattle.std.proofs.Common.{◌≡◌, ℕ, ◌+◌, ◌<◌, ◌≤◌, ⊎_elim, List, [], ◌∷◌, ◌++◌, length, map, drop, set, refl, sym, ap, ap₂, ◌∙◌, subst, arith}
 use Rattle.std.proofs.lemmas.List.{drop_at, drop-map, map-append, length-map, length-set, get_or-set_same, get_or-set_other}
 use Rattle.std.proofs.lemmas.Bool.{cases_lt}
 use Rattle.bv_core.specs.Value.{Bits}
-use Rattle.bv_core.specs.Operators.{Fits1, Fits2, FitsMux, apply1_of, apply2_of, choose_of, width1_of, width2_of}
+use Rattle.bv_core.specs.Operators.{Fits1, Fits2, apply1_of, apply2_of, choose_of, width1_of, width2_of}
 use Rattle.tree_core.specs.Tree as tree
 use Rattle.tree_core.specs.Width.{origin_width, tree_width, IsWhole}
 use Rattle.net_core.specs.Nodes.{Shape, Fixed, TopInput, Register, OfOne, OfTwo, OfMux, shape_at, node_tree, trees_of, tree_of, width_at, OperandsBelow}
@@ -11,7 +11,7 @@ use Rattle.net_core.specs.Nets.{equation}
 use Rattle.net_core.specs.Builder.{AreShared}
 use Rattle.net_core.proofs.TreeLists.{tree_is, trees_length}
 use Rattle.net_core.proofs.Solutions.{one_solution}
-use Rattle.sim_core.specs.Leaves.{gathered, input_in, register_in, inputs_of, registers_of}
+use Rattle.sim_core.specs.Leaves.{input_in, register_in, inputs_of, registers_of}
 use Rattle.sim_core.specs.Given.{HaveWidths, Gives}
 use Rattle.sim_core.specs.Steps.{bits_at, IsReady, step_value, inputs_left, registers_left}
 use Rattle.sim_core.specs.State.{AreSolved}

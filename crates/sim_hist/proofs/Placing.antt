@@ -1,18 +1,17 @@
 -- The columns of a net's inputs.
-use Rattle.std.proofs.Common.{◌≡◌, ℕ, zero, suc, ◌+◌, ◌<◌, ◌≤◌, Bool, true, false, true≢false, ◌||◌, List, [], ◌∷◌, ◌++◌, length, map, drop, get_or, slice_get, if◌then◌else◌, Option, Some, None, append-nil, append_assoc, refl, sym, ap, ap₂, ◌∙◌, subst, arith}
+use Rattle.std.proofs.Common.{◌≡◌, ℕ, zero, suc, ◌+◌, ◌<◌, ◌≤◌, Bool, true, false, true≢false, ◌||◌, List, [], ◌∷◌, ◌++◌, length, map, drop, get_or, slice_get, if◌then◌else◌, Option, Some, append-nil, append_assoc, refl, sym, ap, ap₂, ◌∙◌, subst, arith}
 use Rattle.std.specs.Prelude.{All, option_to_list}
 use Rattle.std.specs.List.{list_any, zip}
-use Rattle.std.proofs.lemmas.List.{drop_more, drop_all, drop-map, map-append, length-map}
+use Rattle.std.proofs.lemmas.List.{drop_more, drop_all, map-append}
 use Rattle.std.proofs.lemmas.List.Elements.{All-nil, All-append}
 use Rattle.bv_core.specs.Value.{Bits}
 use Rattle.tree_core.specs.Tree as tree
-use Rattle.tree_core.specs.Width.{origin_width}
 use Rattle.tree_core.specs.Fold.{same_origin}
 use Rattle.tree_core.proofs.Same.{same_origin-refl}
 use Rattle.design_core.specs.declared.Ports.{Ports}
-use Rattle.net_core.specs.Nodes.{Shape, TopInput, no_shape, shape_at}
+use Rattle.net_core.specs.Nodes.{Shape, TopInput, shape_at}
 use Rattle.net_core.specs.Nets.{NetParts}
-use Rattle.sim_core.specs.Leaves.{input_in, inputs_of, gathered}
+use Rattle.sim_core.specs.Leaves.{input_in, gathered}
 use Rattle.sim_core.specs.Given.{value_beside}
 use Rattle.sim_core.specs.Steps.{bits_at}
 use Rattle.sim_core.proofs.Gathering.{gather_next, gather_end}

@@ -21,7 +21,7 @@ use Rattle.sim_core.specs.State.{Simulated, after_edge}
 use Rattle.sim_core.proofs.Origins.{beside_width}
 use Rattle.sim_core.proofs.Edges.{start_widths, next_widths}
 use Rattle.sim_hist.specs.Run.{row_inputs, inputs_in, registers_in, port_origins, first_of_rows, first_cycle, Traced}
-use Rattle.sim_hist.specs.Kept.{ArePicked, AreRecorded, IsAt, IsTrace}
+use Rattle.sim_hist.specs.Kept.{ArePicked, AreRecorded, IsAt}
 use Rattle.sim_hist.proofs.Placing.{Port}
 
 -- a row has one value for each port, of its width

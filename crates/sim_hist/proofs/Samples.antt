@@ -1,5 +1,5 @@
 -- Samples of a net under a stimulus.
-use Rattle.std.proofs.Common.{refl, arith, ◌<◌, ◌≤◌, length}
+use Rattle.std.proofs.Common.{refl, arith, ◌≤◌, length}
 use Rattle.net_core.specs.Nodes.{trees_from}
 use Rattle.sim_core.proofs.Origins.{nodes_have_widths}
 use Rattle.sim_hist.specs.Run.{inputs_in, registers_in}

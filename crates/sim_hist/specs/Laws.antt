@@ -2,7 +2,7 @@
 use Rattle.std.specs.Prelude.{ℕ, ◌<◌, length}
 use Rattle.net_core.specs.Nodes.{width_at}
 use Rattle.net_core.specs.Nets.{NetParts, IsNet}
-use Rattle.trace_core.specs.Samples.{Samples, HasWidth}
+use Rattle.trace_core.specs.Samples.{HasWidth}
 use Rattle.stim_text.specs.Stimulus.{Stimulus, IsStimulus}
 use Rattle.sim_hist.specs.Run.{run_samples}
 

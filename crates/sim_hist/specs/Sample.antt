@@ -1,11 +1,11 @@
 -- The counter of 4 bits, over three rows.
-use Rattle.std.specs.Prelude.{◌≡◌, ℕ, List, [], ◌∷◌, codes, refl}
+use Rattle.std.specs.Prelude.{◌≡◌, [], ◌∷◌, codes, refl}
 use Rattle.bv_core.specs.declared.reference.Sample.TheVariants.{Known}
 use Rattle.design_core.specs.declared.Ports.{Ports}
 use Rattle.trace_core.specs.Samples.{Samples}
 use Rattle.stim_text.specs.Stimulus.{Stimulus}
 use Rattle.sim_core.specs.Sample.{bits, counter}
-use Rattle.sim_hist.specs.Run.{InputsArePorts, run_samples}
+use Rattle.sim_hist.specs.Run.{run_samples}
 
 -- its ports are more than its net's inputs
 abbrev pub counter_ports : Ports

@@ -1,6 +1,5 @@
-use Rattle.std.proofs.Common.{◌≡◌, ℕ, ◌+◌, ◌-◌, ◌<◌, ◌≤◌, drop, length, get_or, set, arith, ap, sym, ◌∙◌, subst, slice_get, Some, rules}
+use Rattle.std.proofs.Common.{◌≡◌, ◌+◌, ◌-◌, ◌<◌, drop, length, get_or, arith, ap, sym, ◌∙◌, subst, rules}
 use Rattle.std.proofs.lemmas.List.{length-set}
-use Rattle.bv_core.specs.declared.reference.NodeId.{NodeId}
 use Rattle.sim_core.specs.Leaves.{next_of}
 use Rattle.sim_core.proofs.Gathering.{place_next, pair_at, pair_within}
 use Rattle.sim_core.proofs.leaves.nexts_by_place.Goals as goal

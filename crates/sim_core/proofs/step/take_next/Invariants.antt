@@ -1,4 +1,4 @@
-use Rattle.std.proofs.Common.{◌≡◌, ◌+◌, take, map, length}
+use Rattle.std.proofs.Common.{◌≡◌, take, map, length}
 use Rattle.sim_core.specs.Steps.{bits_at}
 use Rattle.sim_core.proofs.step.take_next.Given as goal
 

@@ -1,4 +1,4 @@
-use Rattle.std.proofs.Common.{ap, ◌+◌, ◌∙◌}
+use Rattle.std.proofs.Common.{ap, ◌+◌}
 use Rattle.tree_core.specs.Tree.{Input}
 use Rattle.sim_hist.proofs.Placing.{sought_next}
 use Rattle.sim_hist.proofs.columns.place_of.Goals as goal

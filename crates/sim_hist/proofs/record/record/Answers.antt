@@ -1,4 +1,4 @@
-use Rattle.std.proofs.Common.{◌≡◌, length, map, ap, sym, ◌∙◌, refl, subst, arith, rules}
+use Rattle.std.proofs.Common.{◌≡◌, length, map, ap, sym, ◌∙◌, refl, arith, rules}
 use Rattle.sim_hist.proofs.Running.{first_registers, none_recorded, more_recorded, edge_done}
 use Rattle.sim_hist.proofs.record.record.Goals as goal
 

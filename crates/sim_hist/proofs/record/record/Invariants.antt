@@ -1,5 +1,4 @@
 use Rattle.std.proofs.Common.{◌≡◌, length, map}
-use Rattle.bv_core.specs.Value.{Bits}
 use Rattle.sim_hist.specs.Run.{registers_in}
 use Rattle.sim_hist.specs.Kept.{AreRecorded}
 use Rattle.sim_hist.proofs.record.record.Given as goal

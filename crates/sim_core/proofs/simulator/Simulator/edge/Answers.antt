@@ -1,4 +1,4 @@
-use Rattle.std.proofs.Common.{◌≡◌, ◌<◌, length, map, take, drop, ◌++◌, ap, sym, ◌∙◌, subst, rules, arith}
+use Rattle.std.proofs.Common.{◌≡◌, ◌<◌, length, map, take, drop, ◌++◌, ap, sym, ◌∙◌, subst, arith}
 use Rattle.std.specs.Prelude.{All}
 use Rattle.std.proofs.lemmas.List.{take_at}
 use Rattle.sim_core.specs.Steps.{bits_at}

@@ -1,5 +1,4 @@
-use Rattle.std.proofs.Common.{ap, ◌∙◌}
-use Rattle.sim_hist.specs.Run.{Traced}
+use Rattle.std.proofs.Common.{◌∙◌}
 use Rattle.sim_hist.proofs.Running.{new_done}
 use Rattle.sim_hist.proofs.trace.SimTrace.new.Goals as goal
 
