@@ -1,0 +1,5 @@
+pub mod Gathering
+pub mod Walking
+pub mod Origins
+pub mod Edges
+pub mod Turns

@@ -1,0 +1,4 @@
+pub mod Run
+pub mod Kept
+pub mod Sample
+pub mod Laws
