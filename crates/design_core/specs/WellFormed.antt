@@ -1,8 +1,14 @@
 -- What each elaborated design keeps.
-use Rattle.std.specs.Prelude.{◌≡◌, ℕ, zero, suc, ◌+◌, List, [], ◌∷◌, ◌++◌, length, Option, Some, None, option_map, unwrap_or, slice_get, codes}
+use Rattle.std.specs.Prelude.{◌≡◌, ℕ, zero, suc, ◌+◌, ◌<◌, ◌==◌, Bool, false, List, [], ◌∷◌, ◌++◌, length, Option, Some, None, option_map, unwrap_or, slice_get, if◌then◌else◌, codes}
+use Rattle.std.specs.List.{enumerate_from, flat_map}
 use Rattle.design_core.specs.declared.design.Instance.{Instance}
+use Rattle.design_core.specs.declared.variant.Signal.{Signal}
+use Rattle.design_core.specs.declared.variant.Kind.{Kind}
+use Rattle.design_core.specs.declared.variant.Kind.TheVariants.{Input, Output, Wire, Reg, ChildOut}
 use Rattle.exec_core.specs.Block.{Name}
+use Rattle.exec_core.specs.Lists.{EachOf, AreApart}
 use Rattle.design_core.specs.Design.{Child, Variant, Design}
+use Rattle.design_core.specs.Slots.{variant_heads, slots_of, AreNumbered}
 
 -- ---- instances in preorder
 
@@ -26,3 +32,96 @@ tree (suc room) variants path parent v at = record { path = path; variant = v; p
 -- its parent's, a dot and the child's name; at most 32 levels below the top
 abbrev pub AreInPreorder : Design → Type 0
 AreInPreorder d = d.instances ≡ tree 33 d.variants d.top None 0 0
+
+-- ---- each instance with those that stand in it
+
+abbrev pub stands_in : ℕ → Option ℕ → Bool
+stands_in i None = false
+stands_in i (Some parent) = parent == i
+
+-- of instances with numbers from one on, those that stand in the instance of number i, each with its number
+abbrev pub standing : ℕ → ℕ → List Instance → List (ℕ × Instance)
+standing i n [] = []
+standing i n (r ∷ rest) = if stands_in i r.parent then (n, r) ∷ standing i (n + 1) rest else standing i (n + 1) rest
+
+-- an instance of a child: it stands behind its parent, is of the child's variant, and its path is its parent's, a dot and the
+-- child's name
+pub record IsChild (i : ℕ) (path : Name) (c : Child) (r : ℕ × Instance) : Type 0 where
+  pub behind : i < r.0
+  pub variant : r.1.variant ≡ c.variant
+  pub named : r.1.path ≡ path ++ (codes "." ++ c.name)
+
+-- one for each child, in order
+abbrev pub AreChildren : ℕ → Name → List Child → List (ℕ × Instance) → Type 0
+AreChildren i path [] [] = Unit {0}
+AreChildren i path [] (r ∷ rest) = ⊥
+AreChildren i path (c ∷ children) [] = ⊥
+AreChildren i path (c ∷ children) (r ∷ rest) = IsChild i path c r × AreChildren i path children rest
+
+-- an instance but the top stands in one before it
+pub record HasParent (i : ℕ) (r : Instance) : Type 0 where
+  pub parent : ℕ
+  pub is : r.parent ≡ Some parent
+  pub before : parent < i
+
+-- ---- the outputs of children as signals
+
+-- an output of the child of number k as a signal `u.q` of its parent, on the line of the child; other signals are none
+abbrev pub output_of : ℕ → Child → Signal → Kind → List Signal
+output_of k c s Input = []
+output_of k c s Output = record { line = c.line; name = c.name ++ (codes "." ++ s.name); kind = ChildOut k s.name; width = s.width } ∷ []
+output_of k c s Wire = []
+output_of k c s (Reg start) = []
+output_of k c s (ChildOut j port) = []
+
+-- the signals of the variant of this number; none where there is no such variant
+abbrev pub signals_at : ℕ → List Variant → List Signal
+signals_at v variants = unwrap_or (option_map (λ w. w.signals) (slice_get variants v)) []
+
+-- the outputs of a child, in order
+abbrev pub outputs_of : List Variant → ℕ × Child → List Signal
+outputs_of variants c = flat_map (λ s. output_of c.0 c.1 s s.kind) (signals_at c.1.variant variants)
+
+-- a signal that is an output of a child
+abbrev pub if_child_out : Signal → Kind → List Signal
+if_child_out s Input = []
+if_child_out s Output = []
+if_child_out s Wire = []
+if_child_out s (Reg start) = []
+if_child_out s (ChildOut k port) = s ∷ []
+
+abbrev pub child_outs : List Signal → List Signal
+child_outs signals = flat_map (λ s. if_child_out s s.kind) signals
+
+-- ---- the design
+
+-- a variant: its children's variants are in the design; the signals `u.q` are the outputs of its children, child by child, each
+-- once and with its width; and its statements in preorder have numbers one after another
+pub record IsVariant (variants : List Variant) (v : Variant) : Type 0 where
+  pub children : EachOf (λ c. c.variant < length variants) v.children
+  pub outputs : child_outs v.signals ≡ flat_map (outputs_of variants) (enumerate_from 0 v.children)
+  pub numbered : AreNumbered v
+
+-- an instance of a variant
+pub record IsOf (instances : List Instance) (v : ℕ) : Type 0 where
+  pub number : ℕ
+  pub instance : Instance
+  pub stands : slice_get instances number ≡ Some instance
+  pub variant : instance.variant ≡ v
+
+pub record IsDesign (d : Design) : Type 0 where
+  -- the first instance is the top, whose path is its module's name
+  pub top : slice_get d.instances 0 ≡ Some (record { path = d.top; variant = 0; parent = None })
+  -- the others stand behind their parents
+  pub parents : (i : ℕ) (r : Instance) → slice_get d.instances (i + 1) ≡ Some r → HasParent (i + 1) r
+  -- each instance is of a variant of the design, and each variant has an instance
+  pub variants : (i : ℕ) (r : Instance) → slice_get d.instances i ≡ Some r → r.variant < length d.variants
+  pub instances : (v : ℕ) → v < length d.variants → IsOf d.instances v
+  -- those that stand in an instance are the children of its variant, in order
+  pub children : (i : ℕ) (r : Instance) → slice_get d.instances i ≡ Some r → AreChildren i r.path (children_at r.variant d.variants) (standing i 0 d.instances)
+  -- all of them are in preorder, at most 32 levels below the top
+  pub preorder : AreInPreorder d
+  -- each variant
+  pub each : EachOf (IsVariant d.variants) d.variants
+  -- no two statements have one slot
+  pub slots : AreApart (flat_map (λ v. slots_of (variant_heads v)) d.variants)

@@ -18,7 +18,7 @@ use Rattle.elab_core.specs.Elab.{statements, places, only, module_named, values,
 use Rattle.gen_elab.specs.Offsets.{all_statements, places_below}
 use Rattle.gen_elab.proofs.Counts.{Ends, ends_then, ends_as, after_any, Rises, rises_on, stays, judged, turns_keep, ends_either}
 use Rattle.gen_elab.proofs.BodyCounts.{Grows, stmts_counts}
-use Rattle.gen_elab.proofs.VariantLemmas.{variants_within}
+use Rattle.elab_laws.proofs.Variants.{variants_within}
 use Rattle.gen_elab.proofs.OffsetLemmas.{where_both}
 
 -- ---- modules by their places

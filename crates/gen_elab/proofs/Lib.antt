@@ -1,12 +1,9 @@
 mod OffsetLemmas
-mod Preorder
 mod Ranges
-mod Shapes
 mod SizeLemmas
 mod VariantLemmas
 mod BodyCounts
 mod CellLemmas
-mod Contents
 mod Counts
 mod DesignLemmas
 mod ElaborateLemmas

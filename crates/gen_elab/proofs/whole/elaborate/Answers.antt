@@ -10,7 +10,7 @@ use Rattle.elab_core.specs.Results.{Answers}
 use Rattle.gen_elab.specs.Offsets.{places_below}
 use Rattle.gen_elab.specs.Finished.{finished}
 use Rattle.gen_elab.proofs.ElaborateLemmas.{small_walk, at_the_end}
-use Rattle.gen_elab.proofs.Preorder.{answered_preorder}
+use Rattle.elab_laws.proofs.Preorder.{answered_preorder}
 use Rattle.gen_elab.proofs.whole.elaborate.Goals as goal
 
 pub finish-requires-clause-few : goal.finish-requires-clause-few

@@ -9,7 +9,7 @@ use Rattle.exec_core.specs.Block.{Name}
 use Rattle.design_core.specs.Design.{Gens, Done}
 use Rattle.elab_core.specs.Elaborated.{Child, Content, Instance}
 use Rattle.elab_core.specs.Elab.{turns, statements, places, only, module_named, values, conns, Asked, asked, Made, nothing, with_child, child_of, Here, Enter, count_outputs, register, wire_signal, item_walk, items_walk, else_walk, ports, module_walk, instances_of, instance, top_values, top_walk}
-use Rattle.gen_elab.proofs.Contents.{out, chained, out_then, OnSome, HasSome, SameContent, module_sim, more_room}
+use Rattle.elab_laws.proofs.Contents.{out, chained, out_then, OnSome, HasSome, SameContent, module_sim, more_room}
 
 -- ---- what comes out of a walk, with the equation that it does
 
@@ -61,7 +61,7 @@ mutual
 
 -- ---- each instance has what its module gives with its parameters
 
-abbrev blank : Here
+abbrev pub blank : Here
 blank = record { path = []; number = 0 }
 
 -- the module's body, with all the room that there is
@@ -102,7 +102,7 @@ places_stand x before (m ∷ modules) =
       | false ↦ rest
     ]
 
-abbrev Stands : List Module → ℕ × Module → Type 0
+abbrev pub Stands : List Module → ℕ × Module → Type 0
 Stands modules found = slice_get modules found.0 ≡ Some found.1
 
 only_stands : (modules : List Module) (line : ℕ) (x : Name) (found : List (ℕ × Module)) → EachStands modules found → Yields (Stands modules) (only line x found)
@@ -114,7 +114,7 @@ only_stands modules line x (m ∷ (again ∷ more)) h a e = absurd (none_some a 
 named_stands : (modules : List Module) (line : ℕ) (x : Name) → Yields (Stands modules) (module_named modules line x)
 named_stands modules line x = only_stands modules line x (places x 0 modules) (places_stand x [] modules)
 
-asked_stands : (modules : List Module) (line : ℕ) (gens : Gens) (f : Fam) (x : Name) (args : List Param) (cs : List tree.Conn) → Yields (λ want. Stands modules want.found) (asked modules line gens f x args cs)
+pub asked_stands : (modules : List Module) (line : ℕ) (gens : Gens) (f : Fam) (x : Name) (args : List Param) (cs : List tree.Conn) → Yields (λ want. Stands modules want.found) (asked modules line gens f x args cs)
 unfolding asked
 asked_stands modules line gens f x args cs =
     yields_then _ (fam_name line gens f) _ (λ name e. yields_then _ (module_named modules line x) _ (λ found g. yields_then _ (values line gens found.1 args) _ (λ params r. yields_then _ (conns cs gens []) _ (λ made t.

@@ -1,0 +1,10 @@
+-- What each design that elaboration gives keeps.
+use Rattle.std.specs.Prelude.{◌≡◌, List, Ok}
+use Rattle.gen_tree.specs.Tree.{Module}
+use Rattle.exec_core.specs.Block.{Name}
+use Rattle.design_core.specs.Design.{Gens, Design}
+use Rattle.design_core.specs.WellFormed.{IsDesign}
+use Rattle.elab_core.specs.Design.{elaborated}
+
+abbrev pub ElaborationKeeps : Type 0
+ElaborationKeeps = (modules : List Module) (top : Name) (rest : Gens) (d : Design) → elaborated modules top rest ≡ Ok d → IsDesign d
