@@ -1,2 +1,3 @@
 mod Samples
+pub mod Single
 pub mod Views
