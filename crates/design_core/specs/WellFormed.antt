@@ -1,6 +1,6 @@
 -- What each elaborated design keeps.
-use Rattle.std.specs.Prelude.{◌≡◌, ℕ, zero, suc, ◌+◌, ◌<◌, ◌==◌, Bool, false, List, [], ◌∷◌, ◌++◌, length, Option, Some, None, option_map, unwrap_or, slice_get, if◌then◌else◌, codes}
-use Rattle.std.specs.List.{enumerate_from, flat_map}
+use Rattle.std.specs.Prelude.{◌≡◌, ℕ, zero, suc, ◌+◌, ◌<◌, ◌≤◌, ◌==◌, Bool, true, false, List, [], ◌∷◌, ◌++◌, length, Option, Some, None, option_map, unwrap_or, slice_get, if◌then◌else◌, codes}
+use Rattle.std.specs.List.{enumerate_from, flat_map, list_any}
 use Rattle.design_core.specs.declared.design.Instance.{Instance}
 use Rattle.design_core.specs.declared.variant.Signal.{Signal}
 use Rattle.design_core.specs.declared.variant.Kind.{Kind}
@@ -8,7 +8,7 @@ use Rattle.design_core.specs.declared.variant.Kind.TheVariants.{Input, Output, W
 use Rattle.exec_core.specs.Block.{Name}
 use Rattle.exec_core.specs.Lists.{EachOf, AreApart}
 use Rattle.design_core.specs.Design.{Child, Variant, Design}
-use Rattle.design_core.specs.Slots.{variant_heads, slots_of, AreNumbered}
+use Rattle.design_core.specs.Slots.{variant_heads, slots_of, from}
 
 -- ---- instances in preorder
 
@@ -93,21 +93,41 @@ if_child_out s (ChildOut k port) = s ∷ []
 abbrev pub child_outs : List Signal → List Signal
 child_outs signals = flat_map (λ s. if_child_out s s.kind) signals
 
+-- ---- numbers
+
+-- how many registers a kind of signal is
+abbrev pub if_reg : Kind → ℕ
+if_reg Input = 0
+if_reg Output = 0
+if_reg Wire = 0
+if_reg (Reg start) = 1
+if_reg (ChildOut k port) = 0
+
+abbrev pub regs : List Signal → ℕ
+regs [] = 0
+regs (s ∷ signals) = if_reg s.kind + regs signals
+
+-- the registers of all instances
+abbrev pub registers : List Variant → List Instance → ℕ
+registers variants [] = 0
+registers variants (r ∷ instances) = regs (signals_at r.variant variants) + registers variants instances
+
+-- the slots of all variants
+abbrev pub all_slots : List Variant → List ℕ
+all_slots variants = flat_map (λ v. slots_of (variant_heads v)) variants
+
+-- numbers one after another, from the first of them on
+abbrev pub AreInTurn : List ℕ → Type 0
+AreInTurn numbers = numbers ≡ from (unwrap_or (slice_get numbers 0) 0) (length numbers)
+
 -- ---- the design
 
 -- a variant: its children's variants are in the design; the signals `u.q` are the outputs of its children, child by child, each
--- once and with its width; and its statements in preorder have numbers one after another
+-- once and with its width; and its statements have slots one after another, block by block and in preorder
 pub record IsVariant (variants : List Variant) (v : Variant) : Type 0 where
   pub children : EachOf (λ c. c.variant < length variants) v.children
   pub outputs : child_outs v.signals ≡ flat_map (outputs_of variants) (enumerate_from 0 v.children)
-  pub numbered : AreNumbered v
-
--- an instance of a variant
-pub record IsOf (instances : List Instance) (v : ℕ) : Type 0 where
-  pub number : ℕ
-  pub instance : Instance
-  pub stands : slice_get instances number ≡ Some instance
-  pub variant : instance.variant ≡ v
+  pub in_turn : AreInTurn (slots_of (variant_heads v))
 
 pub record IsDesign (d : Design) : Type 0 where
   -- the first instance is the top, whose path is its module's name
@@ -116,12 +136,17 @@ pub record IsDesign (d : Design) : Type 0 where
   pub parents : (i : ℕ) (r : Instance) → slice_get d.instances (i + 1) ≡ Some r → HasParent (i + 1) r
   -- each instance is of a variant of the design, and each variant has an instance
   pub variants : (i : ℕ) (r : Instance) → slice_get d.instances i ≡ Some r → r.variant < length d.variants
-  pub instances : (v : ℕ) → v < length d.variants → IsOf d.instances v
+  pub instances : (v : ℕ) → v < length d.variants → list_any (λ r. r.variant == v) d.instances ≡ true
   -- those that stand in an instance are the children of its variant, in order
   pub children : (i : ℕ) (r : Instance) → slice_get d.instances i ≡ Some r → AreChildren i r.path (children_at r.variant d.variants) (standing i 0 d.instances)
   -- all of them are in preorder, at most 32 levels below the top
   pub preorder : AreInPreorder d
   -- each variant
   pub each : EachOf (IsVariant d.variants) d.variants
-  -- no two statements have one slot
-  pub slots : AreApart (flat_map (λ v. slots_of (variant_heads v)) d.variants)
+  -- each number below the number of statements is the slot of one
+  pub apart : AreApart (all_slots d.variants)
+  pub below : EachOf (λ k. k < length (all_slots d.variants)) (all_slots d.variants)
+  -- there are no more of them than the limits say
+  pub few : length d.instances ≤ 4096
+  pub statements : length (all_slots d.variants) ≤ 200000
+  pub registers : registers d.variants d.instances ≤ 200000

@@ -1,11 +1,11 @@
 -- A design that elaboration gives is well formed.
-use Rattle.std.proofs.Common.{◌≡◌, ℕ, zero, suc, ◌+◌, ◌<◌, ◌≤◌, ◌==◌, Bool, true, false, not, cond, ◌&&◌, List, [], ◌∷◌, ◌++◌, map, length, length-append, add-zero, Option, Some, None, option_map, unwrap_or, Result, Ok, Err, if◌then◌else◌, nat_lt, codes, ◌⊎◌, inl, inr, refl, sym, ap, ap₂, ◌∙◌, subst, arith}
-use Rattle.std.specs.List.{slice_get, enumerate_from, flat_map}
+use Rattle.std.proofs.Common.{◌≡◌, ℕ, zero, suc, ◌+◌, ◌<◌, ◌≤◌, ◌==◌, Bool, true, false, not, cond, ◌&&◌, ◌||◌, List, [], ◌∷◌, ◌++◌, map, length, length-append, add-zero, Option, Some, None, option_map, unwrap_or, Result, Ok, Err, if◌then◌else◌, nat_lt, codes, ◌⊎◌, inl, inr, refl, sym, ap, ap₂, ◌∙◌, subst, arith}
+use Rattle.std.specs.List.{slice_get, enumerate_from, flat_map, list_any}
 use Rattle.std.proofs.lemmas.Bool.{eqb-true, ltb-true, ltb-false, eq-eqb}
 use Rattle.std.proofs.lemmas.List.{length-map}
 use Rattle.std.proofs.lemmas.List.FromFn.{length-enumerate_from}
 use Rattle.std.proofs.lemmas.List.Sums.{prefix_len-le-length}
-use Rattle.std.proofs.lemmas.Option.{none-some, same_Some, slice_get-map, slice_get_within}
+use Rattle.std.proofs.lemmas.Option.{none-some, same_Some, slice_get-map, slice_get_within, get_or_from_slice_get}
 use Rattle.gen_tree.specs.Tree.{Module}
 use Rattle.exec_core.specs.Block.{Name}
 use Rattle.exec_core.specs.Lists.{EachOf}
@@ -15,19 +15,22 @@ use Rattle.design_core.specs.declared.Kind.{Kind}
 use Rattle.design_core.specs.declared.Kind.TheVariants.{Input, Output, Wire, Reg, ChildOut}
 use Rattle.design_core.specs.Design as design
 use Rattle.design_core.specs.Design.{Gens, Variant, Design}
-use Rattle.design_core.specs.Slots.{AreNumbered}
-use Rattle.design_core.specs.WellFormed.{HasParent, AreChildren, standing, children_at, signals_at, output_of, outputs_of, child_outs, IsVariant, IsOf, IsDesign}
-use Rattle.design_exec.proofs.Slots.{each_numbered}
+use Rattle.design_core.specs.Slots.{AreNumbered, from, slots_of, variant_heads}
+use Rattle.design_core.specs.WellFormed.{HasParent, AreChildren, standing, children_at, signals_at, output_of, outputs_of, child_outs, regs, registers, all_slots, AreInTurn, IsVariant, IsDesign}
+use Rattle.design_exec.proofs.Slots.{each_numbered, blocks_numbered}
 use Rattle.design_exec.proofs.Ranges.{variants_apart}
 use Rattle.elab_core.specs.Walk.{Fault, Seen, none_seen, judge, too_large}
 use Rattle.elab_core.specs.declared.Count.TheVariants.{Cells}
 use Rattle.elab_core.specs.Elaborated.{Child, Content, Instance}
 use Rattle.elab_core.specs.Elab.{output_as, child_outputs, top_walk}
-use Rattle.elab_core.specs.Design.{same_gens, is_of, variant_of, firsts, variants_of, child_in, numbered_variant, instance_in, designed, cells, unless_large, design_from, elab, elaborated}
+use Rattle.elab_core.specs.Design.{blocks_size, first_slot, same_gens, is_of, variant_of, firsts, variants_of, child_in, numbered_variant, instance_in, designed, cells, unless_large, design_from, elab, elaborated}
 use Rattle.elab_laws.proofs.Variants.{number_in, Found, EachFound, each_found, all_grown, stays, is_its_own, search_last}
 use Rattle.elab_laws.proofs.Shapes.{IsTree, a_tree, AreTrees, no_trees, one_behind, IsGiven, EachGiven, TopOk}
 use Rattle.elab_laws.proofs.Preorder.{EachHas, all_children, given_firsts, given_at, passes, both_parts, gens_equal, numbered_at, the_variants, top_number, in_preorder, walked, OnDesign}
 use Rattle.elab_laws.proofs.Below.{EachFrom, HasChildren, TreeOk, tree_ok}
+use Rattle.elab_laws.specs.Sizes.{all_statements, all_registers}
+use Rattle.elab_laws.proofs.Sums.{slot_within}
+use Rattle.elab_laws.proofs.ItemCounts.{Small, walk_small, firsts_few}
 use Rattle.elab_laws.proofs.Outputs.{signals_by, met_outputs, OutsOk, given_signals, given_outs}
 
 -- ---- elements of lists
@@ -40,7 +43,7 @@ each_at P n (s ∷ list) (suc k) r h e = subst (λ m. P m r) (further n k) (each
     further : (n k : ℕ) → n + 1 + k ≡ n + suc k
     further n k = omega arith
 
-of_each : {A : Type 0} (P : A → Type 0) (list : List A) (k : ℕ) (a : A) → EachOf P list → slice_get list k ≡ Some a → P a
+pub of_each : {A : Type 0} (P : A → Type 0) (list : List A) (k : ℕ) (a : A) → EachOf P list → slice_get list k ≡ Some a → P a
 of_each P [] k a h e = absurd (none-some a e)
 of_each P (b ∷ list) zero a h e = subst P (same_Some b a e) h.0
 of_each P (b ∷ list) (suc k) a h e = of_each P list k a h.1 e
@@ -136,19 +139,26 @@ at_own variants (i ∷ list) h =
     by_test false e f g = g e
 
 -- each variant has an instance
-of_variant : (list : List Instance) (v : ℕ) → v < length (variants_of list) → IsOf (map (instance_in (variants_of list)) list) v
+some_is : {A : Type 0} (p : A → Bool) (list : List A) (k : ℕ) (a : A) → slice_get list k ≡ Some a → p a ≡ true → list_any p list ≡ true
+some_is p [] k a e h = absurd (none-some a e)
+some_is p (b ∷ list) zero a e h = ap (λ t. t || list_any p list) (ap p (same_Some b a e) ∙ h)
+some_is p (b ∷ list) (suc k) a e h = either_true (p b) (list_any p list) (some_is p list k a e h)
+  where
+    either_true : (a b : Bool) → b ≡ true → a || b ≡ true
+    either_true true b e = refl
+    either_true false b e = e
+
+of_variant : (list : List Instance) (v : ℕ) → v < length (variants_of list) → list_any (λ r. r.variant == v) (map (instance_in (variants_of list)) list) ≡ true
 of_variant list v small =
     let x = there (variants_of list) v small in
     choose x.0 x.1 (among [] list v x.0 x.1)
   where
-    choose : (x : Instance) → slice_get (variants_of list) v ≡ Some x → Among [] list v x → IsOf (map (instance_in (variants_of list)) list) v
+    choose : (x : Instance) → slice_get (variants_of list) v ≡ Some x → Among [] list v x → list_any (λ r. r.variant == v) (map (instance_in (variants_of list)) list) ≡ true
     choose x e (inl h) = absurd (none-some x h)
-    choose x e (inr p) = record {
-      number = p.0;
-      instance = instance_in (variants_of list) x;
-      stands = slice_get-map (instance_in (variants_of list)) list p.0 ∙ ap (option_map (instance_in (variants_of list))) p.1;
-      variant = at_own [] list (λ k y g. absurd (none-some y g)) v x e;
-    }
+    choose x e (inr p) =
+        some_is (λ (r : Placed). r.variant == v) (map (instance_in (variants_of list)) list) p.0 (instance_in (variants_of list) x)
+        (slice_get-map (instance_in (variants_of list)) list p.0 ∙ ap (option_map (instance_in (variants_of list))) p.1)
+        (eq-eqb (number_in (variants_of list) x) v (at_own [] list (λ k y g. absurd (none-some y g)) v x e))
 
 -- ---- children
 
@@ -230,6 +240,17 @@ child_by_child modules variants k (c ∷ children) given found =
 
 -- ---- variants
 
+long_from : (k n : ℕ) → length (from k n) ≡ n
+long_from k zero = refl
+long_from k (suc n) = ap (λ m. suc m) (long_from (k + 1) n)
+
+from_first : (k n : ℕ) → AreInTurn (from k n)
+from_first k zero = refl
+from_first k (suc n) = ap (from k) (sym (long_from k (suc n)))
+
+in_turn : (v : Variant) → AreNumbered v → AreInTurn (slots_of (variant_heads v))
+in_turn v h = subst AreInTurn (sym h.slots) (from_first h.first h.count)
+
 children_within : (modules : List Module) (variants : List Instance) (children : List Child) → EachOf (ChildFound variants) children
     → EachOf (λ (c : design.Child). c.variant < length (the_variants modules variants)) (map (child_in variants) children)
 children_within modules variants [] h = tt
@@ -243,8 +264,54 @@ are_variants modules variants k (i ∷ list) given h found numbered =
     (record {
       children = children_within modules variants i.content.children found.0;
       outputs = given_outs modules i h.0 ∙ child_by_child modules variants 0 i.content.children given found.0;
-      numbered = numbered.0;
+      in_turn = in_turn (numbered_variant modules variants (k, i)) numbered.0;
     }, are_variants modules variants (k + 1) list given h.1 found.1 numbered.1)
+
+-- ---- slots and registers
+
+-- the slots of a variant, from its first on
+range_of : (modules : List Module) (variants : List Instance) (v : ℕ × Instance) → slots_of (variant_heads (numbered_variant modules variants v)) ≡ from (first_slot variants v) (blocks_size v.1.content.blocks)
+range_of modules variants v = blocks_numbered (first_slot variants v) v.1.content.blocks
+
+long_slots : (modules : List Module) (variants list : List Instance) (k : ℕ) → length (all_slots (map (numbered_variant modules variants) (enumerate_from k list))) ≡ all_statements list
+long_slots modules variants [] k = refl
+long_slots modules variants (i ∷ list) k =
+    length-append (slots_of (variant_heads (numbered_variant modules variants (k, i)))) (all_slots (map (numbered_variant modules variants) (enumerate_from (k + 1) list)))
+    ∙ ap₂ (λ m n. m + n) (ap (λ (l : List ℕ). length l) (range_of modules variants (k, i)) ∙ long_from (first_slot variants (k, i)) (blocks_size i.content.blocks)) (long_slots modules variants list (k + 1))
+
+from_below : (k n most : ℕ) → k + n ≤ most → EachOf (λ m. m < most) (from k n)
+from_below k zero most h = tt
+from_below k (suc n) most h = (omega (arith, h), from_below (k + 1) n most (omega (arith, h)))
+
+-- so many of the variants from one on are those of a list
+abbrev Stand : List Instance → ℕ → List Instance → Type 0
+Stand variants k list = (j : ℕ) (y : Instance) → slice_get list j ≡ Some y → slice_get variants (k + j) ≡ Some y
+
+each_below : (modules : List Module) (variants list : List Instance) (k : ℕ) → Stand variants k list → EachOf (λ m. m < all_statements variants) (all_slots (map (numbered_variant modules variants) (enumerate_from k list)))
+each_below modules variants [] k s = tt
+each_below modules variants (i ∷ list) k s =
+    let here : slice_get variants k ≡ Some i = ap (slice_get variants) (sym (add-zero k)) ∙ s 0 i refl in
+    let within = slot_within variants k i (slice_get_within variants k i here) in
+    let at = get_or_from_slice_get variants k i i here in
+    let fits : first_slot variants (k, i) + blocks_size i.content.blocks ≤ all_statements variants =
+    subst (λ (x : Instance). first_slot variants (k, x) + blocks_size x.content.blocks ≤ all_statements variants) at within in
+    each_both (λ m. m < all_statements variants) (slots_of (variant_heads (numbered_variant modules variants (k, i)))) (all_slots (map (numbered_variant modules variants) (enumerate_from (k + 1) list)))
+    (subst (EachOf (λ m. m < all_statements variants)) (sym (range_of modules variants (k, i))) (from_below (first_slot variants (k, i)) (blocks_size i.content.blocks) (all_statements variants) fits))
+    (each_below modules variants list (k + 1) (λ j y e. ap (slice_get variants) (further k j) ∙ s (suc j) y e))
+  where
+    further : (k j : ℕ) → k + 1 + j ≡ k + suc j
+    further k j = omega arith
+
+slots_below : (modules : List Module) (variants : List Instance) → EachOf (λ m. m < length (all_slots (the_variants modules variants))) (all_slots (the_variants modules variants))
+slots_below modules variants =
+    subst (λ n. EachOf (λ m. m < n) (all_slots (the_variants modules variants))) (sym (long_slots modules variants variants 0))
+    (each_below modules variants variants 0 (λ j y e. ap (slice_get variants) (none_before j) ∙ e))
+
+same_registers : (modules : List Module) (variants list : List Instance) → EachGiven modules variants → EachGiven modules list → EachFound variants list
+    → registers (the_variants modules variants) (map (instance_in variants) list) ≡ all_registers list
+same_registers modules variants [] given h found = refl
+same_registers modules variants (i ∷ list) given h found =
+    ap₂ (λ m n. m + n) (ap (λ (l : List Signal). regs l) (its_signals modules variants i.place i.params given found.0 ∙ given_signals modules i h.0)) (same_registers modules variants list given h.1 found.1)
 
 -- ---- the design
 
@@ -252,8 +319,8 @@ top_is : {top : Name} {place : ℕ} {params : Gens} {list : List Instance} (vari
     → slice_get (map (instance_in variants) list) 0 ≡ Some (record { path = top; variant = variant_of place params variants; parent = None })
 top_is variants (a_tree room path parent place params at content below under) = refl
 
-pub is_design : (modules : List Module) (top : Name) (list : List Instance) → TopOk modules top list → IsDesign (designed modules top list)
-is_design modules top list ok =
+pub is_design : (modules : List Module) (top : Name) (list : List Instance) → TopOk modules top list → Small modules list → IsDesign (designed modules top list)
+is_design modules top list ok small =
     let variants = variants_of list in
     let d = designed modules top list in
     let found = each_found [] list in
@@ -274,18 +341,27 @@ is_design modules top list ok =
       children = λ i r e. subst (λ n. AreChildren n r.path (children_at r.variant d.variants) (standing n 0 d.instances)) (none_before i) (each_at (HasChildren d.variants 0 d.instances) 0 d.instances i r tree.each e);
       preorder = in_preorder modules top list ok;
       each = are_variants modules variants 0 variants given given (each_first (ContentFound variants) [] list tt contents) (each_numbered modules variants (enumerate_from 0 variants));
-      slots = variants_apart modules variants;
+      apart = variants_apart modules variants;
+      below = slots_below modules variants;
+      few = omega (arith, small.instances, length-map list (instance_in variants));
+      statements = omega (arith, small.statements, firsts_few [] list, long_slots modules variants variants 0);
+      registers = omega (arith, small.registers, same_registers modules variants list given ok.given found);
     }
 
 -- ---- what elaboration gives
 
-design_kept : (modules : List Module) (top : Name) (r : Result (List Instance × Seen) Fault) → ((list : List Instance) (seen : Seen) → r ≡ Ok (list, seen) → TopOk modules top list)
+-- what a judged walk gives
+pub record IsJudged (modules : List Module) (top : Name) (list : List Instance) : Type 0 where
+  pub ok : TopOk modules top list
+  pub small : Small modules list
+
+design_kept : (modules : List Module) (top : Name) (r : Result (List Instance × Seen) Fault) → ((list : List Instance) (seen : Seen) → r ≡ Ok (list, seen) → IsJudged modules top list)
     → OnDesign IsDesign (design_from modules top (unless_large r))
 design_kept modules top (Ok p) h =
-    elim (nat_lt 4000000 (cells p.0)) as (λ b. OnDesign IsDesign (design_from modules top (if b then Err (too_large 0 Cells) else Ok p.0))) [ true ↦ tt | false ↦ is_design modules top p.0 (h p.0 p.1 refl) ]
+    elim (nat_lt 4000000 (cells p.0)) as (λ b. OnDesign IsDesign (design_from modules top (if b then Err (too_large 0 Cells) else Ok p.0))) [ true ↦ tt | false ↦ is_design modules top p.0 (h p.0 p.1 refl).ok (h p.0 p.1 refl).small ]
 design_kept modules top (Err fault) h = tt
 
 pub elaboration_keeps : (modules : List Module) (top : Name) (given : Gens) (d : Design) → elaborated modules top given ≡ Ok d → IsDesign d
 elaboration_keeps modules top given d e =
-    let all = design_kept modules top (judge none_seen (top_walk modules top given)) (λ list seen g. walked modules top given list seen g) in
+    let all = design_kept modules top (judge none_seen (top_walk modules top given)) (λ list seen g. record { ok = walked modules top given list seen g; small = walk_small modules top given list seen g }) in
     let P : Result Design Fault → Type 0 = OnDesign IsDesign in subst P e all

@@ -1,7 +1,11 @@
 pub mod Below
+pub mod BodyCounts
 pub mod Contents
+pub mod Counts
+pub mod ItemCounts
 pub mod Kept
 pub mod Outputs
 pub mod Preorder
 pub mod Shapes
+pub mod Sums
 pub mod Variants

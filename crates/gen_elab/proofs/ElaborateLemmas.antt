@@ -10,7 +10,7 @@ use Rattle.elab_core.specs.Elab.{top_walk}
 use Rattle.elab_core.specs.Design.{cells, designed, unless_large, design_from, elaborated}
 use Rattle.elab_walk.specs.Walked.{uncounted}
 use Rattle.gen_elab.specs.Finished.{finished}
-use Rattle.gen_elab.proofs.ItemCounts.{Small, walk_small}
+use Rattle.elab_laws.proofs.ItemCounts.{Small, walk_small}
 
 -- what was judged, without its counts
 abbrev Counted : Type 0

@@ -2,11 +2,8 @@ mod OffsetLemmas
 mod Ranges
 mod SizeLemmas
 mod VariantLemmas
-mod BodyCounts
 mod CellLemmas
-mod Counts
 mod DesignLemmas
 mod ElaborateLemmas
-mod ItemCounts
 mod KeyLemmas
 mod Numbering
