@@ -7,3 +7,4 @@ pub mod View
 pub mod DesignView
 pub mod Slots
 pub mod WellFormed
+pub mod Single

@@ -1,5 +1,5 @@
 -- What each elaborated design keeps.
-use Rattle.std.specs.Prelude.{◌≡◌, ℕ, zero, suc, ◌+◌, ◌<◌, ◌≤◌, ◌==◌, Bool, true, false, List, [], ◌∷◌, ◌++◌, length, Option, Some, None, option_map, unwrap_or, slice_get, if◌then◌else◌, codes}
+use Rattle.std.specs.Prelude.{◌≡◌, ℕ, zero, suc, ◌+◌, ◌<◌, ◌≤◌, ◌==◌, Bool, true, false, List, [], ◌∷◌, ◌++◌, length, Option, Some, None, IsSomeAnd, option_map, unwrap_or, slice_get, if◌then◌else◌, codes}
 use Rattle.std.specs.List.{enumerate_from, flat_map, list_any}
 use Rattle.design_core.specs.declared.design.Instance.{Instance}
 use Rattle.design_core.specs.declared.variant.Signal.{Signal}
@@ -59,10 +59,8 @@ AreChildren i path (c ∷ children) [] = ⊥
 AreChildren i path (c ∷ children) (r ∷ rest) = IsChild i path c r × AreChildren i path children rest
 
 -- an instance but the top stands in one before it
-pub record HasParent (i : ℕ) (r : Instance) : Type 0 where
-  pub parent : ℕ
-  pub is : r.parent ≡ Some parent
-  pub before : parent < i
+abbrev pub HasParent : ℕ → Instance → Type 0
+HasParent i r = IsSomeAnd r.parent (λ parent. parent < i)
 
 -- ---- the outputs of children as signals
 

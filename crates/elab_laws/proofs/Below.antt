@@ -131,7 +131,7 @@ behind_ok variants path at children below list c ok new =
           (sym (standing_append k (at + 1) below list ∙ ap (λ (s : List (ℕ × Placed)). s ++ standing k to list) (ok.outside k (ne_eqb k at (λ e. absurd (omega (arith, e, l)))) (inr l)))) p) new.each);
       parents =
           each_append HasParent (at + 1) below list ok.parents
-          (subst (EachFrom HasParent to) (sym new.is) (record { parent = at; is = refl; before = omega arith }, new.parents));
+          (subst (EachFrom HasParent to) (sym new.is) (omega arith, new.parents));
     }
   where
     other_eq : (i at : ℕ) → (i == at) ≡ false → (at == i) ≡ false
