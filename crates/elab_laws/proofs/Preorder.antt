@@ -226,21 +226,3 @@ judge_out seen (Counted what line w) =
 pub walked : (modules : List Module) (top : Name) (given : Gens) (list : List Instance) (seen : Seen) → judge none_seen (top_walk modules top given) ≡ Ok (list, seen) → TopOk modules top list
 walked modules top given list seen e =
     top_ok modules top given list (ok_outcome (λ o. out (top_walk modules top given) ≡ o) (judge none_seen (top_walk modules top given)) list seen e (judge_out none_seen (top_walk modules top given)))
-
-design_preorder : (modules : List Module) (top : Name) (r : Result (List Instance × Seen) Fault) → ((list : List Instance) (seen : Seen) → r ≡ Ok (list, seen) → TopOk modules top list)
-    → OnDesign AreInPreorder (design_from modules top (unless_large r))
-design_preorder modules top (Ok p) h =
-    elim (nat_lt 4000000 (cells p.0)) as (λ b. OnDesign AreInPreorder (design_from modules top (if b then Err (too_large 0 Cells) else Ok p.0))) [ true ↦ tt | false ↦ in_preorder modules top p.0 (h p.0 p.1 refl) ]
-design_preorder modules top (Err fault) h = tt
-
--- an elaborated design's instances stand in preorder
-pub elaborated_preorder : (modules : List Module) (top : Name) (given : Gens) (d : Design) → elaborated modules top given ≡ Ok d → AreInPreorder d
-elaborated_preorder modules top given d e =
-    let all = design_preorder modules top (judge none_seen (top_walk modules top given)) (λ list seen g. walked modules top given list seen g) in
-    let P : Result Design Fault → Type 0 = OnDesign AreInPreorder in subst P e all
-
--- so do those of what the code answers
-pub answered_preorder : (modules : List Module) (top : Name) (given : Gens) (result : Result code_design.Design code_fault.ElabFault) → Answers (λ d. design_of d) result (elaborated modules top given)
-    → IfOk result (λ d. AreInPreorder (design_of d))
-answered_preorder modules top given (Ok d) h = elaborated_preorder modules top given (design_of d) h
-answered_preorder modules top given (Err fault) h = tt

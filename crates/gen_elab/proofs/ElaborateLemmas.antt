@@ -10,6 +10,9 @@ use Rattle.elab_core.specs.Elab.{top_walk}
 use Rattle.elab_core.specs.Design.{cells, designed, unless_large, design_from, elaborated}
 use Rattle.elab_walk.specs.Walked.{uncounted}
 use Rattle.gen_elab.specs.Finished.{finished}
+use Rattle.design_core.specs.WellFormed.{IsDesign}
+use Rattle.elab_laws.proofs.Preorder.{walked}
+use Rattle.elab_laws.proofs.Kept.{is_design}
 use Rattle.elab_laws.proofs.ItemCounts.{Small, walk_small}
 
 -- what was judged, without its counts
@@ -30,6 +33,12 @@ ok_equal list (Err fault) e = absurd (let P : Result (List Instance) Fault → T
 -- what the walk gives is small
 pub small_walk : (modules : List Module) (top : Name) (given : Gens) (list : List Instance) → uncounted (judge none_seen (top_walk modules top given)) ≡ Ok list → Small modules list
 small_walk modules top given list e = let found = ok_equal list (judge none_seen (top_walk modules top given)) e in walk_small modules top given list found.0 found.1
+
+-- and makes a design that is well formed
+pub kept_walk : (modules : List Module) (top : Name) (given : Gens) (list : List Instance) → uncounted (judge none_seen (top_walk modules top given)) ≡ Ok list → IsDesign (designed modules top list)
+kept_walk modules top given list e =
+    let found = ok_equal list (judge none_seen (top_walk modules top given)) e in
+    is_design modules top list (walked modules top given list found.0 found.1) (walk_small modules top given list found.0 found.1)
 
 ended : (modules : List Module) (top : Name) (r : Counted) (list : List Instance) → uncounted r ≡ Ok list → design_from modules top (unless_large r) ≡ finished modules top list
 unfolding finished
