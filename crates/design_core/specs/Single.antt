@@ -6,7 +6,7 @@ use Rattle.design_core.specs.declared.variant.Signal.{Signal}
 use Rattle.design_core.specs.declared.variant.Kind.{Kind}
 use Rattle.exec_core.specs.Block.{Name}
 use Rattle.exec_core.specs.Lists.{EachOf, IsNotIn, AreApart}
-use Rattle.design_core.specs.Design.{Child, Variant, Design}
+use Rattle.design_core.specs.Design.{Gens, AreInRange, Child, Variant, Design}
 use Rattle.design_core.specs.WellFormed.{IsChild, AreChildren, HasParent, IsVariant, IsDesign}
 
 kind_set : IsSet Kind
@@ -39,8 +39,12 @@ children_prop i path [] (r ∷ list) = hlevel props
 children_prop i path (c ∷ children) [] = hlevel props
 children_prop i path (c ∷ children) (r ∷ list) = hlevel (props, child_prop i path c r, children_prop i path children list)
 
+gens_prop : (gens : Gens) → IsProp (AreInRange gens)
+gens_prop [] = hlevel props
+gens_prop (g ∷ gens) = hlevel (props, gens_prop gens)
+
 variant_prop : (variants : List Variant) (v : Variant) → IsProp (IsVariant variants v)
-variant_prop variants v = hlevel (props, signal_set, each_prop)
+variant_prop variants v = hlevel (props, signal_set, each_prop, gens_prop)
 
 pub design_prop : (d : Design) → IsProp (IsDesign d)
 design_prop d = hlevel (props, instance_set, each_prop, variant_prop, children_prop, apart_prop)

@@ -7,7 +7,7 @@ use Rattle.design_core.specs.declared.variant.Kind.{Kind}
 use Rattle.design_core.specs.declared.variant.Kind.TheVariants.{Input, Output, Wire, Reg, ChildOut}
 use Rattle.exec_core.specs.Block.{Name}
 use Rattle.exec_core.specs.Lists.{EachOf, AreApart}
-use Rattle.design_core.specs.Design.{Child, Variant, Design}
+use Rattle.design_core.specs.Design.{AreInRange, Child, Variant, Design}
 use Rattle.design_core.specs.Slots.{variant_heads, slots_of, from}
 
 -- ---- instances in preorder
@@ -121,11 +121,14 @@ AreInTurn numbers = numbers ≡ from (unwrap_or (slice_get numbers 0) 0) (length
 -- ---- the design
 
 -- a variant: its children's variants are in the design; the signals `u.q` are the outputs of its children, child by child, each
--- once and with its width; and its statements have slots one after another, block by block and in preorder
+-- once and with its width; its statements have slots one after another, block by block and in preorder; its parameters and
+-- generator variables are from -2^62 to 2^62
 pub record IsVariant (variants : List Variant) (v : Variant) : Type 0 where
   pub children : EachOf (λ c. c.variant < length variants) v.children
   pub outputs : child_outs v.signals ≡ flat_map (outputs_of variants) (enumerate_from 0 v.children)
   pub in_turn : AreInTurn (slots_of (variant_heads v))
+  pub params : AreInRange v.params
+  pub gens : EachOf (λ h. AreInRange h.gens) (variant_heads v)
 
 pub record IsDesign (d : Design) : Type 0 where
   -- the first instance is the top, whose path is its module's name

@@ -14,7 +14,7 @@ use Rattle.design_core.specs.declared.Signal.{Signal}
 use Rattle.design_core.specs.declared.Kind.{Kind}
 use Rattle.design_core.specs.declared.Kind.TheVariants.{Input, Output, Wire, Reg, ChildOut}
 use Rattle.design_core.specs.Design as design
-use Rattle.design_core.specs.Design.{Gens, Variant, Design}
+use Rattle.design_core.specs.Design.{Gens, AreInRange, Variant, Design}
 use Rattle.design_core.specs.Slots.{AreNumbered, from, slots_of, variant_heads}
 use Rattle.design_core.specs.WellFormed.{HasParent, AreChildren, standing, children_at, signals_at, output_of, outputs_of, child_outs, regs, registers, all_slots, AreInTurn, IsVariant, IsDesign}
 use Rattle.design_exec.proofs.Slots.{each_numbered, blocks_numbered}
@@ -28,6 +28,8 @@ use Rattle.elab_laws.proofs.Variants.{number_in, Found, EachFound, each_found, a
 use Rattle.elab_laws.proofs.Shapes.{IsTree, a_tree, AreTrees, no_trees, one_behind, IsGiven, EachGiven, TopOk}
 use Rattle.elab_laws.proofs.Preorder.{EachHas, all_children, given_firsts, given_at, passes, both_parts, gens_equal, numbered_at, the_variants, top_number, in_preorder, walked, OnDesign}
 use Rattle.elab_laws.proofs.Below.{EachFrom, HasChildren, TreeOk, tree_ok}
+use Rattle.elab_core.proofs.ReplacingItems.{Anything}
+use Rattle.elab_laws.proofs.Fine.{InstanceFine, tree_fine, any_modules, blocks_fine}
 use Rattle.elab_laws.specs.Sizes.{all_statements, all_registers}
 use Rattle.elab_laws.proofs.Sums.{slot_within}
 use Rattle.elab_laws.proofs.ItemCounts.{Small, walk_small, firsts_few}
@@ -257,15 +259,17 @@ children_within modules variants [] h = tt
 children_within modules variants (c ∷ children) h = (subst (λ n. variant_of c.place c.params variants < n) (sym (long_variants modules variants)) h.0, children_within modules variants children h.1)
 
 are_variants : (modules : List Module) (variants : List Instance) (k : ℕ) (list : List Instance) → EachGiven modules variants → EachGiven modules list → EachOf (ContentFound variants) list
-    → EachOf AreNumbered (map (numbered_variant modules variants) (enumerate_from k list))
+    → EachOf AreNumbered (map (numbered_variant modules variants) (enumerate_from k list)) → EachOf (InstanceFine Anything) list
     → EachOf (IsVariant (the_variants modules variants)) (map (numbered_variant modules variants) (enumerate_from k list))
-are_variants modules variants k [] given h found numbered = tt
-are_variants modules variants k (i ∷ list) given h found numbered =
+are_variants modules variants k [] given h found numbered fine = tt
+are_variants modules variants k (i ∷ list) given h found numbered fine =
     (record {
       children = children_within modules variants i.content.children found.0;
       outputs = given_outs modules i h.0 ∙ child_by_child modules variants 0 i.content.children given found.0;
       in_turn = in_turn (numbered_variant modules variants (k, i)) numbered.0;
-    }, are_variants modules variants (k + 1) list given h.1 found.1 numbered.1)
+      params = fine.0.0;
+      gens = blocks_fine (first_slot variants (k, i)) i.content.blocks (fine.0.1).blocks;
+    }, are_variants modules variants (k + 1) list given h.1 found.1 numbered.1 fine.1)
 
 -- ---- slots and registers
 
@@ -340,7 +344,8 @@ is_design modules top list ok small =
       instances = λ v small. of_variant list v (omega (arith, small, long_variants modules variants));
       children = λ i r e. subst (λ n. AreChildren n r.path (children_at r.variant d.variants) (standing n 0 d.instances)) (none_before i) (each_at (HasChildren d.variants 0 d.instances) 0 d.instances i r tree.each e);
       preorder = in_preorder modules top list ok;
-      each = are_variants modules variants 0 variants given given (each_first (ContentFound variants) [] list tt contents) (each_numbered modules variants (enumerate_from 0 variants));
+      each = are_variants modules variants 0 variants given given (each_first (ContentFound variants) [] list tt contents) (each_numbered modules variants (enumerate_from 0 variants))
+          (each_first (InstanceFine Anything) [] list tt (tree_fine Anything modules (any_modules modules) ok.tree ok.given ok.fine));
       apart = variants_apart modules variants;
       below = slots_below modules variants;
       few = omega (arith, small.instances, length-map list (instance_in variants));
@@ -361,7 +366,7 @@ design_kept modules top (Ok p) h =
     elim (nat_lt 4000000 (cells p.0)) as (λ b. OnDesign IsDesign (design_from modules top (if b then Err (too_large 0 Cells) else Ok p.0))) [ true ↦ tt | false ↦ is_design modules top p.0 (h p.0 p.1 refl).ok (h p.0 p.1 refl).small ]
 design_kept modules top (Err fault) h = tt
 
-pub elaboration_keeps : (modules : List Module) (top : Name) (given : Gens) (d : Design) → elaborated modules top given ≡ Ok d → IsDesign d
-elaboration_keeps modules top given d e =
-    let all = design_kept modules top (judge none_seen (top_walk modules top given)) (λ list seen g. record { ok = walked modules top given list seen g; small = walk_small modules top given list seen g }) in
+pub elaboration_keeps : (modules : List Module) (top : Name) (given : Gens) (d : Design) → AreInRange given → elaborated modules top given ≡ Ok d → IsDesign d
+elaboration_keeps modules top given d fine e =
+    let all = design_kept modules top (judge none_seen (top_walk modules top given)) (λ list seen g. record { ok = walked modules top given list seen fine g; small = walk_small modules top given list seen g }) in
     let P : Result Design Fault → Type 0 = OnDesign IsDesign in subst P e all

@@ -2,6 +2,7 @@ pub mod Below
 pub mod BodyCounts
 pub mod Contents
 pub mod Counts
+pub mod Fine
 pub mod ItemCounts
 pub mod Kept
 pub mod Outputs

@@ -10,7 +10,7 @@ use Rattle.gen_tree.specs.Tree.{Module}
 use Rattle.design_core.specs.declared.Instance as design_instance
 use Rattle.exec_core.specs.Block.{Name}
 use Rattle.design_core.specs.Design as design
-use Rattle.design_core.specs.Design.{Gens, Variant, Design}
+use Rattle.design_core.specs.Design.{Gens, AreInRange, Variant, Design}
 use Rattle.design_core.specs.WellFormed.{children_at, trees, tree, AreInPreorder}
 use Rattle.design_core.specs.declared.Design as code_design
 use Rattle.design_core.specs.DesignView.{design_of}
@@ -223,6 +223,6 @@ judge_out seen (Counted what line w) =
     elim (nat_le (limit what) (seen_of what seen)) as (λ b. OnOutcome (λ o. out w ≡ o) (if b then Err (too_large line what) else judge (one_more what seen) w)) [ true ↦ tt | false ↦ judge_out (one_more what seen) w ]
 
 -- the instances of a walk within its limits
-pub walked : (modules : List Module) (top : Name) (given : Gens) (list : List Instance) (seen : Seen) → judge none_seen (top_walk modules top given) ≡ Ok (list, seen) → TopOk modules top list
-walked modules top given list seen e =
-    top_ok modules top given list (ok_outcome (λ o. out (top_walk modules top given) ≡ o) (judge none_seen (top_walk modules top given)) list seen e (judge_out none_seen (top_walk modules top given)))
+pub walked : (modules : List Module) (top : Name) (given : Gens) (list : List Instance) (seen : Seen) → AreInRange given → judge none_seen (top_walk modules top given) ≡ Ok (list, seen) → TopOk modules top list
+walked modules top given list seen fine e =
+    top_ok modules top given fine list (ok_outcome (λ o. out (top_walk modules top given) ≡ o) (judge none_seen (top_walk modules top given)) list seen e (judge_out none_seen (top_walk modules top given)))

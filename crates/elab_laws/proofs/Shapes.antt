@@ -3,12 +3,14 @@ use Rattle.std.proofs.Common.{◌≡◌, ℕ, zero, suc, ◌+◌, ◌≤◌, Boo
 use Rattle.std.specs.List.{slice_get}
 use Rattle.gen_tree.specs.Tree as tree
 use Rattle.gen_tree.specs.Tree.{Fam, Param, wire, reg, inst, comb, ff, repeat_items, given_items, Items, no_item, item, ElseItems, no_else_items, otherwise_items, Module}
-use Rattle.elab_core.specs.Walk.{Walk, Gives, and_then}
+use Rattle.elab_core.specs.Walk.{Walk, Gives, Faulty, Counted, and_then}
 use Rattle.elab_core.specs.Numbers.{bound, fam_name, two_numbers, turn_count, holds}
 use Rattle.exec_core.specs.Block.{Name}
-use Rattle.design_core.specs.Design.{Gens, Done}
+use Rattle.design_core.specs.Design.{Gens, AreInRange, Done}
 use Rattle.elab_core.specs.Elaborated.{Child, Content, Instance}
 use Rattle.elab_core.specs.Elab.{turns, statements, places, only, module_named, values, conns, Asked, asked, Made, nothing, with_child, child_of, Here, Enter, count_outputs, register, wire_signal, item_walk, items_walk, else_walk, ports, module_walk, instances_of, instance, top_values, top_walk}
+use Rattle.elab_core.proofs.Replacing as elab_yields
+use Rattle.elab_core.proofs.ReplacingItems.{top_values_yield}
 use Rattle.elab_laws.proofs.Contents.{out, chained, out_then, OnSome, HasSome, SameContent, module_sim, more_room}
 
 -- ---- what comes out of a walk, with the equation that it does
@@ -202,12 +204,20 @@ pub record TopOk (modules : List Module) (top : Name) (list : List Instance) : T
   pub params : Gens
   pub tree : IsTree 33 top None place params 0 list
   pub given : EachGiven modules list
+  pub fine : AreInRange params
 
-pub top_ok : (modules : List Module) (top : Name) (given_so : Gens) → Yields (TopOk modules top) (top_walk modules top given_so)
+-- what comes out is so
+pub came_out : {A : Type 0} (Q : A → Type 0) (w : Walk A) → elab_yields.Yields Q w → Yields Q w
+unfolding elab_yields.Yields out
+came_out Q (Gives a) h b e = same_some Q a b e h
+came_out Q (Faulty fault) h b e = absurd (none_some b e)
+came_out Q (Counted what line w) h b e = came_out Q w h b e
+
+pub top_ok : (modules : List Module) (top : Name) (given_so : Gens) → AreInRange given_so → Yields (TopOk modules top) (top_walk modules top given_so)
 unfolding top_walk out and_then
-top_ok modules top given_so =
+top_ok modules top given_so fine =
     yields_then _ (module_named modules 0 top) _ (λ found g. yields_then _ (top_values found.1 given_so) _ (λ params r.
     yields_then _ (module_walk modules (instance modules 32) (record { path = top; number = 0 }) found.1 params) _ (λ made e.
     let ok = whole_ok modules 32 top None found params 0 made (omega arith) (named_stands modules 0 top found g)
     (module_ok modules 32 (instance modules 32) (instance_ok modules 32 (omega arith)) (record { path = top; number = 0 }) found.1 params made e) e in
-    yields_it (TopOk modules top) _ (record { place = found.0; params = params; tree = ok.0; given = ok.1 }))))
+    yields_it (TopOk modules top) _ (record { place = found.0; params = params; tree = ok.0; given = ok.1; fine = came_out AreInRange (top_values found.1 given_so) (top_values_yield found.1 given_so fine) params r }))))
