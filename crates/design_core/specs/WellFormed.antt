@@ -1,6 +1,6 @@
 -- What each elaborated design keeps.
-use Rattle.std.specs.Prelude.{◌≡◌, ℕ, zero, suc, ◌+◌, ◌<◌, ◌≤◌, ◌==◌, Bool, true, false, List, [], ◌∷◌, ◌++◌, length, Option, Some, None, IsSomeAnd, option_map, unwrap_or, slice_get, if◌then◌else◌, codes}
-use Rattle.std.specs.List.{enumerate_from, flat_map, list_any}
+use Rattle.std.specs.Prelude.{◌≡◌, ℕ, zero, suc, ◌+◌, ◌<◌, ◌≤◌, ◌==◌, Bool, true, false, not, List, [], ◌∷◌, ◌++◌, length, Option, Some, None, IsSomeAnd, option_map, unwrap_or, slice_get, if◌then◌else◌, codes}
+use Rattle.std.specs.List.{enumerate_from, flat_map, list_all, list_any}
 use Rattle.design_core.specs.declared.design.Instance.{Instance}
 use Rattle.design_core.specs.declared.variant.Signal.{Signal}
 use Rattle.design_core.specs.declared.variant.Kind.{Kind}
@@ -117,6 +117,12 @@ all_slots variants = flat_map (λ v. slots_of (variant_heads v)) variants
 -- numbers one after another, from the first of them on
 abbrev pub AreInTurn : List ℕ → Type 0
 AreInTurn numbers = numbers ≡ from (unwrap_or (slice_get numbers 0) 0) (length numbers)
+
+-- ---- names
+
+-- without a dot
+abbrev pub is_plain : Name → Bool
+is_plain x = list_all (λ byte. not (byte == 46)) x
 
 -- ---- the design
 

@@ -6,6 +6,7 @@ pub mod Fine
 pub mod ItemCounts
 pub mod Kept
 pub mod Outputs
+pub mod Paths
 pub mod Preorder
 pub mod Shapes
 pub mod Sums
