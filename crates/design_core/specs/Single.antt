@@ -4,10 +4,12 @@ use Rattle.std.proofs.Props.{props}
 use Rattle.design_core.specs.declared.design.Instance.{Instance}
 use Rattle.design_core.specs.declared.variant.Signal.{Signal}
 use Rattle.design_core.specs.declared.variant.Kind.{Kind}
+use Rattle.design_core.specs.declared.variant.Kind.TheVariants.{Input, Output, Wire, Reg, ChildOut}
+use Rattle.gen_token.specs.Spelling.{IsName}
 use Rattle.exec_core.specs.Block.{Name}
 use Rattle.exec_core.specs.Lists.{EachOf, IsNotIn, AreApart}
 use Rattle.design_core.specs.Design.{Gens, AreInRange, Child, Variant, Design}
-use Rattle.design_core.specs.WellFormed.{IsChild, AreChildren, HasParent, IsVariant, IsDesign}
+use Rattle.design_core.specs.WellFormed.{IsChild, AreChildren, HasParent, IfPort, IsVariant, IsDesign}
 
 kind_set : IsSet Kind
 kind_set = hlevel props
@@ -43,8 +45,18 @@ gens_prop : (gens : Gens) → IsProp (AreInRange gens)
 gens_prop [] = hlevel props
 gens_prop (g ∷ gens) = hlevel (props, gens_prop gens)
 
+name_prop : (x : Name) → IsProp (IsName x)
+name_prop x = hlevel props
+
+port_prop : (s : Signal) (k : Kind) → IsProp (IfPort IsName s k)
+port_prop s Input = name_prop s.name
+port_prop s Output = name_prop s.name
+port_prop s Wire = hlevel props
+port_prop s (Reg start) = hlevel props
+port_prop s (ChildOut k port) = hlevel props
+
 variant_prop : (variants : List Variant) (v : Variant) → IsProp (IsVariant variants v)
-variant_prop variants v = hlevel (props, signal_set, each_prop, gens_prop)
+variant_prop variants v = hlevel (props, signal_set, each_prop, gens_prop, name_prop, port_prop)
 
 pub design_prop : (d : Design) → IsProp (IsDesign d)
 design_prop d = hlevel (props, instance_set, each_prop, variant_prop, children_prop, apart_prop)

@@ -1,10 +1,11 @@
 -- What each elaborated design keeps.
-use Rattle.std.specs.Prelude.{◌≡◌, ℕ, zero, suc, ◌+◌, ◌<◌, ◌≤◌, ◌==◌, Bool, true, false, not, List, [], ◌∷◌, ◌++◌, length, Option, Some, None, IsSomeAnd, option_map, unwrap_or, slice_get, if◌then◌else◌, codes}
+use Rattle.std.specs.Prelude.{◌≡◌, ℕ, zero, suc, ◌+◌, ◌<◌, ◌≤◌, ◌==◌, Bool, true, false, not, List, [], ◌∷◌, ◌++◌, length, Option, Some, None, IsSomeAnd, option_map, unwrap_or, slice_get, if◌then◌else◌, codes, decimal, map, ◌⊎◌}
 use Rattle.std.specs.List.{enumerate_from, flat_map, list_all, list_any}
 use Rattle.design_core.specs.declared.design.Instance.{Instance}
 use Rattle.design_core.specs.declared.variant.Signal.{Signal}
 use Rattle.design_core.specs.declared.variant.Kind.{Kind}
 use Rattle.design_core.specs.declared.variant.Kind.TheVariants.{Input, Output, Wire, Reg, ChildOut}
+use Rattle.gen_token.specs.Spelling.{IsName}
 use Rattle.exec_core.specs.Block.{Name}
 use Rattle.exec_core.specs.Lists.{EachOf, AreApart}
 use Rattle.design_core.specs.Design.{AreInRange, Child, Variant, Design}
@@ -124,17 +125,36 @@ AreInTurn numbers = numbers ≡ from (unwrap_or (slice_get numbers 0) 0) (length
 abbrev pub is_plain : Name → Bool
 is_plain x = list_all (λ byte. not (byte == 46)) x
 
+-- a name, or a name, `#` and a number
+abbrev pub IsMember : Name → Type 0
+IsMember x = (base : Name) × (IsName base × ((x ≡ base) ⊎ ((n : ℕ) × (x ≡ base ++ (codes "#" ++ decimal n)))))
+
+-- an input or output has such a name
+abbrev pub IfPort : (Name → Type 0) → Signal → Kind → Type 0
+IfPort P s Input = P s.name
+IfPort P s Output = P s.name
+IfPort P s Wire = Unit {0}
+IfPort P s (Reg start) = Unit {0}
+IfPort P s (ChildOut k port) = Unit {0}
+
+abbrev pub child_names : List Child → List Name
+child_names children = map (λ c. c.name) children
+
 -- ---- the design
 
 -- a variant: its children's variants are in the design; the signals `u.q` are the outputs of its children, child by child, each
 -- once and with its width; its statements have slots one after another, block by block and in preorder; its parameters and
--- generator variables are from -2^62 to 2^62
+-- generator variables are from -2^62 to 2^62; its module, inputs and outputs have names, and its children names or members of
+-- families
 pub record IsVariant (variants : List Variant) (v : Variant) : Type 0 where
   pub children : EachOf (λ c. c.variant < length variants) v.children
   pub outputs : child_outs v.signals ≡ flat_map (outputs_of variants) (enumerate_from 0 v.children)
   pub in_turn : AreInTurn (slots_of (variant_heads v))
   pub params : AreInRange v.params
   pub gens : EachOf (λ h. AreInRange h.gens) (variant_heads v)
+  pub named : IsName v.module
+  pub ports : EachOf (λ s. IfPort IsName s s.kind) v.signals
+  pub names : EachOf (λ c. ∥ IsMember c.name ∥₁) v.children
 
 pub record IsDesign (d : Design) : Type 0 where
   -- the first instance is the top, whose path is its module's name
@@ -148,6 +168,8 @@ pub record IsDesign (d : Design) : Type 0 where
   pub children : (i : ℕ) (r : Instance) → slice_get d.instances i ≡ Some r → AreChildren i r.path (children_at r.variant d.variants) (standing i 0 d.instances)
   -- all of them are in preorder, at most 32 levels below the top
   pub preorder : AreInPreorder d
+  -- their paths differ, where the children of each variant have different names
+  pub paths : EachOf (λ v. AreApart (child_names v.children)) d.variants → AreApart (map (λ r. r.path) d.instances)
   -- each variant
   pub each : EachOf (IsVariant d.variants) d.variants
   -- each number below the number of statements is the slot of one

@@ -11,6 +11,7 @@ use Rattle.design_core.specs.declared.Kind.{Kind}
 use Rattle.design_core.specs.declared.Kind.TheVariants.{Input, Output, Wire, Reg, ChildOut}
 use Rattle.design_core.specs.Design.{Gens, IsInRange, AreInRange, Stmt, Assign, Let, If, Body, Done, Then, Else, NoElse, Otherwise, Block}
 use Rattle.design_core.specs.Slots.{Head, heads, stmt_heads, else_heads}
+use Rattle.design_core.specs.WellFormed.{IfPort}
 use Rattle.elab_core.specs.declared.Count.TheVariants.{Signals}
 use Rattle.elab_core.specs.Walk.{Walk, Gives, Faulty, Counted, and_then, ElabRange}
 use Rattle.elab_core.specs.Numbers.{bound, number, family, index_name, fam_name, two_numbers, turn_count, turns_of, holds}
@@ -169,13 +170,6 @@ asked_fine P modules line gens f x args cs p h =
 
 -- ---- signals
 
-abbrev pub IfPort : (Name → Type 0) → Signal → Kind → Type 0
-IfPort P s Input = P s.name
-IfPort P s Output = P s.name
-IfPort P s Wire = Unit {0}
-IfPort P s (Reg start) = Unit {0}
-IfPort P s (ChildOut k port) = Unit {0}
-
 abbrev pub SignalFine : (Name → Type 0) → Signal → Type 0
 SignalFine P s = IfPort P s s.kind
 
@@ -284,7 +278,7 @@ yields_out Q R (Gives a) h g = (a, (h, g))
 yields_out Q R (Faulty fault) h g = absurd g
 yields_out Q R (Counted what line w) h g = yields_out Q R w h g
 
-of_place : (P : Module → Type 0) (modules : List Module) (k : ℕ) (m : Module) → EachOf P modules → slice_get modules k ≡ Some m → P m
+pub of_place : (P : Module → Type 0) (modules : List Module) (k : ℕ) (m : Module) → EachOf P modules → slice_get modules k ≡ Some m → P m
 of_place P [] k m h e = absurd (no_module e)
   where
     no_module : None ≡ Some m → ⊥
@@ -345,31 +339,3 @@ mutual
 pub blocks_fine : (k : ℕ) (bs : List Block) → EachOf BlockFine bs → EachOf HeadFine (flat_map (λ b. heads b.body) (numbered_blocks k bs))
 blocks_fine k [] h = tt
 blocks_fine k (b ∷ bs) h = both_each HeadFine (heads (numbered k b.body)) (flat_map (λ c. heads c.body) (numbered_blocks (k + size b.body) bs)) (numbered_fine k b.body h.0) (blocks_fine (k + size b.body) bs h.1)
-
--- ---- names of which nothing is known
-
-mutual
-  any_item : (i : tree.Item) → ItemOf Anything i
-  any_item (wire line f w) = tt
-  any_item (reg line f w l) = tt
-  any_item (inst line f x args cs) = tt
-  any_item (comb line body) = tt
-  any_item (ff line body) = tt
-  any_item (repeat_items line x from to body) = any_items body
-  any_item (given_items line left c right first second) = (any_items first, any_else second)
-
-  any_items : (body : Items) → ItemsOf Anything body
-  any_items no_item = tt
-  any_items (item i rest) = (any_item i, any_items rest)
-
-  any_else : (e : ElseItems) → ElseItemsOf Anything e
-  any_else no_else_items = tt
-  any_else (otherwise_items body) = any_items body
-
-any_ports : (ps : List Port) → EachOf (λ (p : Port). Anything p.name) ps
-any_ports [] = tt
-any_ports (p ∷ ps) = (tt, any_ports ps)
-
-pub any_modules : (modules : List Module) → EachOf (ModuleOf Anything) modules
-any_modules [] = tt
-any_modules (m ∷ modules) = (record { name = tt; ports = any_ports m.ports; items = any_items m.items }, any_modules modules)

@@ -8,7 +8,7 @@ use Rattle.std.proofs.lemmas.List.Sums.{prefix_len-le-length}
 use Rattle.std.proofs.lemmas.Option.{none-some, same_Some, slice_get-map, slice_get_within, get_or_from_slice_get}
 use Rattle.gen_tree.specs.Tree.{Module}
 use Rattle.exec_core.specs.Block.{Name}
-use Rattle.exec_core.specs.Lists.{EachOf}
+use Rattle.exec_core.specs.Lists.{EachOf, AreApart}
 use Rattle.design_core.specs.declared.Instance.{Instance as Placed}
 use Rattle.design_core.specs.declared.Signal.{Signal}
 use Rattle.design_core.specs.declared.Kind.{Kind}
@@ -16,20 +16,23 @@ use Rattle.design_core.specs.declared.Kind.TheVariants.{Input, Output, Wire, Reg
 use Rattle.design_core.specs.Design as design
 use Rattle.design_core.specs.Design.{Gens, AreInRange, Variant, Design}
 use Rattle.design_core.specs.Slots.{AreNumbered, from, slots_of, variant_heads}
-use Rattle.design_core.specs.WellFormed.{HasParent, AreChildren, standing, children_at, signals_at, output_of, outputs_of, child_outs, regs, registers, all_slots, AreInTurn, IsVariant, IsDesign}
+use Rattle.design_core.specs.WellFormed.{HasParent, AreChildren, standing, children_at, signals_at, output_of, outputs_of, child_outs, regs, registers, all_slots, AreInTurn, is_plain, IsMember, child_names, IsVariant, IsDesign}
 use Rattle.design_exec.proofs.Slots.{each_numbered, blocks_numbered}
 use Rattle.design_exec.proofs.Ranges.{variants_apart}
 use Rattle.elab_core.specs.Walk.{Fault, Seen, none_seen, judge, too_large}
 use Rattle.elab_core.specs.declared.Count.TheVariants.{Cells}
 use Rattle.elab_core.specs.Elaborated.{Child, Content, Instance}
 use Rattle.elab_core.specs.Elab.{output_as, child_outputs, top_walk}
-use Rattle.elab_core.specs.Design.{blocks_size, first_slot, same_gens, is_of, variant_of, firsts, variants_of, child_in, numbered_variant, instance_in, designed, cells, unless_large, design_from, elab, elaborated}
+use Rattle.elab_core.specs.Design.{blocks_size, first_slot, same_gens, is_of, variant_of, firsts, variants_of, name_at, child_in, numbered_variant, instance_in, designed, cells, unless_large, design_from, elab, elaborated}
 use Rattle.elab_laws.proofs.Variants.{number_in, Found, EachFound, each_found, all_grown, stays, is_its_own, search_last}
 use Rattle.elab_laws.proofs.Shapes.{IsTree, a_tree, AreTrees, no_trees, one_behind, IsGiven, EachGiven, TopOk}
 use Rattle.elab_laws.proofs.Preorder.{EachHas, all_children, given_firsts, given_at, passes, both_parts, gens_equal, numbered_at, the_variants, top_number, in_preorder, walked, OnDesign}
 use Rattle.elab_laws.proofs.Below.{EachFrom, HasChildren, TreeOk, tree_ok}
-use Rattle.elab_core.proofs.ReplacingItems.{Anything}
-use Rattle.elab_laws.proofs.Fine.{InstanceFine, tree_fine, any_modules, blocks_fine}
+use Rattle.gen_text.specs.Source.{Reads}
+use Rattle.elab_laws.proofs.Fine.{ModuleOf, ChildFine, InstanceFine, of_place, tree_fine, blocks_fine}
+use Rattle.elab_laws.proofs.Paths.{paths, names, NamesOk, all_apart, plain_member, as_member}
+use Rattle.elab_laws.proofs.Spelled.{read_named}
+use Rattle.gen_token.specs.Spelling.{IsName}
 use Rattle.elab_laws.specs.Sizes.{all_statements, all_registers}
 use Rattle.elab_laws.proofs.Sums.{slot_within}
 use Rattle.elab_laws.proofs.ItemCounts.{Small, walk_small, firsts_few}
@@ -258,18 +261,29 @@ children_within : (modules : List Module) (variants : List Instance) (children :
 children_within modules variants [] h = tt
 children_within modules variants (c ∷ children) h = (subst (λ n. variant_of c.place c.params variants < n) (sym (long_variants modules variants)) h.0, children_within modules variants children h.1)
 
+module_name : (modules : List Module) (i : Instance) → EachOf (ModuleOf IsName) modules → IsGiven modules i → IsName (name_at i.place modules)
+module_name modules i named h =
+    subst IsName (sym (ap (λ (o : Option Module). unwrap_or (option_map (λ m. m.name) o) []) h.stands)) (of_place (ModuleOf IsName) modules i.place h.«module» named h.stands).name
+
+child_members : (variants : List Instance) (children : List Child) → EachOf (ChildFine IsName) children → EachOf (λ (c : design.Child). ∥ IsMember c.name ∥₁) (map (child_in variants) children)
+child_members variants [] h = tt
+child_members variants (c ∷ children) h = (∣ as_member c.name h.0.0 ∣₁, child_members variants children h.1)
+
 are_variants : (modules : List Module) (variants : List Instance) (k : ℕ) (list : List Instance) → EachGiven modules variants → EachGiven modules list → EachOf (ContentFound variants) list
-    → EachOf AreNumbered (map (numbered_variant modules variants) (enumerate_from k list)) → EachOf (InstanceFine Anything) list
+    → EachOf AreNumbered (map (numbered_variant modules variants) (enumerate_from k list)) → EachOf (InstanceFine IsName) list → EachOf (ModuleOf IsName) modules
     → EachOf (IsVariant (the_variants modules variants)) (map (numbered_variant modules variants) (enumerate_from k list))
-are_variants modules variants k [] given h found numbered fine = tt
-are_variants modules variants k (i ∷ list) given h found numbered fine =
+are_variants modules variants k [] given h found numbered fine named = tt
+are_variants modules variants k (i ∷ list) given h found numbered fine named =
     (record {
       children = children_within modules variants i.content.children found.0;
       outputs = given_outs modules i h.0 ∙ child_by_child modules variants 0 i.content.children given found.0;
       in_turn = in_turn (numbered_variant modules variants (k, i)) numbered.0;
       params = fine.0.0;
       gens = blocks_fine (first_slot variants (k, i)) i.content.blocks (fine.0.1).blocks;
-    }, are_variants modules variants (k + 1) list given h.1 found.1 numbered.1 fine.1)
+      named = module_name modules i named h.0;
+      ports = (fine.0.1).signals;
+      names = child_members variants i.content.children (fine.0.1).children;
+    }, are_variants modules variants (k + 1) list given h.1 found.1 numbered.1 fine.1 named)
 
 -- ---- slots and registers
 
@@ -317,18 +331,51 @@ same_registers modules variants [] given h found = refl
 same_registers modules variants (i ∷ list) given h found =
     ap₂ (λ m n. m + n) (ap (λ (l : List Signal). regs l) (its_signals modules variants i.place i.params given found.0 ∙ given_signals modules i h.0)) (same_registers modules variants list given h.1 found.1)
 
+-- ---- paths
+
+abbrev NamesApart : Variant → Type 0
+NamesApart v = AreApart (child_names v.children)
+
+at_children : (variants : List Variant) (v : ℕ) → EachOf NamesApart variants → AreApart (child_names (children_at v variants))
+at_children [] v h = tt
+at_children (w ∷ variants) zero h = h.0
+at_children (w ∷ variants) (suc v) h = at_children variants v h.1
+
+same_names : (variants : List Instance) (children : List Child) → child_names (map (child_in variants) children) ≡ names children
+same_names variants [] = refl
+same_names variants (c ∷ children) = ap (λ (l : List Name). c.name ∷ l) (same_names variants children)
+
+plain_children : (children : List Child) → EachOf (ChildFine IsName) children → EachOf (λ (c : Child). is_plain c.name ≡ true) children
+plain_children [] h = tt
+plain_children (c ∷ children) h = (plain_member c.name h.0.0, plain_children children h.1)
+
+names_ok : (modules : List Module) (variants list : List Instance) → EachOf NamesApart (the_variants modules variants) → EachOf (InstanceFine IsName) list → EachHas modules variants list → EachOf NamesOk list
+names_ok modules variants [] apart fine h = tt
+names_ok modules variants (i ∷ list) apart fine h =
+    ((subst AreApart (ap child_names h.0 ∙ same_names variants i.content.children) (at_children (the_variants modules variants) (number_in variants i) apart), plain_children i.content.children (fine.0.1).children),
+    names_ok modules variants list apart fine.1 h.1)
+
+same_paths : (variants list : List Instance) → map (λ (r : Placed). r.path) (map (instance_in variants) list) ≡ paths list
+same_paths variants [] = refl
+same_paths variants (i ∷ list) = ap (λ (l : List Name). i.path ∷ l) (same_paths variants list)
+
+different_paths : (modules : List Module) (variants list : List Instance) {top : Name} {place : ℕ} {params : Gens} → IsTree 33 top None place params 0 list → EachOf (InstanceFine IsName) list → EachHas modules variants list
+    → EachOf NamesApart (the_variants modules variants) → AreApart (map (λ (r : Placed). r.path) (map (instance_in variants) list))
+different_paths modules variants list tree fine h apart = subst AreApart (sym (same_paths variants list)) (all_apart tree (names_ok modules variants list apart fine h))
+
 -- ---- the design
 
 top_is : {top : Name} {place : ℕ} {params : Gens} {list : List Instance} (variants : List Instance) → IsTree 33 top None place params 0 list
     → slice_get (map (instance_in variants) list) 0 ≡ Some (record { path = top; variant = variant_of place params variants; parent = None })
 top_is variants (a_tree room path parent place params at content below under) = refl
 
-pub is_design : (modules : List Module) (top : Name) (list : List Instance) → TopOk modules top list → Small modules list → IsDesign (designed modules top list)
-is_design modules top list ok small =
+pub is_design : (modules : List Module) (top : Name) (list : List Instance) → TopOk modules top list → Small modules list → EachOf (ModuleOf IsName) modules → IsDesign (designed modules top list)
+is_design modules top list ok small named =
     let variants = variants_of list in
     let d = designed modules top list in
     let found = each_found [] list in
     let given = given_firsts modules [] list tt ok.given in
+    let fine = tree_fine IsName modules named ok.tree ok.given ok.fine in
     let contents = (tree_found variants ok.tree found).1 in
     let tree = tree_ok modules variants ok.tree (λ i l. refl) (all_children modules variants list given ok.given found) in
     record {
@@ -345,7 +392,8 @@ is_design modules top list ok small =
       children = λ i r e. subst (λ n. AreChildren n r.path (children_at r.variant d.variants) (standing n 0 d.instances)) (none_before i) (each_at (HasChildren d.variants 0 d.instances) 0 d.instances i r tree.each e);
       preorder = in_preorder modules top list ok;
       each = are_variants modules variants 0 variants given given (each_first (ContentFound variants) [] list tt contents) (each_numbered modules variants (enumerate_from 0 variants))
-          (each_first (InstanceFine Anything) [] list tt (tree_fine Anything modules (any_modules modules) ok.tree ok.given ok.fine));
+          (each_first (InstanceFine IsName) [] list tt fine) named;
+      paths = different_paths modules variants list ok.tree fine (all_children modules variants list given ok.given found);
       apart = variants_apart modules variants;
       below = slots_below modules variants;
       few = omega (arith, small.instances, length-map list (instance_in variants));
@@ -359,14 +407,15 @@ is_design modules top list ok small =
 pub record IsJudged (modules : List Module) (top : Name) (list : List Instance) : Type 0 where
   pub ok : TopOk modules top list
   pub small : Small modules list
+  pub named : EachOf (ModuleOf IsName) modules
 
 design_kept : (modules : List Module) (top : Name) (r : Result (List Instance × Seen) Fault) → ((list : List Instance) (seen : Seen) → r ≡ Ok (list, seen) → IsJudged modules top list)
     → OnDesign IsDesign (design_from modules top (unless_large r))
 design_kept modules top (Ok p) h =
-    elim (nat_lt 4000000 (cells p.0)) as (λ b. OnDesign IsDesign (design_from modules top (if b then Err (too_large 0 Cells) else Ok p.0))) [ true ↦ tt | false ↦ is_design modules top p.0 (h p.0 p.1 refl).ok (h p.0 p.1 refl).small ]
+    elim (nat_lt 4000000 (cells p.0)) as (λ b. OnDesign IsDesign (design_from modules top (if b then Err (too_large 0 Cells) else Ok p.0))) [ true ↦ tt | false ↦ is_design modules top p.0 (h p.0 p.1 refl).ok (h p.0 p.1 refl).small (h p.0 p.1 refl).named ]
 design_kept modules top (Err fault) h = tt
 
-pub elaboration_keeps : (modules : List Module) (top : Name) (given : Gens) (d : Design) → AreInRange given → elaborated modules top given ≡ Ok d → IsDesign d
-elaboration_keeps modules top given d fine e =
-    let all = design_kept modules top (judge none_seen (top_walk modules top given)) (λ list seen g. record { ok = walked modules top given list seen fine g; small = walk_small modules top given list seen g }) in
+pub elaboration_keeps : (modules : List Module) (top : Name) (given : Gens) (d : Design) (text : List ℕ) → Reads text modules → AreInRange given → elaborated modules top given ≡ Ok d → IsDesign d
+elaboration_keeps modules top given d text read fine e =
+    let all = design_kept modules top (judge none_seen (top_walk modules top given)) (λ list seen g. record { ok = walked modules top given list seen fine g; small = walk_small modules top given list seen g; named = read_named text modules read }) in
     let P : Result Design Fault → Type 0 = OnDesign IsDesign in subst P e all

@@ -9,5 +9,6 @@ pub mod Outputs
 pub mod Paths
 pub mod Preorder
 pub mod Shapes
+pub mod Spelled
 pub mod Sums
 pub mod Variants

@@ -1,14 +1,19 @@
 -- Paths of instances differ where the names of each instance's children differ and hold no dot.
-use Rattle.std.proofs.Common.{◌≡◌, ℕ, ◌+◌, ◌==◌, Bool, true, false, not, ◌&&◌, List, [], ◌∷◌, ◌++◌, map, length, length-append, append_assoc, append-nil, Option, Some, ◌⊎◌, inl, inr, codes, true≢false, refl, sym, ap, ap₂, ◌∙◌, subst, arith, eqb-true, eq-eqb}
+use Rattle.std.proofs.Common.{◌≡◌, ℕ, ◌+◌, ◌%◌, ◌<◌, ◌≤◌, ◌==◌, Bool, true, false, not, ◌&&◌, ◌||◌, mod-lt, List, [], ◌∷◌, ◌++◌, map, length, length-append, append_assoc, append-nil, Option, Some, ◌⊎◌, inl, inr, codes, true≢false, refl, sym, ap, ap₂, ◌∙◌, subst, arith, eqb-true, eq-eqb}
 use Rattle.std.specs.List.{list_all}
+use Rattle.std.specs.Fmt.{decimal}
+use Rattle.std.proofs.lemmas.Fmt.{decimal_by_steps}
 use Rattle.std.proofs.lemmas.List.{map-append}
+use Rattle.text_core.specs.Digits.{is_digit}
+use Rattle.gen_token.specs.Bytes.{is_letter, is_name_byte}
+use Rattle.gen_token.specs.Spelling.{IsName, is_name_text}
 use Rattle.exec_core.specs.Block.{Name}
 use Rattle.exec_core.specs.Lists.{EachOf, IsNotIn, AreApart}
 use Rattle.design_core.specs.Design.{Gens}
-use Rattle.design_core.specs.WellFormed.{is_plain}
+use Rattle.design_core.specs.WellFormed.{is_plain, IsMember}
 use Rattle.elab_core.specs.Elaborated.{Child, Content, Instance}
 use Rattle.elab_laws.proofs.Shapes.{IsTree, a_tree, AreTrees, no_trees, one_behind}
-use Rattle.elab_laws.proofs.Fine.{both_each, each_parts}
+use Rattle.elab_laws.proofs.Fine.{both_each, each_parts, Member}
 
 -- ---- lists that differ
 
@@ -197,3 +202,56 @@ mutual
 
 pub all_apart : {room : ℕ} {path : Name} {parent : Option ℕ} {place : ℕ} {params : Gens} {at : ℕ} {list : List Instance} → IsTree room path parent place params at list → EachOf NamesOk list → AreApart (paths list)
 all_apart tree h = (tree_paths tree h).apart
+
+-- ---- names of the language hold no dot
+
+and_parts : (a b : Bool) → a && b ≡ true → (a ≡ true) × (b ≡ true)
+and_parts true b e = (refl, e)
+and_parts false b e = absurd (true≢false (sym e))
+
+true_both : (a b : Bool) → a ≡ true → b ≡ true → a && b ≡ true
+true_both a b e f = rw e f
+
+no_dot_byte : (b : ℕ) → is_name_byte b ≡ true → (t : Bool) → (b == 46) ≡ t → not t ≡ true
+no_dot_byte b h false e = refl
+no_dot_byte b h true e = absurd (true≢false (sym h ∙ ap is_name_byte (eqb-true b 46 e)))
+
+letter_bytes : (bytes : Name) → list_all is_name_byte bytes ≡ true → is_plain bytes ≡ true
+letter_bytes [] h = refl
+letter_bytes (b ∷ bytes) h =
+    let parts = and_parts (is_name_byte b) (list_all is_name_byte bytes) h in
+    true_both (not (b == 46)) (is_plain bytes) (no_dot_byte b parts.0 (b == 46) refl) (letter_bytes bytes parts.1)
+
+letter_is : (b : ℕ) → is_letter b ≡ true → is_name_byte b ≡ true
+letter_is b e = ap (λ t. t || is_digit b || b == 95) e
+
+is_name_bytes : (bytes : Name) → is_name_text bytes ≡ true → is_plain bytes ≡ true
+is_name_bytes [] h = refl
+is_name_bytes (b ∷ bytes) h =
+    let parts = and_parts (is_letter b) (list_all is_name_byte bytes) h in
+    letter_bytes (b ∷ bytes) (true_both (is_name_byte b) (list_all is_name_byte bytes) (letter_is b parts.0) parts.1)
+
+plain_both : (a b : Name) → is_plain a ≡ true → is_plain b ≡ true → is_plain (a ++ b) ≡ true
+plain_both [] b h g = g
+plain_both (x ∷ a) b h g = first (not (x == 46)) (is_plain a) (is_plain (a ++ b)) h (λ e. plain_both a b e g)
+  where
+    first : (t c d : Bool) → t && c ≡ true → (c ≡ true → d ≡ true) → t && d ≡ true
+    first true c d e f = f e
+    first false c d e f = absurd (true≢false (sym e))
+
+digit_plain : (n : ℕ) → n < 10 → not ((48 + n) == 46) ≡ true
+digit_plain n h = grind (arith, h)
+
+plain_decimal : (n : ℕ) → n ≤ 4611686018427387904 → is_plain (decimal n) ≡ true
+plain_decimal n h = decimal_by_steps (λ k ds. is_plain ds ≡ true) (λ k l. one_digit k l) (λ k ds l p. plain_both ds ((48 + k % 10) ∷ []) p (one_digit (k % 10) (mod-lt k (omega arith)))) n (omega (arith, h))
+  where
+    one_digit : (k : ℕ) → k < 10 → is_plain ((48 + k) ∷ []) ≡ true
+    one_digit k l = ap (λ t. t && true) (digit_plain k l)
+
+pub plain_member : (x : Name) → Member IsName x → is_plain x ≡ true
+plain_member x (base, (name, inl e)) = ap is_plain e ∙ is_name_bytes base name.text
+plain_member x (base, (name, inr (n, (small, e)))) = ap is_plain e ∙ plain_both base (35 ∷ decimal n) (is_name_bytes base name.text) (plain_decimal n small)
+
+pub as_member : (x : Name) → Member IsName x → IsMember x
+as_member x (base, (name, inl e)) = (base, (name, inl e))
+as_member x (base, (name, inr (n, (small, e)))) = (base, (name, inr (n, e)))

@@ -12,6 +12,10 @@ use Rattle.elab_walk.specs.Walked.{uncounted}
 use Rattle.gen_elab.specs.Finished.{finished}
 use Rattle.design_core.specs.WellFormed.{IsDesign}
 use Rattle.elab_laws.proofs.Preorder.{walked}
+use Rattle.std.proofs.Math.Logic.{∥∥₁_elim}
+use Rattle.design_core.specs.Single.{design_prop}
+use Rattle.elab_laws.specs.Laws.{IsReadFromText}
+use Rattle.elab_laws.proofs.Spelled.{read_named}
 use Rattle.elab_laws.proofs.Kept.{is_design}
 use Rattle.elab_laws.proofs.ItemCounts.{Small, walk_small}
 
@@ -35,10 +39,11 @@ pub small_walk : (modules : List Module) (top : Name) (given : Gens) (list : Lis
 small_walk modules top given list e = let found = ok_equal list (judge none_seen (top_walk modules top given)) e in walk_small modules top given list found.0 found.1
 
 -- and makes a design that is well formed
-pub kept_walk : (modules : List Module) (top : Name) (given : Gens) (list : List Instance) → AreInRange given → uncounted (judge none_seen (top_walk modules top given)) ≡ Ok list → IsDesign (designed modules top list)
-kept_walk modules top given list fine e =
+pub kept_walk : (modules : List Module) (top : Name) (given : Gens) (list : List Instance) → IsReadFromText modules → AreInRange given → uncounted (judge none_seen (top_walk modules top given)) ≡ Ok list → IsDesign (designed modules top list)
+kept_walk modules top given list read fine e =
     let found = ok_equal list (judge none_seen (top_walk modules top given)) e in
-    is_design modules top list (walked modules top given list found.0 fine found.1) (walk_small modules top given list found.0 found.1)
+    ∥∥₁_elim read (design_prop (designed modules top list)) (λ r.
+    is_design modules top list (walked modules top given list found.0 fine found.1) (walk_small modules top given list found.0 found.1) (read_named r.0 modules r.1))
 
 ended : (modules : List Module) (top : Name) (r : Counted) (list : List Instance) → uncounted r ≡ Ok list → design_from modules top (unless_large r) ≡ finished modules top list
 unfolding finished

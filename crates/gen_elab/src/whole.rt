@@ -2,6 +2,7 @@ ghost use Rattle.std.specs.Prelude.{◌≡◌, ◌≤◌, true, length, map};
 ghost use Rattle.design_core.specs.DesignView.{design_of};
 ghost use Rattle.design_core.specs.WellFormed.{IsDesign};
 ghost use Rattle.elab_core.specs.Results.{Answers};
+ghost use Rattle.elab_laws.specs.Laws.{IsReadFromText};
 ghost use Rattle.elab_core.specs.View.{instance_of};
 ghost use Rattle.gen_elab.specs.Offsets.{all_statements, places_below};
 ghost use Rattle.gen_elab.specs.Finished.{finished};
@@ -42,8 +43,8 @@ fn finish(
     Ok(design)
 }
 
-/// The elaborated design of a source from its top, a module's name, with the parameters that are given to it. What it keeps
-/// stands in its type.
+/// The elaborated design of a source from its top, a module's name, with the parameters that are given to it. The
+/// source is one that was read from a text. What a design keeps stands in its type.
 ///
 /// Errors: the first faulty event of the walk over the source, in its order: `UnknownModule`, `UnknownParameter`,
 /// `ElabRange`, `TooDeep` and `TooLarge`, or `TooLarge` with the cells at its end; and `NoMemory`, which can come at any
@@ -55,6 +56,7 @@ pub fn elaborate(
     top: &[u8],
     given: &Given,
 ) -> Result<Design, ElabFault>
+    requires { IsReadFromText (source_of source.now) }
     ensures { Answers (λ design. design_of design) result (elaborated (source_of source.now) top.now given.now) }
 {
     let instances = walk(alloc, source, top, given.params())?;
