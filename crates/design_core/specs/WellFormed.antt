@@ -159,6 +159,8 @@ pub record IsVariant (variants : List Variant) (v : Variant) : Type 0 where
 pub record IsDesign (d : Design) : Type 0 where
   -- the first instance is the top, whose path is its module's name
   pub top : slice_get d.instances 0 ≡ Some (record { path = d.top; variant = 0; parent = None })
+  -- which is the name of the module of variant 0
+  pub top_module : option_map (λ v. v.module) (slice_get d.variants 0) ≡ Some d.top
   -- the others stand behind their parents
   pub parents : (i : ℕ) (r : Instance) → slice_get d.instances (i + 1) ≡ Some r → HasParent (i + 1) r
   -- each instance is of a variant of the design, and each variant has an instance

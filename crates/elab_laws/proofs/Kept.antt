@@ -369,6 +369,13 @@ top_is : {top : Name} {place : ℕ} {params : Gens} {list : List Instance} (vari
     → slice_get (map (instance_in variants) list) 0 ≡ Some (record { path = top; variant = variant_of place params variants; parent = None })
 top_is variants (a_tree room path parent place params at content below under) = refl
 
+first_module : (modules : List Module) {top : Name} {place : ℕ} {params : Gens} {list : List Instance} → IsTree 33 top None place params 0 list
+    → option_map (λ (v : Variant). v.«module») (slice_get (the_variants modules (variants_of list)) 0) ≡ Some (name_at place modules)
+first_module modules (a_tree room path parent place params at content below under) =
+    let i : Instance = record { path = path; parent = parent; place = place; params = params; content = content } in
+    let grown = all_grown (i ∷ []) below in
+    ap (λ (variants : List Instance). option_map (λ (v : Variant). v.«module») (slice_get (map (numbered_variant modules (variants_of (i ∷ below))) (enumerate_from 0 variants)) 0)) grown.1
+
 pub is_design : (modules : List Module) (top : Name) (list : List Instance) → TopOk modules top list → Small modules list → EachOf (ModuleOf IsName) modules → IsDesign (designed modules top list)
 is_design modules top list ok small named =
     let variants = variants_of list in
@@ -380,6 +387,7 @@ is_design modules top list ok small named =
     let tree = tree_ok modules variants ok.tree (λ i l. refl) (all_children modules variants list given ok.given found) in
     record {
       top = top_is variants ok.tree ∙ ap (λ n. Some (record { path = top; variant = n; parent = None })) (top_number ok.tree);
+      top_module = first_module modules ok.tree ∙ ap (λ (n : Name). Some n) (ap (λ (o : Option Module). unwrap_or (option_map (λ m. m.name) o) []) ok.stands ∙ ok.named);
       parents = λ i r e.
           let one : suc i ≡ i + 1 = omega arith in
           let here : slice_get tree.under i ≡ Some r = ap (λ (l : List Placed). slice_get l (suc i)) (sym tree.is) ∙ ap (slice_get d.instances) one ∙ e in

@@ -1,6 +1,7 @@
 -- The instances of a walk are a tree in preorder, and each has what its module gives with its parameters.
 use Rattle.std.proofs.Common.{◌≡◌, ℕ, zero, suc, ◌+◌, ◌≤◌, Bool, true, false, ℤ, pos, ◌+ℤ◌, List, [], ◌∷◌, ◌++◌, length, length-append, append_assoc, Option, Some, None, if◌then◌else◌, bytes_eq, codes, refl, sym, ◌∙◌, subst, arith}
 use Rattle.std.specs.List.{slice_get}
+use Rattle.std.proofs.lemmas.Slice.Eq.{bytes_eq-Decides}
 use Rattle.gen_tree.specs.Tree as tree
 use Rattle.gen_tree.specs.Tree.{Fam, Param, wire, reg, inst, comb, ff, repeat_items, given_items, Items, no_item, item, ElseItems, no_else_items, otherwise_items, Module}
 use Rattle.elab_core.specs.Walk.{Walk, Gives, Faulty, Counted, and_then}
@@ -116,6 +117,28 @@ only_stands modules line x (m ∷ (again ∷ more)) h a e = absurd (none_some a 
 named_stands : (modules : List Module) (line : ℕ) (x : Name) → Yields (Stands modules) (module_named modules line x)
 named_stands modules line x = only_stands modules line x (places x 0 modules) (places_stand x [] modules)
 
+-- and has the name
+abbrev EachNamed : Name → List (ℕ × Module) → Type 0
+EachNamed x [] = Unit {0}
+EachNamed x (m ∷ found) = (m.1.name ≡ x) × EachNamed x found
+
+places_named : (x : Name) (at : ℕ) (modules : List Module) → EachNamed x (places x at modules)
+places_named x at [] = tt
+places_named x at (m ∷ modules) = by_test (bytes_eq m.name x) refl (places_named x (at + 1) modules)
+  where
+    by_test : (b : Bool) → bytes_eq m.name x ≡ b → EachNamed x (places x (at + 1) modules) → EachNamed x (if b then (at, m) ∷ places x (at + 1) modules else places x (at + 1) modules)
+    by_test true e h = ((bytes_eq-Decides m.name x).0 e, h)
+    by_test false e h = h
+
+only_named : (line : ℕ) (x : Name) (found : List (ℕ × Module)) → EachNamed x found → Yields (λ m. m.1.name ≡ x) (only line x found)
+unfolding out
+only_named line x [] h a e = absurd (none_some a e)
+only_named line x (m ∷ []) h a e = same_some (λ (n : ℕ × Module). n.1.name ≡ x) m a e h.0
+only_named line x (m ∷ (again ∷ more)) h a e = absurd (none_some a e)
+
+has_its_name : (modules : List Module) (line : ℕ) (x : Name) → Yields (λ m. m.1.name ≡ x) (module_named modules line x)
+has_its_name modules line x = only_named line x (places x 0 modules) (places_named x 0 modules)
+
 pub asked_stands : (modules : List Module) (line : ℕ) (gens : Gens) (f : Fam) (x : Name) (args : List Param) (cs : List tree.Conn) → Yields (λ want. Stands modules want.found) (asked modules line gens f x args cs)
 unfolding asked
 asked_stands modules line gens f x args cs =
@@ -205,6 +228,9 @@ pub record TopOk (modules : List Module) (top : Name) (list : List Instance) : T
   pub tree : IsTree 33 top None place params 0 list
   pub given : EachGiven modules list
   pub fine : AreInRange params
+  pub «module» : Module
+  pub stands : slice_get modules place ≡ Some «module»
+  pub named : «module».name ≡ top
 
 -- what comes out is so
 pub came_out : {A : Type 0} (Q : A → Type 0) (w : Walk A) → elab_yields.Yields Q w → Yields Q w
@@ -220,4 +246,4 @@ top_ok modules top given_so fine =
     yields_then _ (module_walk modules (instance modules 32) (record { path = top; number = 0 }) found.1 params) _ (λ made e.
     let ok = whole_ok modules 32 top None found params 0 made (omega arith) (named_stands modules 0 top found g)
     (module_ok modules 32 (instance modules 32) (instance_ok modules 32 (omega arith)) (record { path = top; number = 0 }) found.1 params made e) e in
-    yields_it (TopOk modules top) _ (record { place = found.0; params = params; tree = ok.0; given = ok.1; fine = came_out AreInRange (top_values found.1 given_so) (top_values_yield found.1 given_so fine) params r }))))
+    yields_it (TopOk modules top) _ (record { place = found.0; params = params; tree = ok.0; given = ok.1; «module» = found.1; stands = named_stands modules 0 top found g; named = has_its_name modules 0 top found g; fine = came_out AreInRange (top_values found.1 given_so) (top_values_yield found.1 given_so fine) params r }))))
