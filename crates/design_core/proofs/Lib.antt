@@ -1,2 +1,3 @@
 mod Samples
 pub mod Views
+mod PortSteps

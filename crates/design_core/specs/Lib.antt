@@ -1,9 +1,10 @@
 pub mod Trail
 pub mod TrailText
 pub mod Sample
-pub mod Ports
 pub mod Design
 pub mod View
 pub mod DesignView
 pub mod Slots
 pub mod WellFormed
+pub mod Single
+pub mod Ports

@@ -1,5 +1,5 @@
 -- The statements of a design as slots.
-use Rattle.std.specs.Prelude.{ℕ, ◌+◌, List, [], ◌∷◌, ◌++◌, map}
+use Rattle.std.specs.Prelude.{◌≡◌, ℕ, zero, suc, ◌+◌, List, [], ◌∷◌, ◌++◌, map}
 use Rattle.std.specs.List.{flat_map}
 use Rattle.exec_core.specs.Block.{Name}
 use Rattle.design_core.specs.Design.{Gens, Stmt, Assign, Let, If, Body, Done, Then, Else, NoElse, Otherwise, Block, Variant}
@@ -62,3 +62,19 @@ variant_heads v = flat_map (λ b. heads b.body) v.blocks
 -- the names in scope in a block: the signals in the order of their declaration, then the lets of the block in preorder
 abbrev pub scope : Variant → Block → List Name
 scope v b = map (λ s. s.name) v.signals ++ lets_of b.body
+
+-- ---- numbers of statements
+
+-- so many numbers from one on
+abbrev pub from : ℕ → ℕ → List ℕ
+from k zero = []
+from k (suc n) = k ∷ from (k + 1) n
+
+abbrev pub slots_of : List Head → List ℕ
+slots_of heads = map (λ h. h.slot) heads
+
+-- the statements of a variant in preorder, block by block, have so many slots from one on
+pub record AreNumbered (v : Variant) : Type 0 where
+  pub first : ℕ
+  pub count : ℕ
+  pub slots : slots_of (variant_heads v) ≡ from first count

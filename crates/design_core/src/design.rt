@@ -1,3 +1,8 @@
+ghost use Rattle.std.specs.Prelude.{map};
+ghost use Rattle.design_core.specs.View.{variant_of};
+ghost use Rattle.design_core.specs.WellFormed.{IsDesign};
+ghost use Rattle.design_core.specs.Single.{design_prop};
+
 use crate::Variant;
 use text_core::{Listed, Text};
 
@@ -16,4 +21,5 @@ pub struct Design {
     pub top: Text,
     pub variants: Vec<Variant>,
     pub instances: Listed<Instance>,
+    pub ghost kept: { IsDesign (record { top = top; variants = map variant_of variants.items; instances = instances }) } by { design_prop (record { top = top; variants = map variant_of variants.items; instances = instances }) },
 }

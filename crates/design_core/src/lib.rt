@@ -9,6 +9,7 @@ mod design;
 mod expr;
 mod ports;
 mod statement;
+mod top;
 mod variant;
 
 ghost use Rattle.design_core.specs.Sample.{sample_is_walked};
@@ -17,6 +18,7 @@ pub use design::{Design, Instance};
 pub use expr::{Expr, Literal, Op, UnOp};
 pub use ports::Ports;
 pub use statement::Stmt;
+pub use top::ports_of;
 pub use variant::{Block, Child, Conn, Kind, Signal, Variant};
 
 /// The definitions give a small straight-line design, computed by hand, the trail that it has.

@@ -1,3 +1,4 @@
 pub mod Slots
 pub mod Ranges
 pub mod Elaboration
+pub mod Standing

@@ -1,3 +1,4 @@
 pub mod Processes
 pub mod Sample
 pub mod Numbered
+pub mod Standing

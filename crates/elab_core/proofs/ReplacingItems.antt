@@ -83,7 +83,7 @@ items_turn_twice x k gens body = items_twice (but x (find gens)) (only_this x k)
 
 -- ---- what is asked for is in range, and its module is one of the source
 
-free_yields : (b : Bool) (line : ℕ) (x : Name) (w : Walk Gens) → Yields AreInRange w → Yields AreInRange (if b then w else Faulty (UnknownParameter line x))
+pub free_yields : (b : Bool) (line : ℕ) (x : Name) (w : Walk Gens) → Yields AreInRange w → Yields AreInRange (if b then w else Faulty (UnknownParameter line x))
 unfolding Yields
 free_yields true line x w h = h
 free_yields false line x w h = tt
@@ -101,7 +101,7 @@ unfolding Yields
 given_yields None w f h = h
 given_yields (Some n) w f h = f
 
-parameters_yield : (line : ℕ) (ps : List Param) (given_so done : Gens) → AreInRange given_so → AreInRange done → Yields AreInRange (parameters line ps given_so done)
+pub parameters_yield : (line : ℕ) (ps : List Param) (given_so done : Gens) → AreInRange given_so → AreInRange done → Yields AreInRange (parameters line ps given_so done)
 unfolding parameters Yields
 parameters_yield line [] given_so done g h = h
 parameters_yield line (p ∷ ps) given_so done g h =
@@ -109,16 +109,16 @@ parameters_yield line (p ∷ ps) given_so done g h =
     (given_yields (find given_so p.name) (number line done p.value) (fine_find given_so p.name g) (number_yields line done p.value h))
     (λ n q. parameters_yield line ps given_so (done ++ (p.name, n) ∷ []) g (fine_behind done p.name n h q))
 
-abbrev Anything : {A : Type 0} → A → Type 0
+abbrev pub Anything : {A : Type 0} → A → Type 0
 Anything a = Unit {0}
 
-any_yields : {A : Type 0} (w : Walk A) → Yields Anything w
+pub any_yields : {A : Type 0} (w : Walk A) → Yields Anything w
 unfolding Yields
 any_yields (Gives a) = tt
 any_yields (Faulty fault) = tt
 any_yields (Counted what line w) = any_yields w
 
-values_yield : (line : ℕ) (gens : Gens) (found : Module) (args : List Param) → AreInRange gens → Yields AreInRange (values line gens found args)
+pub values_yield : (line : ℕ) (gens : Gens) (found : Module) (args : List Param) → AreInRange gens → Yields AreInRange (values line gens found args)
 unfolding values
 values_yield line gens found args h =
     yields_then Anything AreInRange (distinct found.line [] found.params) _ (any_yields (distinct found.line [] found.params))
@@ -244,7 +244,7 @@ unfolding top_arguments Yields
 top_arguments_yield params [] given_so h g = g
 top_arguments_yield params (a ∷ rest) given_so h g = top_free (is_free params given_so a.0) a.0 _ (top_arguments_yield params rest (given_so ++ a ∷ []) h.1 (fine_behind given_so a.0 a.1 g h.0))
 
-top_values_yield : (found : Module) (rest : Gens) → AreInRange rest → Yields AreInRange (top_values found rest)
+pub top_values_yield : (found : Module) (rest : Gens) → AreInRange rest → Yields AreInRange (top_values found rest)
 unfolding top_values
 top_values_yield found rest h =
     yields_then Anything AreInRange (distinct found.line [] found.params) _ (any_yields (distinct found.line [] found.params))

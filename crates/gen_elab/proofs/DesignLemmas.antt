@@ -19,7 +19,7 @@ use Rattle.elab_core.specs.Design.{size, blocks_size, block_from, numbered_block
 use Rattle.gen_elab.specs.Keys.{Key, key_of, key_child, key_variant}
 use Rattle.gen_elab.specs.Offsets.{all_statements, AreSlots}
 use Rattle.gen_elab.proofs.VariantLemmas.{number_as}
-use Rattle.gen_elab.proofs.OffsetLemmas.{where_both, where_behind, below_more, where_within}
+use Rattle.elab_laws.proofs.Sums.{slot_within}
 
 abbrev first_or : Instance → List Instance → Instance
 first_or d [] = d
@@ -71,19 +71,6 @@ variant_as modules variants slot i = ap (λ (l : List design.Child). record {
   children = l;
   blocks = numbered_blocks slot i.content.blocks;
 }) (child_as variants i.content.children)
-
--- the statements of a variant fit behind those before it
-slot_within : (variants : List Instance) (k : ℕ) (w : Instance) → k < length variants → first_slot variants (k, get_or variants k w) + blocks_size (get_or variants k w).content.blocks ≤ all_statements variants
-slot_within variants k w below =
-    let v = get_or variants k w in
-    let p : Instance → Bool = λ u. u.place == v.place in
-    let parts : variants ≡ take (k + 1) variants ++ drop (k + 1) variants = sym (take-append-drop (k + 1) variants) in
-    let split : statements_where p variants ≡ statements_where p (take (k + 1) variants) + statements_where p (drop (k + 1) variants) = ap (statements_where p) parts ∙ where_both p (take (k + 1) variants) (drop (k + 1) variants) in
-    let front : statements_where p (take (k + 1) variants) ≡ statements_where p (take k variants) + (if p v then blocks_size v.content.blocks else 0) = ap (statements_where p) (take_more variants k w below) ∙ where_behind p (take k variants) v in
-    let own : (if p v then blocks_size v.content.blocks else 0) ≡ blocks_size v.content.blocks = ap (λ b. if b then blocks_size v.content.blocks else 0) (eq-eqb v.place v.place refl) in
-    let more = below_more v.place variants in
-    let within = where_within (λ u. nat_lt u.place (v.place + 1)) variants in
-    omega (arith, split, front, own, more, within)
 
 -- what is met when so many were met
 met_here : (variants : List Instance) (k : ℕ) (left rest : List code_instance.Instance) (x : code_instance.Instance) (w : Instance) → drop k variants ≡ map instance_of left → left ≡ x ∷ rest

@@ -2,7 +2,7 @@
 use Rattle.std.proofs.Common.{◌≡◌, true, false, Bool, List, Result, Ok, Err, if◌then◌else◌, nat_lt, refl, sym, ap, ◌∙◌, subst}
 use Rattle.gen_tree.specs.Tree.{Module}
 use Rattle.exec_core.specs.Block.{Name}
-use Rattle.design_core.specs.Design.{Gens, Design}
+use Rattle.design_core.specs.Design.{Gens, AreInRange, Design}
 use Rattle.elab_core.specs.declared.Count.TheVariants.{Cells}
 use Rattle.elab_core.specs.Walk.{Fault, too_large, Seen, none_seen, judge}
 use Rattle.elab_core.specs.Elaborated.{Instance}
@@ -10,7 +10,14 @@ use Rattle.elab_core.specs.Elab.{top_walk}
 use Rattle.elab_core.specs.Design.{cells, designed, unless_large, design_from, elaborated}
 use Rattle.elab_walk.specs.Walked.{uncounted}
 use Rattle.gen_elab.specs.Finished.{finished}
-use Rattle.gen_elab.proofs.ItemCounts.{Small, walk_small}
+use Rattle.design_core.specs.WellFormed.{IsDesign}
+use Rattle.elab_laws.proofs.Preorder.{walked}
+use Rattle.std.proofs.Math.Logic.{∥∥₁_elim}
+use Rattle.design_core.specs.Single.{design_prop}
+use Rattle.elab_laws.specs.Laws.{IsReadFromText}
+use Rattle.elab_laws.proofs.Spelled.{read_named}
+use Rattle.elab_laws.proofs.Kept.{is_design}
+use Rattle.elab_laws.proofs.ItemCounts.{Small, walk_small}
 
 -- what was judged, without its counts
 abbrev Counted : Type 0
@@ -30,6 +37,13 @@ ok_equal list (Err fault) e = absurd (let P : Result (List Instance) Fault → T
 -- what the walk gives is small
 pub small_walk : (modules : List Module) (top : Name) (given : Gens) (list : List Instance) → uncounted (judge none_seen (top_walk modules top given)) ≡ Ok list → Small modules list
 small_walk modules top given list e = let found = ok_equal list (judge none_seen (top_walk modules top given)) e in walk_small modules top given list found.0 found.1
+
+-- and makes a design that is well formed
+pub kept_walk : (modules : List Module) (top : Name) (given : Gens) (list : List Instance) → IsReadFromText modules → AreInRange given → uncounted (judge none_seen (top_walk modules top given)) ≡ Ok list → IsDesign (designed modules top list)
+kept_walk modules top given list read fine e =
+    let found = ok_equal list (judge none_seen (top_walk modules top given)) e in
+    ∥∥₁_elim read (design_prop (designed modules top list)) (λ r.
+    is_design modules top list (walked modules top given list found.0 fine found.1) (walk_small modules top given list found.0 found.1) (read_named r.0 modules r.1))
 
 ended : (modules : List Module) (top : Name) (r : Counted) (list : List Instance) → uncounted r ≡ Ok list → design_from modules top (unless_large r) ≡ finished modules top list
 unfolding finished

@@ -1,15 +1,9 @@
 mod OffsetLemmas
-mod Preorder
 mod Ranges
-mod Shapes
 mod SizeLemmas
 mod VariantLemmas
-mod BodyCounts
 mod CellLemmas
-mod Contents
-mod Counts
 mod DesignLemmas
 mod ElaborateLemmas
-mod ItemCounts
 mod KeyLemmas
 mod Numbering

@@ -9,6 +9,7 @@ use Rattle.elab_core.specs.declared.Instance as code_instance
 use Rattle.elab_core.specs.View.{instance_of, content_of}
 use Rattle.elab_core.specs.Elaborated.{Instance}
 use Rattle.elab_core.specs.Design.{blocks_size, statements_where, first_slot}
+use Rattle.elab_laws.proofs.Sums.{size_of, where_behind, where_within, below_more, where_both}
 use Rattle.gen_elab.proofs.VariantLemmas.{one_more}
 use Rattle.gen_elab.specs.Offsets.{all_statements, places_below, AreTotals, before_place, nothing_before, total, prefix_sums, AreSlots}
 
@@ -20,38 +21,9 @@ and_right : (a b : Bool) → a && b ≡ true → b ≡ true
 and_right true b e = e
 and_right false b e = absurd (true≢false (sym e))
 
-abbrev size_of : Instance → ℕ
-size_of v = blocks_size v.content.blocks
-
--- one variant more
-pub where_behind : (p : Instance → Bool) (variants : List Instance) (v : Instance) → statements_where p (variants ++ v ∷ []) ≡ statements_where p variants + (if p v then size_of v else 0)
-where_behind p [] v = omega arith
-where_behind p (w ∷ variants) v = ap (λ n. (if p w then size_of w else 0) + n) (where_behind p variants v) ∙ omega arith
-
--- no more than all
-pub where_within : (p : Instance → Bool) (variants : List Instance) → statements_where p variants ≤ all_statements variants
-where_within p [] = omega arith
-where_within p (v ∷ variants) = elim (p v) as (λ b. (if b then size_of v else 0) + statements_where p variants ≤ size_of v + all_statements variants) [
-  | true ↦ omega (arith, where_within p variants)
-  | false ↦ omega (arith, where_within p variants)
-]
-
--- those below the next place are those below this one and those at it
-one_place : (place p size : ℕ) → (if nat_lt place (p + 1) then size else 0) ≡ (if nat_lt place p then size else 0) + (if place == p then size else 0)
-one_place place p size = grind arith
-
-pub below_more : (p : ℕ) (variants : List Instance)
-    → statements_where (λ w. nat_lt w.place (p + 1)) variants ≡ statements_where (λ w. nat_lt w.place p) variants + statements_where (λ w. w.place == p) variants
-below_more p [] = refl
-below_more p (v ∷ variants) = omega (arith, one_place v.place p (size_of v), below_more p variants)
-
 pub below_none : (variants : List Instance) → statements_where (λ w. nat_lt w.place 0) variants ≡ 0
 below_none [] = refl
 below_none (v ∷ variants) = grind (arith, below_none variants)
-
-pub where_both : (p : Instance → Bool) (first second : List Instance) → statements_where p (first ++ second) ≡ statements_where p first + statements_where p second
-where_both p [] second = sym (zero-add (statements_where p second))
-where_both p (v ∷ first) second = ap (λ n. (if p v then size_of v else 0) + n) (where_both p first second) ∙ omega arith
 
 -- ---- instances of the code
 

@@ -1,16 +1,8 @@
 -- Where the slots of variants begin.
-use Rattle.std.specs.Prelude.{◌≡◌, ℕ, ◌+◌, ◌<◌, Bool, true, ◌&&◌, ◌==◌, List, [], ◌∷◌, length, nat_lt, get_or}
+use Rattle.std.specs.Prelude.{◌≡◌, ℕ, ◌+◌, ◌<◌, ◌==◌, List, [], ◌∷◌, length, nat_lt, get_or}
 use Rattle.elab_core.specs.Elaborated.{Instance}
 use Rattle.elab_core.specs.Design.{statements_where, first_slot}
-
--- the statements of all variants
-abbrev pub all_statements : List Instance → ℕ
-all_statements variants = statements_where (λ v. true) variants
-
--- the modules of all stand at places below a number
-abbrev pub places_below : ℕ → List Instance → Bool
-places_below modules [] = true
-places_below modules (v ∷ variants) = nat_lt v.place modules && places_below modules variants
+pub use Rattle.elab_laws.specs.Sizes.{all_statements, places_below}
 
 -- for each place a number, and the statements of the variants of its module
 pub record AreTotals (base : ℕ → ℕ) (modules : ℕ) (variants : List Instance) (totals : List ℕ) : Type 0 where

@@ -5,6 +5,7 @@ ghost use Rattle.elab_core.specs.View.{child_of as met_child, instance_of};
 ghost use Rattle.gen_elab.specs.Keys.{key_child, key_of, key_variant};
 ghost use Rattle.gen_elab.specs.Offsets.{all_statements, places_below, AreSlots};
 ghost use Rattle.design_core.specs.DesignView.{design_of};
+ghost use Rattle.design_core.specs.WellFormed.{IsDesign};
 ghost use Rattle.gen_tree.specs.View.{modules_of};
 ghost use Rattle.std.specs.List.{enumerate_from};
 
@@ -178,6 +179,7 @@ pub(crate) fn designed(
     requires few { length instances.items ≤ 4096 }
     requires small { all_statements (map instance_of instances.items) ≤ 200000 }
     requires places { places_below (length modules.now) (map instance_of instances.items) ≡ true }
+    requires kept { IsDesign (the_design (modules_of modules.now) top.now (map instance_of instances.items)) }
     ensures { IfOk result (λ design. design_of design ≡ the_design (modules_of modules.now) top.now (map instance_of instances.items)) }
 {
     let (keys, numbers) = variant_numbers(alloc, &instances)?;

@@ -1,5 +1,5 @@
 use Rattle.std.proofs.Common.{length}
-use Rattle.gen_elab.proofs.ItemCounts.{first_places, first_small, first_few}
+use Rattle.elab_laws.proofs.ItemCounts.{first_places, first_small, first_few}
 use Rattle.gen_elab.proofs.designed.designed.Goals as goal
 
 pub slots_of-requires-clause-places : goal.slots_of-requires-clause-places

@@ -2,7 +2,7 @@ use Rattle.std.proofs.Common.{◌≡◌, map, drop}
 use Rattle.std.specs.Vec.Iter.{into_iter_items}
 use Rattle.elab_core.specs.Design.{firsts, variants_of}
 use Rattle.elab_core.specs.View.{instance_of}
-use Rattle.gen_elab.proofs.VariantLemmas.{number_in}
+use Rattle.elab_laws.proofs.Variants.{number_in}
 use Rattle.gen_elab.proofs.finish.first_instances.Given as goal
 
 -- with those that are left, the first instances are those of all, and the numbers that are left are theirs

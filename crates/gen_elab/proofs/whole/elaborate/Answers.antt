@@ -4,13 +4,14 @@ use Rattle.gen_tree.specs.declared.Module as code_module
 use Rattle.gen_tree.specs.View.{source_of, module_of, modules_of}
 use Rattle.design_core.specs.Design.{Design}
 use Rattle.design_core.specs.DesignView.{design_of}
+use Rattle.design_core.specs.WellFormed.{IsDesign}
+use Rattle.elab_core.specs.Design.{designed}
 use Rattle.elab_core.specs.Walk.{Fault}
 use Rattle.elab_core.specs.View.{instance_of}
 use Rattle.elab_core.specs.Results.{Answers}
 use Rattle.gen_elab.specs.Offsets.{places_below}
 use Rattle.gen_elab.specs.Finished.{finished}
-use Rattle.gen_elab.proofs.ElaborateLemmas.{small_walk, at_the_end}
-use Rattle.gen_elab.proofs.Preorder.{answered_preorder}
+use Rattle.gen_elab.proofs.ElaborateLemmas.{small_walk, kept_walk, at_the_end}
 use Rattle.gen_elab.proofs.whole.elaborate.Goals as goal
 
 pub finish-requires-clause-few : goal.finish-requires-clause-few
@@ -30,13 +31,16 @@ finish-requires-clause-places c =
     let long = length-map c.args.source.now.modules.items module_of ∙ ap (λ (l : List code_module.Module). length l) (sym c.deref.ensures.value) in
     ap (λ n. places_below n all) (sym long) ∙ small.places
 
-pub returns-clause-design : goal.returns-clause-design
-returns-clause-design c =
+pub finish-requires-clause-kept : goal.finish-requires-clause-kept
+finish-requires-clause-kept c =
+    let all = map instance_of c.in_ok-instances.instances.items in
+    let kept = kept_walk (source_of c.args.source.now) c.args.top.now c.params.result.now all c.requires c.params.ensures.in_range c.in_ok-instances.ensures in
+    subst (λ (l : List code_module.Module). IsDesign (designed (modules_of l) c.args.top.now all)) (sym c.deref.ensures.value) kept
+
+pub returns : goal.returns
+returns c =
     let all = map instance_of c.in_ok-instances.instances.items in
     let modules = ap (λ (l : List code_module.Module). finished (modules_of l) c.args.top.now all) c.deref.ensures.value in
     let same = at_the_end (source_of c.args.source.now) c.args.top.now c.args.given.now c.params.result.now all c.params.ensures.listed c.in_ok-instances.ensures in
     let P : Result Design Fault → Type 0 = Answers (λ d. design_of d) c.finish.result in
     subst P (modules ∙ sym same) c.finish.ensures
-
-pub returns-clause-preorder : goal.returns-clause-preorder
-returns-clause-preorder c = answered_preorder (source_of c.args.source.now) c.args.top.now c.args.given.now c.finish.result (returns-clause-design c)

@@ -27,20 +27,21 @@ ends_as P Q (Counted what line w) seen h g = ends_as P Q w (one_more what seen) 
 pub record Rises (before after : Seen) : Type 0 where
   pub instances : before.instances ≤ after.instances
   pub statements : before.statements ≤ after.statements
+  pub signals : before.signals ≤ after.signals
 
 pub stays : (seen : Seen) → Rises seen seen
-stays seen = record { instances = omega arith; statements = omega arith }
+stays seen = record { instances = omega arith; statements = omega arith; signals = omega arith }
 
 pub rises_on : (a b c : Seen) → Rises a b → Rises b c → Rises a c
-rises_on a b c p q = record { instances = omega (arith, p.instances, q.instances); statements = omega (arith, p.statements, q.statements) }
+rises_on a b c p q = record { instances = omega (arith, p.instances, q.instances); statements = omega (arith, p.statements, q.statements); signals = omega (arith, p.signals, q.signals) }
 
 one_rises : (what : Count) (seen : Seen) → Rises seen (one_more what seen)
-one_rises Instances seen = record { instances = omega arith; statements = omega arith }
-one_rises Turns seen = record { instances = omega arith; statements = omega arith }
-one_rises Statements seen = record { instances = omega arith; statements = omega arith }
-one_rises Signals seen = record { instances = omega arith; statements = omega arith }
-one_rises Parts seen = record { instances = omega arith; statements = omega arith }
-one_rises Cells seen = record { instances = omega arith; statements = omega arith }
+one_rises Instances seen = record { instances = omega arith; statements = omega arith; signals = omega arith }
+one_rises Turns seen = record { instances = omega arith; statements = omega arith; signals = omega arith }
+one_rises Statements seen = record { instances = omega arith; statements = omega arith; signals = omega arith }
+one_rises Signals seen = record { instances = omega arith; statements = omega arith; signals = omega arith }
+one_rises Parts seen = record { instances = omega arith; statements = omega arith; signals = omega arith }
+one_rises Cells seen = record { instances = omega arith; statements = omega arith; signals = omega arith }
 
 -- so it is of every walk
 pub rises : {A : Type 0} (w : Walk A) (before seen : Seen) → Rises before seen → Ends (λ s a. Rises before s) seen w
@@ -59,13 +60,14 @@ after_any Q w f seen g = ends_then (λ s a. Rises seen s) Q w f seen (rises w se
 pub record Within (seen : Seen) : Type 0 where
   pub instances : seen.instances ≤ 4096
   pub statements : seen.statements ≤ 200000
+  pub signals : seen.signals ≤ 200000
 
 one_within : (what : Count) (seen : Seen) → nat_le (limit what) (seen_of what seen) ≡ false → Within seen → Within (one_more what seen)
-one_within Instances seen e h = record { instances = grind (arith, e); statements = h.statements }
-one_within Turns seen e h = record { instances = h.instances; statements = h.statements }
-one_within Statements seen e h = record { instances = h.instances; statements = grind (arith, e) }
-one_within Signals seen e h = record { instances = h.instances; statements = h.statements }
-one_within Parts seen e h = record { instances = h.instances; statements = h.statements }
+one_within Instances seen e h = record { instances = grind (arith, e); statements = h.statements; signals = h.signals }
+one_within Turns seen e h = record { instances = h.instances; statements = h.statements; signals = h.signals }
+one_within Statements seen e h = record { instances = h.instances; statements = grind (arith, e); signals = h.signals }
+one_within Signals seen e h = record { instances = h.instances; statements = h.statements; signals = grind (arith, e) }
+one_within Parts seen e h = record { instances = h.instances; statements = h.statements; signals = h.signals }
 one_within Cells seen e h = h
 
 abbrev OkHas : {A : Type 0} → (A × Seen → Type 0) → Type 0 → Result (A × Seen) Fault → Type 0

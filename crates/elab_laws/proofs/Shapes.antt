@@ -1,15 +1,18 @@
 -- The instances of a walk are a tree in preorder, and each has what its module gives with its parameters.
 use Rattle.std.proofs.Common.{◌≡◌, ℕ, zero, suc, ◌+◌, ◌≤◌, Bool, true, false, ℤ, pos, ◌+ℤ◌, List, [], ◌∷◌, ◌++◌, length, length-append, append_assoc, Option, Some, None, if◌then◌else◌, bytes_eq, codes, refl, sym, ◌∙◌, subst, arith}
 use Rattle.std.specs.List.{slice_get}
+use Rattle.std.proofs.lemmas.Slice.Eq.{bytes_eq-Decides}
 use Rattle.gen_tree.specs.Tree as tree
 use Rattle.gen_tree.specs.Tree.{Fam, Param, wire, reg, inst, comb, ff, repeat_items, given_items, Items, no_item, item, ElseItems, no_else_items, otherwise_items, Module}
-use Rattle.elab_core.specs.Walk.{Walk, Gives, and_then}
+use Rattle.elab_core.specs.Walk.{Walk, Gives, Faulty, Counted, and_then}
 use Rattle.elab_core.specs.Numbers.{bound, fam_name, two_numbers, turn_count, holds}
 use Rattle.exec_core.specs.Block.{Name}
-use Rattle.design_core.specs.Design.{Gens, Done}
+use Rattle.design_core.specs.Design.{Gens, AreInRange, Done}
 use Rattle.elab_core.specs.Elaborated.{Child, Content, Instance}
 use Rattle.elab_core.specs.Elab.{turns, statements, places, only, module_named, values, conns, Asked, asked, Made, nothing, with_child, child_of, Here, Enter, count_outputs, register, wire_signal, item_walk, items_walk, else_walk, ports, module_walk, instances_of, instance, top_values, top_walk}
-use Rattle.gen_elab.proofs.Contents.{out, chained, out_then, OnSome, HasSome, SameContent, module_sim, more_room}
+use Rattle.elab_core.proofs.Replacing as elab_yields
+use Rattle.elab_core.proofs.ReplacingItems.{top_values_yield}
+use Rattle.elab_laws.proofs.Contents.{out, chained, out_then, OnSome, HasSome, SameContent, module_sim, more_room}
 
 -- ---- what comes out of a walk, with the equation that it does
 
@@ -61,7 +64,7 @@ mutual
 
 -- ---- each instance has what its module gives with its parameters
 
-abbrev blank : Here
+abbrev pub blank : Here
 blank = record { path = []; number = 0 }
 
 -- the module's body, with all the room that there is
@@ -102,7 +105,7 @@ places_stand x before (m ∷ modules) =
       | false ↦ rest
     ]
 
-abbrev Stands : List Module → ℕ × Module → Type 0
+abbrev pub Stands : List Module → ℕ × Module → Type 0
 Stands modules found = slice_get modules found.0 ≡ Some found.1
 
 only_stands : (modules : List Module) (line : ℕ) (x : Name) (found : List (ℕ × Module)) → EachStands modules found → Yields (Stands modules) (only line x found)
@@ -114,7 +117,29 @@ only_stands modules line x (m ∷ (again ∷ more)) h a e = absurd (none_some a 
 named_stands : (modules : List Module) (line : ℕ) (x : Name) → Yields (Stands modules) (module_named modules line x)
 named_stands modules line x = only_stands modules line x (places x 0 modules) (places_stand x [] modules)
 
-asked_stands : (modules : List Module) (line : ℕ) (gens : Gens) (f : Fam) (x : Name) (args : List Param) (cs : List tree.Conn) → Yields (λ want. Stands modules want.found) (asked modules line gens f x args cs)
+-- and has the name
+abbrev EachNamed : Name → List (ℕ × Module) → Type 0
+EachNamed x [] = Unit {0}
+EachNamed x (m ∷ found) = (m.1.name ≡ x) × EachNamed x found
+
+places_named : (x : Name) (at : ℕ) (modules : List Module) → EachNamed x (places x at modules)
+places_named x at [] = tt
+places_named x at (m ∷ modules) = by_test (bytes_eq m.name x) refl (places_named x (at + 1) modules)
+  where
+    by_test : (b : Bool) → bytes_eq m.name x ≡ b → EachNamed x (places x (at + 1) modules) → EachNamed x (if b then (at, m) ∷ places x (at + 1) modules else places x (at + 1) modules)
+    by_test true e h = ((bytes_eq-Decides m.name x).0 e, h)
+    by_test false e h = h
+
+only_named : (line : ℕ) (x : Name) (found : List (ℕ × Module)) → EachNamed x found → Yields (λ m. m.1.name ≡ x) (only line x found)
+unfolding out
+only_named line x [] h a e = absurd (none_some a e)
+only_named line x (m ∷ []) h a e = same_some (λ (n : ℕ × Module). n.1.name ≡ x) m a e h.0
+only_named line x (m ∷ (again ∷ more)) h a e = absurd (none_some a e)
+
+has_its_name : (modules : List Module) (line : ℕ) (x : Name) → Yields (λ m. m.1.name ≡ x) (module_named modules line x)
+has_its_name modules line x = only_named line x (places x 0 modules) (places_named x 0 modules)
+
+pub asked_stands : (modules : List Module) (line : ℕ) (gens : Gens) (f : Fam) (x : Name) (args : List Param) (cs : List tree.Conn) → Yields (λ want. Stands modules want.found) (asked modules line gens f x args cs)
 unfolding asked
 asked_stands modules line gens f x args cs =
     yields_then _ (fam_name line gens f) _ (λ name e. yields_then _ (module_named modules line x) _ (λ found g. yields_then _ (values line gens found.1 args) _ (λ params r. yields_then _ (conns cs gens []) _ (λ made t.
@@ -202,12 +227,23 @@ pub record TopOk (modules : List Module) (top : Name) (list : List Instance) : T
   pub params : Gens
   pub tree : IsTree 33 top None place params 0 list
   pub given : EachGiven modules list
+  pub fine : AreInRange params
+  pub «module» : Module
+  pub stands : slice_get modules place ≡ Some «module»
+  pub named : «module».name ≡ top
 
-pub top_ok : (modules : List Module) (top : Name) (given_so : Gens) → Yields (TopOk modules top) (top_walk modules top given_so)
+-- what comes out is so
+pub came_out : {A : Type 0} (Q : A → Type 0) (w : Walk A) → elab_yields.Yields Q w → Yields Q w
+unfolding elab_yields.Yields out
+came_out Q (Gives a) h b e = same_some Q a b e h
+came_out Q (Faulty fault) h b e = absurd (none_some b e)
+came_out Q (Counted what line w) h b e = came_out Q w h b e
+
+pub top_ok : (modules : List Module) (top : Name) (given_so : Gens) → AreInRange given_so → Yields (TopOk modules top) (top_walk modules top given_so)
 unfolding top_walk out and_then
-top_ok modules top given_so =
+top_ok modules top given_so fine =
     yields_then _ (module_named modules 0 top) _ (λ found g. yields_then _ (top_values found.1 given_so) _ (λ params r.
     yields_then _ (module_walk modules (instance modules 32) (record { path = top; number = 0 }) found.1 params) _ (λ made e.
     let ok = whole_ok modules 32 top None found params 0 made (omega arith) (named_stands modules 0 top found g)
     (module_ok modules 32 (instance modules 32) (instance_ok modules 32 (omega arith)) (record { path = top; number = 0 }) found.1 params made e) e in
-    yields_it (TopOk modules top) _ (record { place = found.0; params = params; tree = ok.0; given = ok.1 }))))
+    yields_it (TopOk modules top) _ (record { place = found.0; params = params; tree = ok.0; given = ok.1; «module» = found.1; stands = named_stands modules 0 top found g; named = has_its_name modules 0 top found g; fine = came_out AreInRange (top_values found.1 given_so) (top_values_yield found.1 given_so fine) params r }))))

@@ -9,7 +9,7 @@ use Rattle.design_core.specs.Design.{Gens, Stmt, Assign, Let, If, Body, Done, Th
 use Rattle.elab_core.specs.Elaborated.{added}
 use Rattle.elab_core.specs.Design.{stmt_size, size, else_size}
 use Rattle.elab_core.specs.Elab.{expr, statement, statements, else_body, else_statements}
-use Rattle.gen_elab.proofs.Counts.{Ends, ends_then, ends_as, after_any, Rises, rises_on, stays, turns_keep, ends_either}
+use Rattle.elab_laws.proofs.Counts.{Ends, ends_then, ends_as, after_any, Rises, rises_on, stays, turns_keep, ends_either}
 
 pub size_added : (made : Body) (s : Stmt) → size (added made s) ≡ size made + stmt_size s
 size_added Done s = omega arith
@@ -32,7 +32,7 @@ later a b c made more r p = record { rises = rises_on a b c r p.rises; size = om
 -- one statement was counted, and this much inside it
 one : (seen s t : Seen) (made : Body) (x : Stmt) (inside : ℕ) → s ≡ one_more Statements seen → Rises s t → stmt_size x ≡ 1 + inside → inside + s.statements ≤ t.statements → Grows seen made t (added made x)
 one seen s t made x inside is r large within = record {
-  rises = record { instances = omega (arith, ap (λ (u : Seen). u.instances) is, r.instances); statements = omega (arith, ap (λ (u : Seen). u.statements) is, r.statements) };
+  rises = record { instances = omega (arith, ap (λ (u : Seen). u.instances) is, r.instances); statements = omega (arith, ap (λ (u : Seen). u.statements) is, r.statements); signals = omega (arith, ap (λ (u : Seen). u.signals) is, r.signals) };
   size = omega (arith, size_added made x, large, within, ap (λ (u : Seen). u.statements) is);
 }
 
@@ -54,7 +54,7 @@ mutual
   stmt_counts (repeat line x from to body) gens made seen =
       after_any _ (two_numbers line gens from to) _ seen (λ s range r. after_any _ (turn_count line range.0 range.1) _ s (λ t count q.
       turns_keep (λ u more. Grows seen made u more) line (λ k more. statements body (bound x k gens) more) range.0 count made t
-      (λ what u more p. record { rises = record { instances = p.rises.instances; statements = p.rises.statements }; size = p.size })
+      (λ what u more p. record { rises = record { instances = p.rises.instances; statements = p.rises.statements; signals = p.rises.signals }; size = p.size })
       (λ k u more p. ends_as _ _ (statements body (bound x k gens) more) u (stmts_counts body (bound x k gens) more u) (λ v then_more g. grows_on seen u v made more then_more p g))
       (record { rises = rises_on seen s t r q; size = omega (arith, r.statements, q.statements) })))
   stmt_counts (given line left cmp right first second) gens made seen =

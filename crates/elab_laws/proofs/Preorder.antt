@@ -10,7 +10,7 @@ use Rattle.gen_tree.specs.Tree.{Module}
 use Rattle.design_core.specs.declared.Instance as design_instance
 use Rattle.exec_core.specs.Block.{Name}
 use Rattle.design_core.specs.Design as design
-use Rattle.design_core.specs.Design.{Gens, Variant, Design}
+use Rattle.design_core.specs.Design.{Gens, AreInRange, Variant, Design}
 use Rattle.design_core.specs.WellFormed.{children_at, trees, tree, AreInPreorder}
 use Rattle.design_core.specs.declared.Design as code_design
 use Rattle.design_core.specs.DesignView.{design_of}
@@ -21,25 +21,25 @@ use Rattle.elab_core.specs.declared.Count.TheVariants.{Cells}
 use Rattle.elab_core.specs.Walk.{Walk, Gives, Faulty, Counted, Fault, Seen, none_seen, seen_of, one_more, limit, too_large, judge}
 use Rattle.elab_core.specs.Elab.{Made, top_walk}
 use Rattle.elab_core.specs.Design.{same_gens, is_of, variant_of, firsts, variants_of, child_in, numbered_variant, instance_in, designed, cells, unless_large, design_from, elaborated}
-use Rattle.gen_elab.proofs.Contents.{out, HasSome}
-use Rattle.gen_elab.proofs.VariantLemmas.{Found, EachFound, number_in, each_found, all_grown, stays, is_its_own}
-use Rattle.gen_elab.proofs.Shapes.{IsTree, a_tree, AreTrees, no_trees, one_behind, IsGiven, EachGiven, module_out, TopOk, top_ok}
+use Rattle.elab_laws.proofs.Contents.{out, HasSome}
+use Rattle.elab_laws.proofs.Variants.{Found, EachFound, number_in, each_found, all_grown, stays, is_its_own}
+use Rattle.elab_laws.proofs.Shapes.{IsTree, a_tree, AreTrees, no_trees, one_behind, IsGiven, EachGiven, module_out, TopOk, top_ok}
 
 abbrev OnOutcome : {A : Type 0} → (Option A → Type 0) → Result (A × Seen) Fault → Type 0
 OnOutcome P (Ok p) = P (Some p.0)
 OnOutcome P (Err fault) = Unit {0}
 
-abbrev OnDesign : (Design → Type 0) → Result Design Fault → Type 0
+abbrev pub OnDesign : (Design → Type 0) → Result Design Fault → Type 0
 OnDesign P (Ok d) = P d
 OnDesign P (Err fault) = Unit {0}
 
 -- ---- the variant that is found
 
-both_parts : (a b : Bool) → a && b ≡ true → (a ≡ true) × (b ≡ true)
+pub both_parts : (a b : Bool) → a && b ≡ true → (a ≡ true) × (b ≡ true)
 both_parts true b e = (refl, e)
 both_parts false b e = absurd (true≢false (sym e))
 
-gens_equal : (a b : Gens) → same_gens a b ≡ true → a ≡ b
+pub gens_equal : (a b : Gens) → same_gens a b ≡ true → a ≡ b
 gens_equal [] [] e = refl
 gens_equal [] (h ∷ hs) e = absurd (true≢false (sym e))
 gens_equal (g ∷ gs) [] e = absurd (true≢false (sym e))
@@ -52,7 +52,7 @@ abbrev children_or : Option Variant → List design.Child
 children_or o = unwrap_or (option_map (λ w. w.children) o) []
 
 -- what stands where a search ends passes the test
-passes : {X : Type 0} (p : X → Bool) (xs : List X) → position_or_len p xs < length xs → (x : X) × ((slice_get xs (position_or_len p xs) ≡ Some x) × (p x ≡ true))
+pub passes : {X : Type 0} (p : X → Bool) (xs : List X) → position_or_len p xs < length xs → (x : X) × ((slice_get xs (position_or_len p xs) ≡ Some x) × (p x ≡ true))
 passes p [] h = absurd (omega (arith, h))
 passes {X = X} p (x ∷ xs) h = by_test (p x) refl (λ l. passes p xs l) h
   where
@@ -87,7 +87,7 @@ same_content modules i v h g place params =
     both_have (λ (made : Made). made.content) v.content i.content (module_out modules h.«module» i.params) here h.gives
 
 -- the first instances are among all
-given_firsts : (modules : List Module) (variants list : List Instance) → EachGiven modules variants → EachGiven modules list → EachGiven modules (firsts variants list)
+pub given_firsts : (modules : List Module) (variants list : List Instance) → EachGiven modules variants → EachGiven modules list → EachGiven modules (firsts variants list)
 given_firsts modules variants [] h g = h
 given_firsts modules variants (i ∷ list) h g =
     elim (nat_lt (variant_of i.place i.params variants) (length variants)) as (λ b. EachGiven modules (if b then firsts variants list else firsts (variants ++ i ∷ []) list)) [
@@ -99,7 +99,7 @@ given_firsts modules variants (i ∷ list) h g =
     behind [] h = (g.0, tt)
     behind (v ∷ variants) h = (h.0, behind variants h.1)
 
-given_at : (modules : List Module) (list : List Instance) (k : ℕ) (v : Instance) → EachGiven modules list → slice_get list k ≡ Some v → IsGiven modules v
+pub given_at : (modules : List Module) (list : List Instance) (k : ℕ) (v : Instance) → EachGiven modules list → slice_get list k ≡ Some v → IsGiven modules v
 given_at modules [] k v h e = absurd (no_item v e)
   where
     no_item : {A : Type 0} (a : A) → None ≡ Some a → ⊥
@@ -109,7 +109,7 @@ given_at modules (i ∷ list) (suc k) v h e = given_at modules list k v h.1 e
 
 -- ---- the children of an instance's variant are its own
 
-numbered_at : (f : ℕ × Instance → Variant) (k n : ℕ) (list : List Instance) → slice_get (map f (enumerate_from k list)) n ≡ option_map (λ v. f (k + n, v)) (slice_get list n)
+pub numbered_at : (f : ℕ × Instance → Variant) (k n : ℕ) (list : List Instance) → slice_get (map f (enumerate_from k list)) n ≡ option_map (λ v. f (k + n, v)) (slice_get list n)
 numbered_at f k n [] = refl
 numbered_at f k zero (v ∷ list) = ap (λ m. Some (f (m, v))) (sym (add-zero k))
 numbered_at f k (suc n) (v ∷ list) = numbered_at f (k + 1) n list ∙ ap (λ m. option_map (λ w. f (m, w)) (slice_get list n)) (further k n)
@@ -134,11 +134,11 @@ abbrev pub EachHas : List Module → List Instance → List Instance → Type 0
 EachHas modules variants [] = Unit {0}
 EachHas modules variants (i ∷ list) = HasItsChildren modules variants i × EachHas modules variants list
 
-all_children : (modules : List Module) (variants list : List Instance) → EachGiven modules variants → EachGiven modules list → EachFound variants list → EachHas modules variants list
+pub all_children : (modules : List Module) (variants list : List Instance) → EachGiven modules variants → EachGiven modules list → EachFound variants list → EachHas modules variants list
 all_children modules variants [] given h found = tt
 all_children modules variants (i ∷ list) given h found = (its_children modules variants i given h.0 found.0, all_children modules variants list given h.1 found.1)
 
-has_first : (modules : List Module) (variants first second : List Instance) → EachHas modules variants (first ++ second) → EachHas modules variants first × EachHas modules variants second
+pub has_first : (modules : List Module) (variants first second : List Instance) → EachHas modules variants (first ++ second) → EachHas modules variants first × EachHas modules variants second
 has_first modules variants [] second h = (tt, h)
 has_first modules variants (i ∷ first) second h = let rest = has_first modules variants first second h.1 in ((h.0, rest.0), rest.1)
 
@@ -159,7 +159,7 @@ trees_behind enter path at next (d ∷ children) c =
 
 -- ---- the tree
 
-abbrev the_variants : List Module → List Instance → List Variant
+abbrev pub the_variants : List Module → List Instance → List Variant
 the_variants modules variants = map (numbered_variant modules variants) (enumerate_from 0 variants)
 
 module _ (modules : List Module) (variants : List Instance) where
@@ -198,7 +198,7 @@ first_number list i =
     alone : number_in (i ∷ []) i ≡ 0
     alone = ap (λ b. cond (not b) 1 0) (is_its_own i)
 
-top_number : {top : Name} {place : ℕ} {params : Gens} {list : List Instance} → IsTree 33 top None place params 0 list → variant_of place params (variants_of list) ≡ 0
+pub top_number : {top : Name} {place : ℕ} {params : Gens} {list : List Instance} → IsTree 33 top None place params 0 list → variant_of place params (variants_of list) ≡ 0
 top_number (a_tree room path parent place params at content below under) = first_number below (record { path = path; parent = parent; place = place; params = params; content = content })
 
 -- the instances of an elaborated design are the top and those below it, in preorder
@@ -223,24 +223,6 @@ judge_out seen (Counted what line w) =
     elim (nat_le (limit what) (seen_of what seen)) as (λ b. OnOutcome (λ o. out w ≡ o) (if b then Err (too_large line what) else judge (one_more what seen) w)) [ true ↦ tt | false ↦ judge_out (one_more what seen) w ]
 
 -- the instances of a walk within its limits
-walked : (modules : List Module) (top : Name) (given : Gens) (list : List Instance) (seen : Seen) → judge none_seen (top_walk modules top given) ≡ Ok (list, seen) → TopOk modules top list
-walked modules top given list seen e =
-    top_ok modules top given list (ok_outcome (λ o. out (top_walk modules top given) ≡ o) (judge none_seen (top_walk modules top given)) list seen e (judge_out none_seen (top_walk modules top given)))
-
-design_preorder : (modules : List Module) (top : Name) (r : Result (List Instance × Seen) Fault) → ((list : List Instance) (seen : Seen) → r ≡ Ok (list, seen) → TopOk modules top list)
-    → OnDesign AreInPreorder (design_from modules top (unless_large r))
-design_preorder modules top (Ok p) h =
-    elim (nat_lt 4000000 (cells p.0)) as (λ b. OnDesign AreInPreorder (design_from modules top (if b then Err (too_large 0 Cells) else Ok p.0))) [ true ↦ tt | false ↦ in_preorder modules top p.0 (h p.0 p.1 refl) ]
-design_preorder modules top (Err fault) h = tt
-
--- an elaborated design's instances stand in preorder
-pub elaborated_preorder : (modules : List Module) (top : Name) (given : Gens) (d : Design) → elaborated modules top given ≡ Ok d → AreInPreorder d
-elaborated_preorder modules top given d e =
-    let all = design_preorder modules top (judge none_seen (top_walk modules top given)) (λ list seen g. walked modules top given list seen g) in
-    let P : Result Design Fault → Type 0 = OnDesign AreInPreorder in subst P e all
-
--- so do those of what the code answers
-pub answered_preorder : (modules : List Module) (top : Name) (given : Gens) (result : Result code_design.Design code_fault.ElabFault) → Answers (λ d. design_of d) result (elaborated modules top given)
-    → IfOk result (λ d. AreInPreorder (design_of d))
-answered_preorder modules top given (Ok d) h = elaborated_preorder modules top given (design_of d) h
-answered_preorder modules top given (Err fault) h = tt
+pub walked : (modules : List Module) (top : Name) (given : Gens) (list : List Instance) (seen : Seen) → AreInRange given → judge none_seen (top_walk modules top given) ≡ Ok (list, seen) → TopOk modules top list
+walked modules top given list seen fine e =
+    top_ok modules top given fine list (ok_outcome (λ o. out (top_walk modules top given) ≡ o) (judge none_seen (top_walk modules top given)) list seen e (judge_out none_seen (top_walk modules top given)))

@@ -1,0 +1,14 @@
+pub mod Below
+pub mod BodyCounts
+pub mod Contents
+pub mod Counts
+pub mod Fine
+pub mod ItemCounts
+pub mod Kept
+pub mod Outputs
+pub mod Paths
+pub mod Preorder
+pub mod Shapes
+pub mod Spelled
+pub mod Sums
+pub mod Variants

@@ -1,0 +1,6 @@
+ghost use Rattle.elab_laws.specs.Laws.{ElaborationKeeps};
+
+/// A design that elaboration gives is well formed. Computes nothing.
+pub fn elaboration_keeps()
+    ensures { ElaborationKeeps }
+{}
