@@ -7,6 +7,7 @@ ghost use Rattle.dbg_app.specs.Command.{row_of, names_of};
 ghost use Rattle.dbg_app.specs.Answers.{IfAsked};
 ghost use Rattle.dbg_app.specs.Rows.{row_as};
 ghost use Rattle.gen_tree.specs.View.{source_of};
+ghost use Rattle.elab_laws.specs.Laws.{IsReadFromText};
 ghost use Rattle.design_core.specs.DesignView.{design_of as elaborated_design};
 ghost use Rattle.check_core.specs.Verdict.{verdict};
 ghost use Rattle.dbg_app.specs.Refusals.{is_no_memory, refusal_of as the_refusal_of};
@@ -108,6 +109,7 @@ fn check_refusal(alloc: Global, design: &Design) -> Result<Option<DesignFault>, 
 
 /// Why the design of a source that was read is refused, if it is: elaboration goes before the checks.
 fn refusal_of(alloc: Global, source: &Source, top: &[u8]) -> Result<Option<DesignFault>, NoMemory>
+    requires { IsReadFromText (source_of source.now) }
     ensures refusal { IfOk result (λ refusal. refusal ≡ the_refusal_of (source_of source.now) top.now) }
     ensures line { IfOk result (λ refusal. IfSome refusal (λ fault. is_no_memory fault ≡ false)) }
 {
@@ -125,6 +127,7 @@ fn accepted_of(
     source: &Source,
     top: &[u8],
 ) -> Result<Result<FirstForm, DesignFault>, NoMemory>
+    requires { IsReadFromText (source_of source.now) }
     ensures design { IfOk result (IsAcceptedOrNot top.now (source_of source.now)) }
     ensures line { IfOk result HasLine }
 {
