@@ -4,7 +4,6 @@ use Rattle.std.specs.Prelude.{ok_or, option_map}
 use Rattle.bv_core.specs.Value.{Bits}
 use Rattle.gen_tree.specs.Tree as wide
 use Rattle.gen_text.specs.Source.{Reads}
-use Rattle.gen_text.proofs.Answers.{one_reading}
 use Rattle.first_tree.specs.declared.Module.{Module}
 use Rattle.first_tree.specs.Wide.{wide_module}
 use Rattle.first_tree.proofs.Laws.{same_module}

@@ -1,5 +1,5 @@
 -- Refusals of a source that is read: what each has, and its line.
-use Rattle.std.specs.Prelude.{ℕ, Bool, true, false, not, List, [], ◌++◌, Option, Some, None, option_map, Result, Ok, Err, codes}
+use Rattle.std.specs.Prelude.{ℕ, Bool, true, false, not, List, [], ◌++◌, Option, Some, option_map, Result, Ok, Err, codes}
 use Rattle.std.specs.Fmt.{decimal}
 use Rattle.gen_tree.specs.Tree as wide
 use Rattle.gen_text.specs.declared.TextFault.TheVariants as text_faults
