@@ -9,7 +9,7 @@ use Rattle.gen_token.specs.Spelling.{IsName}
 use Rattle.exec_core.specs.Block.{Name}
 use Rattle.exec_core.specs.Lists.{EachOf, IsNotIn, AreApart}
 use Rattle.design_core.specs.Design.{Gens, AreInRange, Child, Variant, Design}
-use Rattle.design_core.specs.WellFormed.{IsChild, AreChildren, HasParent, IfPort, IsVariant, IsDesign}
+use Rattle.design_core.specs.WellFormed.{IsChild, AreChildren, IfPort, IsVariant, IsDesign}
 
 kind_set : IsSet Kind
 kind_set = hlevel props

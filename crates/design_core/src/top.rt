@@ -1,9 +1,8 @@
-ghost use Rattle.std.specs.Prelude.{◌≡◌, ◌++◌, ◌≤◌, true, false, IfOk, OnOk, if◌then◌else◌, map};
+ghost use Rattle.std.specs.Prelude.{◌≡◌, ◌++◌, ◌≤◌, true, false, IfOk, OnOk, map};
 ghost use Rattle.design_core.specs.DesignView.{design_of};
-ghost use Rattle.design_core.specs.Ports.{all_fit, bits, fits, has_width, is_port, is_width, one_port, ports_in, top_signals};
+ghost use Rattle.design_core.specs.Ports.{all_fit, bits, fits, is_port, is_width, one_port, ports_in, top_signals};
 ghost use Rattle.design_core.specs.View.{variant_of};
-ghost use Rattle.design_core.specs.WellFormed.{if_reg, regs, registers, signals_at};
-ghost use Rattle.std.specs.List.{list_all};
+ghost use Rattle.design_core.specs.WellFormed.{regs, registers, signals_at};
 
 use crate::{Design, Kind, Ports, Signal, Variant};
 use std::alloc::Global;
@@ -52,11 +51,7 @@ fn put(
 
 /// The outputs among signals, or else the inputs, in order.
 #[tactic(auto, using(crate::proofs::PortSteps::port_steps))]
-fn ports_among(
-    alloc: Global,
-    output: bool,
-    signals: &[Signal],
-) -> Result<Vec<(Text, u8)>, NoMemory>
+fn ports_among(alloc: Global, output: bool, signals: &[Signal]) -> Result<Vec<(Text, u8)>, NoMemory>
     requires { all_fit signals.now ≡ true }
     ensures { IfOk result (λ ports. ports.items ≡ ports_in output signals.now) }
 {

@@ -1,14 +1,14 @@
 -- The children of an instance stand where the definition looks for them.
-use Rattle.std.proofs.Common.{◌≡◌, ℕ, zero, suc, ◌+◌, ◌==◌, Bool, true, false, List, [], ◌∷◌, ◌++◌, map, Option, Some, None, option_map, if◌then◌else◌, true≢false, add-zero, refl, sym, ap, ◌∙◌, subst, arith, eqb-true}
+use Rattle.std.proofs.Common.{◌≡◌, ℕ, zero, suc, ◌+◌, Bool, true, false, List, [], ◌∷◌, ◌++◌, map, Option, Some, None, option_map, if◌then◌else◌, true≢false, add-zero, refl, sym, ap, ◌∙◌, subst, arith, eqb-true}
 use Rattle.std.specs.List.{slice_get, enumerate_from, flat_map}
 use Rattle.std.proofs.lemmas.Option.{none-some, same_Some, slice_get-map}
 use Rattle.exec_core.specs.Block.{Name}
 use Rattle.design_core.specs.declared.design.Instance.{Instance}
-use Rattle.design_core.specs.Design.{Child, Design}
-use Rattle.design_core.specs.WellFormed.{stands_in, standing, IsChild, AreChildren, IsDesign}
+use Rattle.design_core.specs.Design.{Child}
+use Rattle.design_core.specs.WellFormed.{stands_in, standing, IsChild, AreChildren}
 use Rattle.design_exec.specs.Processes as processes
 use Rattle.design_exec.specs.Processes.{children_in, child_at, kept_below}
-use Rattle.design_exec.specs.Standing.{HasChild, ChildrenStand}
+use Rattle.design_exec.specs.Standing.{ChildrenStand}
 
 same_test : (i : ℕ) (o : Option ℕ) → processes.stands_in i o ≡ stands_in i o
 same_test i None = refl

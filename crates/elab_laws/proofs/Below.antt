@@ -1,16 +1,16 @@
 -- The instances that stand in an instance are the children of its variant.
-use Rattle.std.proofs.Common.{◌≡◌, ℕ, zero, suc, ◌+◌, ◌<◌, ◌≤◌, ◌==◌, Bool, true, false, List, [], ◌∷◌, ◌++◌, map, length, length-append, append-nil, add-zero, Option, Some, None, if◌then◌else◌, codes, ◌⊎◌, inl, inr, refl, sym, ap, ap₂, ◌∙◌, subst, arith, ne_eqb, eq-eqb}
+use Rattle.std.proofs.Common.{◌≡◌, ℕ, suc, ◌+◌, ◌<◌, ◌≤◌, ◌==◌, Bool, true, false, List, [], ◌∷◌, ◌++◌, map, length, length-append, append-nil, add-zero, Option, Some, if◌then◌else◌, codes, ◌⊎◌, inl, inr, refl, sym, ap, ap₂, ◌∙◌, subst, arith, ne_eqb, eq-eqb}
 use Rattle.std.proofs.lemmas.List.{length-map, map-append}
 use Rattle.design_core.specs.declared.Instance.{Instance as Placed}
 use Rattle.exec_core.specs.Block.{Name}
 use Rattle.design_core.specs.Design as design
 use Rattle.design_core.specs.Design.{Gens, Variant}
-use Rattle.design_core.specs.WellFormed.{children_at, stands_in, standing, IsChild, AreChildren, HasParent}
-use Rattle.elab_core.specs.Elaborated.{Child, Content, Instance}
+use Rattle.design_core.specs.WellFormed.{children_at, stands_in, standing, AreChildren, HasParent}
+use Rattle.elab_core.specs.Elaborated.{Child, Instance}
 use Rattle.elab_core.specs.Design.{variant_of, child_in, instance_in}
 use Rattle.elab_laws.proofs.Shapes.{IsTree, a_tree, AreTrees, no_trees, one_behind}
 use Rattle.gen_tree.specs.Tree.{Module}
-use Rattle.elab_laws.proofs.Preorder.{HasItsChildren, EachHas, has_first, the_variants}
+use Rattle.elab_laws.proofs.Preorder.{EachHas, has_first, the_variants}
 
 -- ---- instances with numbers from one on
 
@@ -88,7 +88,7 @@ root_ok variants path parent v at under before ok = record {
   each = (
     subst (AreChildren at path (children_at v variants)) (sym (not_first at (before at (omega arith)))) ok.mine,
     each_as (HasChildren variants (at + 1) under) (HasChildren variants at (one path v parent ∷ under)) (at + 1) under
-    (λ k r l m p. subst (AreChildren k r.path (children_at r.variant variants)) (sym (not_first k (before k (omega (arith, l))))) p) ok.each,
+        (λ k r l m p. subst (AreChildren k r.path (children_at r.variant variants)) (sym (not_first k (before k (omega (arith, l))))) p) ok.each,
   );
   parents = ok.parents;
 }

@@ -1,5 +1,5 @@
 -- The numbers that elaboration gives are in range, and its names come from names of the source.
-use Rattle.std.proofs.Common.{◌≡◌, ℕ, zero, suc, ◌+◌, ◌<◌, ◌≤◌, Bool, true, false, ℤ, pos, negsuc, ◌+ℤ◌, ◌-ℤ◌, List, [], ◌∷◌, ◌++◌, map, length, Option, Some, None, if◌then◌else◌, nat_le, codes, decimal, ◌⊎◌, inl, inr, refl, sym, ap, ◌∙◌, subst, arith}
+use Rattle.std.proofs.Common.{◌≡◌, ℕ, zero, suc, ◌+◌, ◌<◌, ◌≤◌, Bool, true, false, ℤ, pos, negsuc, ◌+ℤ◌, ◌-ℤ◌, List, [], ◌∷◌, ◌++◌, length, Option, Some, None, if◌then◌else◌, nat_le, codes, decimal, ◌⊎◌, inl, inr, refl, sym, ap, subst, arith}
 use Rattle.std.proofs.lemmas.Int.{ints}
 use Rattle.std.specs.List.{slice_get, flat_map}
 use Rattle.gen_tree.specs.Tree as tree
@@ -12,7 +12,6 @@ use Rattle.design_core.specs.declared.Kind.TheVariants.{Input, Output, Wire, Reg
 use Rattle.design_core.specs.Design.{Gens, IsInRange, AreInRange, Stmt, Assign, Let, If, Body, Done, Then, Else, NoElse, Otherwise, Block}
 use Rattle.design_core.specs.Slots.{Head, heads, stmt_heads, else_heads}
 use Rattle.design_core.specs.WellFormed.{IfPort}
-use Rattle.elab_core.specs.declared.Count.TheVariants.{Signals}
 use Rattle.elab_core.specs.Walk.{Walk, Gives, Faulty, Counted, and_then, ElabRange}
 use Rattle.elab_core.specs.Numbers.{bound, number, family, index_name, fam_name, two_numbers, turn_count, turns_of, holds}
 use Rattle.elab_core.specs.Elaborated.{added, Child, Content, Instance}
@@ -21,7 +20,7 @@ use Rattle.elab_core.specs.Design.{size, stmt_size, numbered, numbered_stmt, num
 use Rattle.elab_core.proofs.Replacing.{Yields, yields_then, number_yields, two_yields, Both, turn_fine, fine_bound}
 use Rattle.elab_core.proofs.ReplacingItems.{Anything, any_yields, values_yield}
 use Rattle.elab_laws.proofs.Contents.{out, HasSome}
-use Rattle.elab_laws.proofs.Shapes.{IsTree, a_tree, AreTrees, no_trees, one_behind, IsGiven, EachGiven, module_out, blank}
+use Rattle.elab_laws.proofs.Shapes.{IsTree, a_tree, AreTrees, no_trees, one_behind, IsGiven, EachGiven, blank}
 
 -- ---- lists
 

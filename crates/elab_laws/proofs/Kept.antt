@@ -1,7 +1,7 @@
 -- A design that elaboration gives is well formed.
-use Rattle.std.proofs.Common.{◌≡◌, ℕ, zero, suc, ◌+◌, ◌<◌, ◌≤◌, ◌==◌, Bool, true, false, not, cond, ◌&&◌, ◌||◌, List, [], ◌∷◌, ◌++◌, map, length, length-append, add-zero, Option, Some, None, option_map, unwrap_or, Result, Ok, Err, if◌then◌else◌, nat_lt, codes, ◌⊎◌, inl, inr, refl, sym, ap, ap₂, ◌∙◌, subst, arith}
+use Rattle.std.proofs.Common.{◌≡◌, ℕ, zero, suc, ◌+◌, ◌<◌, ◌≤◌, ◌==◌, Bool, true, false, not, ◌||◌, List, [], ◌∷◌, ◌++◌, map, length, length-append, add-zero, Option, Some, None, option_map, unwrap_or, Result, Ok, Err, if◌then◌else◌, nat_lt, ◌⊎◌, inl, inr, refl, sym, ap, ap₂, ◌∙◌, subst, arith}
 use Rattle.std.specs.List.{slice_get, enumerate_from, flat_map, list_any}
-use Rattle.std.proofs.lemmas.Bool.{eqb-true, ltb-true, ltb-false, eq-eqb}
+use Rattle.std.proofs.lemmas.Bool.{eqb-true, ltb-false, eq-eqb}
 use Rattle.std.proofs.lemmas.List.{length-map}
 use Rattle.std.proofs.lemmas.List.FromFn.{length-enumerate_from}
 use Rattle.std.proofs.lemmas.List.Sums.{prefix_len-le-length}
@@ -16,18 +16,18 @@ use Rattle.design_core.specs.declared.Kind.TheVariants.{Input, Output, Wire, Reg
 use Rattle.design_core.specs.Design as design
 use Rattle.design_core.specs.Design.{Gens, AreInRange, Variant, Design}
 use Rattle.design_core.specs.Slots.{AreNumbered, from, slots_of, variant_heads}
-use Rattle.design_core.specs.WellFormed.{HasParent, AreChildren, standing, children_at, signals_at, output_of, outputs_of, child_outs, regs, registers, all_slots, AreInTurn, is_plain, IsMember, child_names, IsVariant, IsDesign}
+use Rattle.design_core.specs.WellFormed.{HasParent, AreChildren, standing, children_at, signals_at, output_of, outputs_of, regs, registers, all_slots, AreInTurn, is_plain, IsMember, child_names, IsVariant, IsDesign}
 use Rattle.design_exec.proofs.Slots.{each_numbered, blocks_numbered}
 use Rattle.design_exec.proofs.Ranges.{variants_apart}
 use Rattle.elab_core.specs.Walk.{Fault, Seen, none_seen, judge, too_large}
 use Rattle.elab_core.specs.declared.Count.TheVariants.{Cells}
-use Rattle.elab_core.specs.Elaborated.{Child, Content, Instance}
+use Rattle.elab_core.specs.Elaborated.{Child, Instance}
 use Rattle.elab_core.specs.Elab.{output_as, child_outputs, top_walk}
-use Rattle.elab_core.specs.Design.{blocks_size, first_slot, same_gens, is_of, variant_of, firsts, variants_of, name_at, child_in, numbered_variant, instance_in, designed, cells, unless_large, design_from, elab, elaborated}
+use Rattle.elab_core.specs.Design.{blocks_size, first_slot, same_gens, is_of, variant_of, firsts, variants_of, name_at, child_in, numbered_variant, instance_in, designed, cells, unless_large, design_from, elaborated}
 use Rattle.elab_laws.proofs.Variants.{number_in, Found, EachFound, each_found, all_grown, stays, is_its_own, search_last}
 use Rattle.elab_laws.proofs.Shapes.{IsTree, a_tree, AreTrees, no_trees, one_behind, IsGiven, EachGiven, TopOk}
 use Rattle.elab_laws.proofs.Preorder.{EachHas, all_children, given_firsts, given_at, passes, both_parts, gens_equal, numbered_at, the_variants, top_number, in_preorder, walked, OnDesign}
-use Rattle.elab_laws.proofs.Below.{EachFrom, HasChildren, TreeOk, tree_ok}
+use Rattle.elab_laws.proofs.Below.{EachFrom, HasChildren, tree_ok}
 use Rattle.gen_text.specs.Source.{Reads}
 use Rattle.elab_laws.proofs.Fine.{ModuleOf, ChildFine, InstanceFine, of_place, tree_fine, blocks_fine}
 use Rattle.elab_laws.proofs.Paths.{paths, names, NamesOk, all_apart, plain_member, as_member}
@@ -36,7 +36,7 @@ use Rattle.gen_token.specs.Spelling.{IsName}
 use Rattle.elab_laws.specs.Sizes.{all_statements, all_registers}
 use Rattle.elab_laws.proofs.Sums.{slot_within}
 use Rattle.elab_laws.proofs.ItemCounts.{Small, walk_small, firsts_few}
-use Rattle.elab_laws.proofs.Outputs.{signals_by, met_outputs, OutsOk, given_signals, given_outs}
+use Rattle.elab_laws.proofs.Outputs.{signals_by, met_outputs, given_signals, given_outs}
 
 -- ---- elements of lists
 
@@ -273,17 +273,19 @@ are_variants : (modules : List Module) (variants : List Instance) (k : ℕ) (lis
     → EachOf AreNumbered (map (numbered_variant modules variants) (enumerate_from k list)) → EachOf (InstanceFine IsName) list → EachOf (ModuleOf IsName) modules
     → EachOf (IsVariant (the_variants modules variants)) (map (numbered_variant modules variants) (enumerate_from k list))
 are_variants modules variants k [] given h found numbered fine named = tt
-are_variants modules variants k (i ∷ list) given h found numbered fine named =
-    (record {
-      children = children_within modules variants i.content.children found.0;
-      outputs = given_outs modules i h.0 ∙ child_by_child modules variants 0 i.content.children given found.0;
-      in_turn = in_turn (numbered_variant modules variants (k, i)) numbered.0;
-      params = fine.0.0;
-      gens = blocks_fine (first_slot variants (k, i)) i.content.blocks (fine.0.1).blocks;
-      named = module_name modules i named h.0;
-      ports = (fine.0.1).signals;
-      names = child_members variants i.content.children (fine.0.1).children;
-    }, are_variants modules variants (k + 1) list given h.1 found.1 numbered.1 fine.1 named)
+are_variants modules variants k (i ∷ list) given h found numbered fine named = (
+  record {
+    children = children_within modules variants i.content.children found.0;
+    outputs = given_outs modules i h.0 ∙ child_by_child modules variants 0 i.content.children given found.0;
+    in_turn = in_turn (numbered_variant modules variants (k, i)) numbered.0;
+    params = fine.0.0;
+    gens = blocks_fine (first_slot variants (k, i)) i.content.blocks (fine.0.1).blocks;
+    named = module_name modules i named h.0;
+    ports = (fine.0.1).signals;
+    names = child_members variants i.content.children (fine.0.1).children;
+  },
+  are_variants modules variants (k + 1) list given h.1 found.1 numbered.1 fine.1 named,
+)
 
 -- ---- slots and registers
 
@@ -351,9 +353,10 @@ plain_children (c ∷ children) h = (plain_member c.name h.0.0, plain_children c
 
 names_ok : (modules : List Module) (variants list : List Instance) → EachOf NamesApart (the_variants modules variants) → EachOf (InstanceFine IsName) list → EachHas modules variants list → EachOf NamesOk list
 names_ok modules variants [] apart fine h = tt
-names_ok modules variants (i ∷ list) apart fine h =
-    ((subst AreApart (ap child_names h.0 ∙ same_names variants i.content.children) (at_children (the_variants modules variants) (number_in variants i) apart), plain_children i.content.children (fine.0.1).children),
-    names_ok modules variants list apart fine.1 h.1)
+names_ok modules variants (i ∷ list) apart fine h = (
+  (subst AreApart (ap child_names h.0 ∙ same_names variants i.content.children) (at_children (the_variants modules variants) (number_in variants i) apart), plain_children i.content.children (fine.0.1).children),
+  names_ok modules variants list apart fine.1 h.1,
+)
 
 same_paths : (variants list : List Instance) → map (λ (r : Placed). r.path) (map (instance_in variants) list) ≡ paths list
 same_paths variants [] = refl

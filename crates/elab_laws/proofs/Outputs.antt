@@ -1,5 +1,5 @@
 -- The outputs of children are signals of what a body gives, child by child.
-use Rattle.std.proofs.Common.{◌≡◌, ℕ, zero, suc, ◌+◌, Bool, true, false, List, [], ◌∷◌, ◌++◌, length, append_assoc, append-nil, add-zero, Option, Some, None, option_map, unwrap_or, if◌then◌else◌, codes, refl, sym, ap, ap₂, ◌∙◌, subst, arith}
+use Rattle.std.proofs.Common.{◌≡◌, ℕ, suc, ◌+◌, Bool, true, false, List, [], ◌∷◌, ◌++◌, length, append_assoc, append-nil, add-zero, Option, Some, None, refl, sym, ap, ap₂, ◌∙◌, subst, arith}
 use Rattle.std.specs.List.{slice_get, enumerate_from, flat_map}
 use Rattle.gen_tree.specs.Tree as tree
 use Rattle.gen_tree.specs.Tree.{Fam, Int, Lit, wire, reg, inst, comb, ff, repeat_items, given_items, Items, no_item, item, ElseItems, no_else_items, otherwise_items, Port, Module}
@@ -9,13 +9,12 @@ use Rattle.design_core.specs.declared.Kind.{Kind}
 use Rattle.design_core.specs.declared.Kind.TheVariants.{Input, Output, Wire, Reg, ChildOut}
 use Rattle.design_core.specs.Design.{Gens, Done}
 use Rattle.design_core.specs.WellFormed.{if_child_out, child_outs}
-use Rattle.elab_core.specs.declared.Count.TheVariants.{Signals}
-use Rattle.elab_core.specs.Walk.{Walk, Gives, and_then, counts}
+use Rattle.elab_core.specs.Walk.{and_then}
 use Rattle.elab_core.specs.Numbers.{bound, number, fam_name, two_numbers, turn_count, holds}
 use Rattle.elab_core.specs.Elaborated.{Child, Content, Instance}
 use Rattle.elab_core.specs.Elab.{literal, statements, Asked, asked, Made, nothing, with_signal, with_child, first_signals, child_of, output_as, child_outputs, port_kind, Here, Enter, register, wire_signal, item_walk, items_walk, else_walk, ports, module_walk, instance}
 use Rattle.elab_laws.proofs.Contents.{out, HasSome}
-use Rattle.elab_laws.proofs.Shapes.{Yields, yields_then, yields_it, turns_yield, either_yields, IsTree, a_tree, EachGiven, IsGiven, module_out, blank, Stands, asked_stands, ListOk, EnterOk, instance_ok}
+use Rattle.elab_laws.proofs.Shapes.{Yields, yields_then, yields_it, turns_yield, either_yields, IsTree, a_tree, EachGiven, IsGiven, module_out, blank, asked_stands, EnterOk, instance_ok}
 
 -- ---- lists
 

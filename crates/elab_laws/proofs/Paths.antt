@@ -1,5 +1,5 @@
 -- Paths of instances differ where the names of each instance's children differ and hold no dot.
-use Rattle.std.proofs.Common.{◌≡◌, ℕ, ◌+◌, ◌%◌, ◌<◌, ◌≤◌, ◌==◌, Bool, true, false, not, ◌&&◌, ◌||◌, mod-lt, List, [], ◌∷◌, ◌++◌, map, length, length-append, append_assoc, append-nil, Option, Some, ◌⊎◌, inl, inr, codes, true≢false, refl, sym, ap, ap₂, ◌∙◌, subst, arith, eqb-true, eq-eqb}
+use Rattle.std.proofs.Common.{◌≡◌, ℕ, ◌+◌, ◌%◌, ◌<◌, ◌≤◌, ◌==◌, Bool, true, false, not, ◌&&◌, ◌||◌, mod-lt, List, [], ◌∷◌, ◌++◌, map, length, length-append, append_assoc, append-nil, Option, ◌⊎◌, inl, inr, true≢false, refl, sym, ap, ap₂, ◌∙◌, subst, arith, eqb-true, eq-eqb}
 use Rattle.std.specs.List.{list_all}
 use Rattle.std.specs.Fmt.{decimal}
 use Rattle.std.proofs.lemmas.Fmt.{decimal_by_steps}
@@ -11,7 +11,7 @@ use Rattle.exec_core.specs.Block.{Name}
 use Rattle.exec_core.specs.Lists.{EachOf, IsNotIn, AreApart}
 use Rattle.design_core.specs.Design.{Gens}
 use Rattle.design_core.specs.WellFormed.{is_plain, IsMember}
-use Rattle.elab_core.specs.Elaborated.{Child, Content, Instance}
+use Rattle.elab_core.specs.Elaborated.{Child, Instance}
 use Rattle.elab_laws.proofs.Shapes.{IsTree, a_tree, AreTrees, no_trees, one_behind}
 use Rattle.elab_laws.proofs.Fine.{both_each, each_parts, Member}
 

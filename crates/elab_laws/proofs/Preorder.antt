@@ -1,5 +1,5 @@
 -- The instances of an elaborated design are a tree in preorder.
-use Rattle.std.proofs.Common.{◌≡◌, ℕ, zero, suc, ◌+◌, ◌<◌, Bool, true, false, not, cond, ◌&&◌, ◌==◌, List, [], ◌∷◌, ◌++◌, map, length, length-append, append_assoc, append-nil, add-zero, Option, Some, None, option_map, unwrap_or, Result, Ok, Err, IfOk, if◌then◌else◌, nat_lt, nat_le, bytes_eq, codes, true≢false, refl, sym, ap, ap₂, ◌∙◌, subst, arith}
+use Rattle.std.proofs.Common.{◌≡◌, ℕ, zero, suc, ◌+◌, ◌<◌, Bool, true, false, not, cond, ◌&&◌, ◌==◌, List, [], ◌∷◌, ◌++◌, map, length, length-append, append_assoc, append-nil, add-zero, Option, Some, None, option_map, unwrap_or, Result, Ok, Err, if◌then◌else◌, nat_lt, nat_le, bytes_eq, codes, true≢false, refl, sym, ap, ap₂, ◌∙◌, subst, arith}
 use Rattle.std.specs.List.{slice_get, enumerate_from, position_or_len}
 use Rattle.std.specs.Ordering.{int_eq}
 use Rattle.std.proofs.lemmas.Bool.{eqb-true}
@@ -12,15 +12,10 @@ use Rattle.exec_core.specs.Block.{Name}
 use Rattle.design_core.specs.Design as design
 use Rattle.design_core.specs.Design.{Gens, AreInRange, Variant, Design}
 use Rattle.design_core.specs.WellFormed.{children_at, trees, tree, AreInPreorder}
-use Rattle.design_core.specs.declared.Design as code_design
-use Rattle.design_core.specs.DesignView.{design_of}
-use Rattle.elab_core.specs.declared.ElabFault as code_fault
-use Rattle.elab_core.specs.Results.{Answers}
 use Rattle.elab_core.specs.Elaborated.{Child, Content, Instance}
-use Rattle.elab_core.specs.declared.Count.TheVariants.{Cells}
 use Rattle.elab_core.specs.Walk.{Walk, Gives, Faulty, Counted, Fault, Seen, none_seen, seen_of, one_more, limit, too_large, judge}
 use Rattle.elab_core.specs.Elab.{Made, top_walk}
-use Rattle.elab_core.specs.Design.{same_gens, is_of, variant_of, firsts, variants_of, child_in, numbered_variant, instance_in, designed, cells, unless_large, design_from, elaborated}
+use Rattle.elab_core.specs.Design.{same_gens, is_of, variant_of, firsts, variants_of, child_in, numbered_variant, instance_in, designed}
 use Rattle.elab_laws.proofs.Contents.{out, HasSome}
 use Rattle.elab_laws.proofs.Variants.{Found, EachFound, number_in, each_found, all_grown, stays, is_its_own}
 use Rattle.elab_laws.proofs.Shapes.{IsTree, a_tree, AreTrees, no_trees, one_behind, IsGiven, EachGiven, module_out, TopOk, top_ok}

@@ -1,17 +1,17 @@
 -- Names of a source that was read are names.
-use Rattle.std.proofs.Common.{◌≡◌, ℕ, Bool, true, false, List, [], ◌∷◌, Option, Some, None, IsSomeAnd, refl, sym, ap, ◌∙◌, subst}
+use Rattle.std.proofs.Common.{◌≡◌, ℕ, Bool, true, false, List, [], ◌∷◌, Option, Some, None, IsSomeAnd, refl, ◌∙◌, subst}
 use Rattle.gen_token.specs.declared.Keyword.{Keyword}
 use Rattle.gen_token.specs.declared.Keyword.TheVariants as keyword
 use Rattle.gen_token.specs.declared.Mark.{Mark}
 use Rattle.gen_token.specs.declared.Mark.TheVariants as mark
 use Rattle.gen_token.specs.Words.{Word, Name, Number, Literal, Reserved, Sign, Tok}
-use Rattle.gen_token.specs.Spelling.{IsName, IsTokenOf} 
+use Rattle.gen_token.specs.Spelling.{IsName, IsTokenOf}
 use Rattle.gen_token.specs.Spelling as spelling
 use Rattle.gen_token.specs.Tokens.{skip, token_at, TokensFrom}
 use Rattle.gen_token.proofs.ReadToken.{exact}
 use Rattle.gen_text.specs.Source.{Reads}
 use Rattle.gen_tree.specs.declared.Mode.TheVariants as mode
-use Rattle.gen_tree.specs.Grammar.{Span, ◌⨾◌, Single, Key, Sym, Each, Braces, int_op_mark, cmp_mark, SourceInt, SourceFam, SourceExpr, SpellsIndex, SpellsLit, un_op_word, op_mark, SpellsTwo, SpellsRead, SpellsPrim, SpellsExpr, SpellsTurns, SpellsGiven, SpellsParam, SpellsMoreParams, SpellsParams, assign_mark, SpellsStmt, SpellsStmts, SpellsElse, SpellsConn, SpellsItem, SpellsItems, SpellsElseItems, direction, SpellsPort, SpellsModule, Spells}
+use Rattle.gen_tree.specs.Grammar.{◌⨾◌, Single, Key, Sym, Each, Braces, int_op_mark, cmp_mark, SourceInt, SourceFam, SourceExpr, SpellsIndex, SpellsLit, un_op_word, op_mark, SpellsTwo, SpellsPrim, SpellsTurns, SpellsGiven, SpellsParam, SpellsParams, assign_mark, SpellsStmt, SpellsStmts, SpellsElse, SpellsConn, SpellsItem, SpellsItems, SpellsElseItems, direction, SpellsPort, SpellsModule, Spells}
 use Rattle.gen_tree.specs.Tree.{Int, num, var, bin, Fam, Lit, plain, bits, Expr, read, out, value, unary, binary, mux, zext, slice, Stmt, assign, bind, choose, repeat, given, Stmts, no_stmt, stmt, Else, no_else, otherwise, Param, Conn, Item, wire, reg, inst, comb, ff, repeat_items, given_items, Items, no_item, item, ElseItems, no_else_items, otherwise_items, Port, Module}
 use Rattle.exec_core.specs.Lists.{EachOf}
 use Rattle.elab_laws.proofs.Fine.{ItemOf, ItemsOf, ElseItemsOf, ModuleOf}

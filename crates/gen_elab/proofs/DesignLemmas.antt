@@ -1,8 +1,7 @@
 -- The parts of a design, one after another.
-use Rattle.std.proofs.Common.{◌≡◌, ℕ, ◌+◌, ◌<◌, ◌≤◌, Bool, ◌==◌, if◌then◌else◌, nat_lt, take, drop, get_or, List, [], ◌∷◌, ◌++◌, map, length, append_assoc, refl, sym, ap, ap₂, ◌∙◌, arith}
+use Rattle.std.proofs.Common.{◌≡◌, ℕ, ◌+◌, ◌<◌, drop, get_or, List, [], ◌∷◌, ◌++◌, map, length, append_assoc, refl, sym, ap, ap₂, ◌∙◌, arith}
 use Rattle.std.specs.List.{enumerate_from}
-use Rattle.std.proofs.lemmas.Bool.{eq-eqb}
-use Rattle.std.proofs.lemmas.List.{map-append, drop_more, take_more, take-append-drop, length-drop}
+use Rattle.std.proofs.lemmas.List.{map-append, drop_more, length-drop}
 use Rattle.design_core.specs.declared.Block as code_block
 use Rattle.design_core.specs.declared.Child as code_child
 use Rattle.design_core.specs.Design as design
@@ -15,7 +14,7 @@ use Rattle.exec_core.specs.Block.{Name}
 use Rattle.design_core.specs.declared.Variant as code_variant
 use Rattle.elab_core.specs.declared.Instance as code_instance
 use Rattle.elab_core.specs.Elaborated.{Child, Instance}
-use Rattle.elab_core.specs.Design.{size, blocks_size, block_from, numbered_blocks, statements_where, first_slot, child_in, name_at, variant_from, numbered_variant}
+use Rattle.elab_core.specs.Design.{size, blocks_size, block_from, numbered_blocks, first_slot, child_in, name_at, variant_from, numbered_variant}
 use Rattle.gen_elab.specs.Keys.{Key, key_of, key_child, key_variant}
 use Rattle.gen_elab.specs.Offsets.{all_statements, AreSlots}
 use Rattle.gen_elab.proofs.VariantLemmas.{number_as}

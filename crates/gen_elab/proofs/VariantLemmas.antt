@@ -1,17 +1,14 @@
 -- Variants are found in the order of their first instances.
-use Rattle.std.proofs.Common.{◌≡◌, ℕ, zero, suc, ◌+◌, ◌<◌, ◌≤◌, Bool, true, false, not, cond, ◌&&◌, ◌==◌, List, [], ◌∷◌, ◌++◌, map, length, length-append, append_assoc, take, drop, get_or, if◌then◌else◌, nat_lt, append-nil, refl, sym, ap, ap₂, ◌∙◌, subst, arith}
+use Rattle.std.proofs.Common.{◌≡◌, ℕ, zero, suc, ◌+◌, ◌<◌, ◌≤◌, Bool, true, false, not, cond, ◌==◌, List, [], ◌∷◌, ◌++◌, map, length, length-append, take, drop, get_or, if◌then◌else◌, nat_lt, refl, sym, ap, ap₂, ◌∙◌, arith}
 use Rattle.std.proofs.lemmas.Bool.{ltb-true, ltb-false, eq-eqb}
-use Rattle.std.proofs.lemmas.Bool.Decides.{Decides-int_eq}
-use Rattle.std.proofs.lemmas.Slice.Eq.{bytes_eq-Decides}
 use Rattle.std.proofs.lemmas.List.Sums.{prefix_len-le-length}
 use Rattle.std.proofs.lemmas.List.{length-map, map-append, take_more, drop_more, length-drop, get_or-map}
-use Rattle.std.specs.List.{position_or_len}
 use Rattle.design_core.specs.Design.{Gens}
 use Rattle.design_core.specs.declared.Instance as design_instance
 use Rattle.elab_core.specs.declared.Instance as code_instance
 use Rattle.elab_core.specs.View.{instance_of}
 use Rattle.elab_core.specs.Elaborated.{Instance}
-use Rattle.elab_core.specs.Design.{same_gens, is_of, variant_of, firsts, variants_of, instance_in}
+use Rattle.elab_core.specs.Design.{is_of, variant_of, firsts, variants_of, instance_in}
 use Rattle.elab_laws.proofs.Variants.{search_last, with_one, firsts_behind, number_in, Found, EachFound, is_its_own, stays, grown, all_grown, each_found, variants_within}
 use Rattle.gen_elab.specs.Keys.{Key, key_place, key_of, numbers_of, kept}
 

@@ -66,7 +66,14 @@ pub(crate) fn executed(
 ) -> Result<Done, Fail> {
     let mut own = Names::new(alloc);
     let mut lets = Vec::new(alloc);
-    own_names(alloc, block.clocked, &block.body, &mut own, &mut lets, DEEPEST)?;
+    own_names(
+        alloc,
+        block.clocked,
+        &block.body,
+        &mut own,
+        &mut lets,
+        DEEPEST,
+    )?;
     let mut scope = Vec::new(alloc);
     for signal in variant.signals.items() {
         scope.push(signal.name.bytes().to_vec(alloc)?)?;

@@ -32,7 +32,11 @@ pub(crate) fn below(alloc: Global, child: &[u8], output: &[u8]) -> Result<Vec<u8
 
 /// What a name reads: what was assigned last to a name of the block, and the settled value of another.
 pub(crate) fn read(settled: &Values, own: &Names, now: &Values, name: &[u8]) -> Option<Bv> {
-    if own.has(name) { now.get(name) } else { settled.get(name) }
+    if own.has(name) {
+        now.get(name)
+    } else {
+        settled.get(name)
+    }
 }
 
 /// An operator on one value.
@@ -67,14 +71,22 @@ fn binary(op: Op) -> Op2 {
 /// An operator applied, if the value has a width that it takes.
 fn one(op: Op1, value: Option<Bv>) -> Option<Bv> {
     let value = value?;
-    if fits1(op, value.width()) { Some(apply1(op, value)) } else { None }
+    if fits1(op, value.width()) {
+        Some(apply1(op, value))
+    } else {
+        None
+    }
 }
 
 /// An operator applied, if the values have widths that it takes.
 fn two(op: Op2, left: Option<Bv>, right: Option<Bv>) -> Option<Bv> {
     let left = left?;
     let right = right?;
-    if fits2(op, left.width(), right.width()) { Some(apply2(op, left, right)) } else { None }
+    if fits2(op, left.width(), right.width()) {
+        Some(apply2(op, left, right))
+    } else {
+        None
+    }
 }
 
 /// A choice, if the values have widths that it takes.
@@ -82,7 +94,11 @@ fn chosen(test: Option<Bv>, yes: Option<Bv>, no: Option<Bv>) -> Option<Bv> {
     let test = test?;
     let yes = yes?;
     let no = no?;
-    if fits_mux(test.width(), yes.width(), no.width()) { Some(choose(test, yes, no)) } else { None }
+    if fits_mux(test.width(), yes.width(), no.width()) {
+        Some(choose(test, yes, no))
+    } else {
+        None
+    }
 }
 
 /// A number from 0 to 255.
@@ -122,7 +138,10 @@ pub(crate) fn value(
         },
         Expr::Slice(inner, high, low) => match (small(*high), small(*low)) {
             (Some(high), Some(low)) => {
-                one(Op1::Slice(high, low), value(alloc, settled, own, now, inner)?)
+                one(
+                    Op1::Slice(high, low),
+                    value(alloc, settled, own, now, inner)?,
+                )
             }
             _ => None,
         },

@@ -77,7 +77,11 @@ fn line_of(
     line: u32,
     gens: &Listed<(Text, i64)>,
 ) -> Result<String, Fail> {
-    let mut told = format!(in alloc; "{} {line} {}", place.cycle, std::str::from_utf8(place.path)?)?;
+    let mut told = format!(in alloc;
+        "{} {line} {}",
+        place.cycle,
+        std::str::from_utf8(place.path)?
+    )?;
     for (x, number) in gens.items() {
         let one = format!(in alloc; " {}={number}", std::str::from_utf8(x.bytes())?)?;
         told.push_str(&one)?;
@@ -131,10 +135,12 @@ fn behind(
 
 /// Whether the first branch of an `if` is taken.
 fn is_taken(alloc: Global, place: &Place, done: &Done, test: &Expr) -> Result<bool, Fail> {
-    Ok(match value(alloc, place.settled, place.own, &done.now, test)? {
-        Some(found) => found.value() == 1,
-        None => false,
-    })
+    Ok(
+        match value(alloc, place.settled, place.own, &done.now, test)? {
+            Some(found) => found.value() == 1,
+            None => false,
+        },
+    )
 }
 
 /// Executes statements.
@@ -151,13 +157,22 @@ pub(crate) fn execute(
     for stmt in body {
         let (slot, line, gens) = match stmt {
             Stmt::Assign {
-                slot, line, gens, ..
+                slot,
+                line,
+                gens,
+                ..
             }
             | Stmt::Let {
-                slot, line, gens, ..
+                slot,
+                line,
+                gens,
+                ..
             }
             | Stmt::If {
-                slot, line, gens, ..
+                slot,
+                line,
+                gens,
+                ..
             } => (slot, line, gens),
         };
         let told = line_of(alloc, place, done, *line, gens)?;

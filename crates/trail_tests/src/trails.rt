@@ -37,19 +37,24 @@ fn compare(rt: &impl Abort, alloc: Global, cases: &[Case]) -> Result<(), Fail> {
 }
 
 /// Two assignments, one after the other.
-const STRAIGHT: &str = "// Both names are written once, in order.\nmodule P {\n  input a : 4;\n  output y : 4; wire t : 4;\n  comb {\n    t = (a + 4'h1);\n    y = (t ^ a); } }\n";
+const STRAIGHT: &str =
+    "// Both names are written once, in order.\nmodule P {\n  input a : 4;\n  output y : 4; wire t : 4;\n  comb {\n    t = (a + 4'h1);\n    y = (t ^ a); } }\n";
 
 /// An `if` that is taken or not, and a register.
-const BRANCH: &str = "module A {\n  input en : 1;\n  input d : 8;\n  output q : 8;\n  wire t : 8;\n  reg r : 8 = 8'h00;\n  comb {\n    t = r;\n    if en {\n      t = (t + d);\n    }\n    q = t;\n  }\n  ff { r <= t; }\n}\n";
+const BRANCH: &str =
+    "module A {\n  input en : 1;\n  input d : 8;\n  output q : 8;\n  wire t : 8;\n  reg r : 8 = 8'h00;\n  comb {\n    t = r;\n    if en {\n      t = (t + d);\n    }\n    q = t;\n  }\n  ff { r <= t; }\n}\n";
 
 /// A loop.
-const LOOP: &str = "module D(N = 3) {\n  input a : 4;\n  output s : 4;\n  comb { s = 4'h0; for i in 0..N {\n    s = (s + a);\n  } }\n}\n";
+const LOOP: &str =
+    "module D(N = 3) {\n  input a : 4;\n  output s : 4;\n  comb { s = 4'h0; for i in 0..N {\n    s = (s + a);\n  } }\n}\n";
 
 /// Three instances of two variants.
-const FAMILY: &str = "module L(W = 4) {\n  input a : W;\n  input g : 1;\n  output y : W;\n  comb {\n    y = a;\n    if g {\n      y = ~(a);\n    }\n  }\n}\nmodule C { input g0 : 1; input g1 : 1; input a : 4;\n  output z : 4; output z2 : 8;\n  inst u#0 : L { a = a; g = g0; }\n  inst u#1 : L { a = a; g = g1; }\n  inst v : L(W = 8) { a = zext(a, 8); g = g1; }\n  comb { z = (u#0.y ^ u#1.y); z2 = v.y; }\n}\n";
+const FAMILY: &str =
+    "module L(W = 4) {\n  input a : W;\n  input g : 1;\n  output y : W;\n  comb {\n    y = a;\n    if g {\n      y = ~(a);\n    }\n  }\n}\nmodule C { input g0 : 1; input g1 : 1; input a : 4;\n  output z : 4; output z2 : 8;\n  inst u#0 : L { a = a; g = g0; }\n  inst u#1 : L { a = a; g = g1; }\n  inst v : L(W = 8) { a = zext(a, 8); g = g1; }\n  comb { z = (u#0.y ^ u#1.y); z2 = v.y; }\n}\n";
 
 /// A name that one branch alone assigns is unset behind the `if`, whichever branch is taken.
-const ONE_BRANCH: &str = "module B { input c : 1; output y : 1;\n  comb {\n    let u = ~(c);\n    if c {\n      let v = u;\n      y = v;\n    } else { y = c; }\n    let w = y;\n  }\n}\n";
+const ONE_BRANCH: &str =
+    "module B { input c : 1; output y : 1;\n  comb {\n    let u = ~(c);\n    if c {\n      let v = u;\n      y = v;\n    } else { y = c; }\n    let w = y;\n  }\n}\n";
 
 static CASES: [Case; 6] = [
     Case {

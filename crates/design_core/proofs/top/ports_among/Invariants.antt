@@ -1,4 +1,4 @@
-use Rattle.std.proofs.Common.{◌≡◌, take, true}
+use Rattle.std.proofs.Common.{◌≡◌, take}
 use Rattle.design_core.specs.Ports.{ports_in}
 use Rattle.design_core.proofs.top.ports_among.Given as goal
 
