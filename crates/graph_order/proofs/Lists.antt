@@ -1,5 +1,5 @@
 -- Facts of each element, of elements, and of lists whose elements differ.
-use Rattle.std.proofs.Common.{◌≡◌, ◌⊎◌, inl, inr, ℕ, zero, suc, List, [], ◌∷◌, ◌++◌, refl, sym, subst, take, ◌<◌, ◌+◌, length, get_or, arith}
+use Rattle.std.proofs.Common.{◌⊎◌, inl, inr, ℕ, zero, suc, List, [], ◌∷◌, ◌++◌, refl, sym, subst, take, ◌<◌, ◌+◌, length, get_or, arith}
 use Rattle.std.proofs.lemmas.List.{take_more}
 use Rattle.graph_order.specs.Lists.{EachOf, IsIn, AreApart}
 

@@ -1,5 +1,5 @@
 -- Marks that change.
-use Rattle.std.proofs.Common.{◌≡◌, ℕ, zero, suc, ◌+◌, ◌<◌, List, [], ◌∷◌, set, length, refl, sym, ◌∙◌, arith, get_or-set_same, get_or-set_other, ap, subst, ◌⊎◌, inl, inr}
+use Rattle.std.proofs.Common.{◌≡◌, ℕ, zero, suc, ◌+◌, ◌<◌, List, [], ◌∷◌, set, length, refl, sym, ◌∙◌, arith, get_or-set_same, get_or-set_other, ap, inl, inr}
 use Rattle.std.proofs.lemmas.Bool.{cases_eq}
 use Rattle.graph_order.specs.Search.{mark_of, news, StayMarked}
 use Rattle.graph_order.specs.declared.search.Mark.{Mark}
@@ -38,8 +38,9 @@ news_finished (Finished ∷ marks) (suc v) e = news_finished marks v e
 pub stay_set : (marks : List Mark) (v : ℕ) (m : Mark) → v < length marks → (m ≡ New → ⊥) → StayMarked marks (set marks v m)
 stay_set marks v m h n w k e =
     elim (cases_eq w v) [
-      inl same ↦ n (sym (marked_same marks v m h) ∙ ap (mark_of (set marks v m)) (sym same) ∙ e)
-    | inr other ↦ k (sym (marked_other marks v w m other) ∙ e) ]
+      | inl same ↦ n (sym (marked_same marks v m h) ∙ ap (mark_of (set marks v m)) (sym same) ∙ e)
+      | inr other ↦ k (sym (marked_other marks v w m other) ∙ e)
+    ]
 
 pub stay_after : (a b c : List Mark) → StayMarked a b → StayMarked b c → StayMarked a c
 stay_after a b c h k v n = k v (h v n)

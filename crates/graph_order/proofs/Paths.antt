@@ -1,11 +1,11 @@
 -- Paths that grow, and the cycles that they close.
-use Rattle.std.proofs.Common.{◌≡◌, ℕ, zero, suc, ◌<◌, ◌≤◌, ◌+◌, ◌==◌, Bool, true, false, List, [], ◌∷◌, ◌++◌, length, take, drop, get_or, refl, sym, subst, arith, ◌∙◌, ◌⊎◌, inl, inr}
+use Rattle.std.proofs.Common.{◌≡◌, ℕ, ◌<◌, ◌≤◌, ◌+◌, List, [], ◌∷◌, ◌++◌, length, take, drop, get_or, sym, subst, arith, inl, inr}
 use Rattle.std.proofs.lemmas.List.{append-nil, take-append-drop, drop_more}
 use Rattle.std.proofs.lemmas.Bool.{cases_eq}
 use Rattle.graph_order.specs.Lists.{EachOf, IsIn, AreApart}
-use Rattle.graph_order.specs.Graphs.{Graph, next_of, HasEdge}
+use Rattle.graph_order.specs.Graphs.{Graph, HasEdge}
 use Rattle.graph_order.specs.Cycles.{Leads, IsCycle}
-use Rattle.graph_order.specs.Search.{LeadsOn, IsPath, LastLeads, IsRound, IsTurned, IsClosedBy, from_on}
+use Rattle.graph_order.specs.Search.{IsPath, LastLeads, IsRound, IsTurned, from_on}
 use Rattle.graph_order.proofs.Lists.{each_left, each_right, each_append, each_map, each_more, apart_turned}
 
 pub path_push : (g : Graph) (ys : List ℕ) (z y : ℕ) → IsPath g (ys ++ z ∷ []) → HasEdge g z y → IsPath g ((ys ++ z ∷ []) ++ y ∷ [])
@@ -37,12 +37,14 @@ pub round_from : (g : Graph) (path : List ℕ) (v : ℕ) → IsPath g path → A
 round_from g [] v h a k l = k
 round_from g (w ∷ []) v h a k l =
     elim k [
-      inl e ↦ subst (IsRound g) (sym (from_here v w [] (sym e))) (subst (Leads g w []) e (leads_along g w [] v h l), a)
-    | inr n ↦ absurd n ]
+      | inl e ↦ subst (IsRound g) (sym (from_here v w [] (sym e))) (subst (Leads g w []) e (leads_along g w [] v h l), a)
+      | inr n ↦ absurd n
+    ]
 round_from g (w ∷ x ∷ ws) v h a k l =
     elim (cases_eq w v) [
-      inl e ↦ subst (IsRound g) (sym (from_here v w (x ∷ ws) e)) (subst (Leads g w (x ∷ ws)) (sym e) (leads_along g w (x ∷ ws) v h l), a)
-    | inr n ↦ subst (IsRound g) (sym (from_later v w (x ∷ ws) n)) (round_from g (x ∷ ws) v h.1 a.1 (elim k [ inl e ↦ absurd (n (sym e)) | inr m ↦ m ]) l) ]
+      | inl e ↦ subst (IsRound g) (sym (from_here v w (x ∷ ws) e)) (subst (Leads g w (x ∷ ws)) (sym e) (leads_along g w (x ∷ ws) v h l), a)
+      | inr n ↦ subst (IsRound g) (sym (from_later v w (x ∷ ws) n)) (round_from g (x ∷ ws) v h.1 a.1 (elim k [ inl e ↦ absurd (n (sym e)) | inr m ↦ m ]) l)
+    ]
 
 leads_split : (g : Graph) (x : ℕ) (xs : List ℕ) (y : ℕ) (ys : List ℕ) (w : ℕ) → Leads g x (xs ++ y ∷ ys) w → Leads g x xs y × Leads g y ys w
 leads_split g x [] y ys w l = l
@@ -61,9 +63,11 @@ round_apart g [] r = tt
 round_apart g (v ∷ vs) r = r.1
 
 cycle_turned : (g : Graph) (xs : List ℕ) (y : ℕ) (ys : List ℕ) → IsRound g (xs ++ y ∷ ys) → EachOf (λ w. y ≤ w) (xs ++ y ∷ ys) → IsCycle g ((y ∷ ys) ++ xs)
-cycle_turned g xs y ys r e =
-    (turned_leads g xs y ys r, apart_turned xs (y ∷ ys) (round_apart g (xs ++ y ∷ ys) r),
-    each_append (λ w. y ≤ w) ys xs (each_right (λ w. y ≤ w) xs (y ∷ ys) e).1 (each_left (λ w. y ≤ w) xs (y ∷ ys) e))
+cycle_turned g xs y ys r e = (
+  turned_leads g xs y ys r,
+  apart_turned xs (y ∷ ys) (round_apart g (xs ++ y ∷ ys) r),
+  each_append (λ w. y ≤ w) ys xs (each_right (λ w. y ≤ w) xs (y ∷ ys) e).1 (each_left (λ w. y ≤ w) xs (y ∷ ys) e),
+)
 
 ap_front : (round : List ℕ) (place y : ℕ) (rest : List ℕ) → drop place round ≡ y ∷ rest → take place round ++ (y ∷ rest) ≡ round
 ap_front round place y rest front = subst (λ (zs : List ℕ). take place round ++ zs ≡ round) front (take-append-drop place round)

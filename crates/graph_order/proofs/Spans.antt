@@ -1,5 +1,5 @@
 -- Two flat lists as a graph.
-use Rattle.std.proofs.Common.{◌≡◌, ℕ, zero, suc, ◌<◌, ◌≤◌, ◌+◌, ◌-◌, ◌^◌, List, [], ◌∷◌, ◌++◌, length, take, drop, set, get_or, map, refl, sym, subst, ap, ap₂, ◌∙◌, arith, length-append, length-drop, length-set}
+use Rattle.std.proofs.Common.{◌≡◌, ℕ, zero, suc, ◌<◌, ◌≤◌, ◌+◌, ◌-◌, ◌^◌, List, [], ◌∷◌, ◌++◌, length, take, drop, set, get_or, refl, sym, subst, ap, ap₂, ◌∙◌, arith, length-append, length-drop, length-set}
 use Rattle.std.proofs.lemmas.List.{take-append-le, drop-append-le, drop_at, take_all, map_push, map-set, get_or-map, length-map}
 use Rattle.graph_order.specs.Lists.{EachOf}
 use Rattle.graph_order.specs.Graphs.{Graph, next_of, IsGraph}
@@ -62,11 +62,14 @@ graph_set g v next b e = subst (λ (n : ℕ). EdgesBelow n (set g v next)) (sym 
 -- more ends, and no vertex more
 pub flat_same : (ends more : List ℕ) (spans : List Span) → IsFlat ends spans → IsFlat (ends ++ more) spans × (graph_of (ends ++ more) spans ≡ graph_of ends spans)
 flat_same ends more spans f =
-    let same : graph_of (ends ++ more) spans ≡ graph_of ends spans = graph_more ends more spans f.within in
-    (record {
-       within = within_more (length ends) (length (ends ++ more)) spans (omega (arith, length-append ends more)) f.within;
-       edges = subst IsGraph (sym same) f.edges;
-       few = f.few; }, same)
+    let same : graph_of (ends ++ more) spans ≡ graph_of ends spans = graph_more ends more spans f.within in (
+      record {
+        within = within_more (length ends) (length (ends ++ more)) spans (omega (arith, length-append ends more)) f.within;
+        edges = subst IsGraph (sym same) f.edges;
+        few = f.few;
+      },
+      same,
+    )
 
 added_graph : (ends more : List ℕ) (spans : List Span) → IsFlat ends spans → graph_of (ends ++ more) (spans ++ new_span ends more ∷ []) ≡ graph_of ends spans ++ more ∷ []
 added_graph ends more spans f =
@@ -82,12 +85,15 @@ pub flat_added : (ends more : List ℕ) (spans : List Span) → IsFlat ends span
     × (graph_of (ends ++ more) (spans ++ record { first = length ends; past = length (ends ++ more) } ∷ []) ≡ graph_of ends spans ++ more ∷ [])
 unfolding new_span
 flat_added ends more spans f e room =
-    let is : graph_of (ends ++ more) (spans ++ new_span ends more ∷ []) ≡ graph_of ends spans ++ more ∷ [] = added_graph ends more spans f in
-    (record {
-       within = each_append (IsWithin (length (ends ++ more))) spans (new_span ends more ∷ [])
-           (within_more (length ends) (length (ends ++ more)) spans (omega (arith, length-append ends more)) f.within) (new_within ends more, tt);
-       edges = subst IsGraph (sym is) (graph_push (graph_of ends spans) more f.edges e);
-       few = omega (arith, length-append spans (new_span ends more ∷ [])); }, is)
+    let is : graph_of (ends ++ more) (spans ++ new_span ends more ∷ []) ≡ graph_of ends spans ++ more ∷ [] = added_graph ends more spans f in (
+      record {
+        within = each_append (IsWithin (length (ends ++ more))) spans (new_span ends more ∷ [])
+            (within_more (length ends) (length (ends ++ more)) spans (omega (arith, length-append ends more)) f.within) (new_within ends more, tt);
+        edges = subst IsGraph (sym is) (graph_push (graph_of ends spans) more f.edges e);
+        few = omega (arith, length-append spans (new_span ends more ∷ []));
+      },
+      is,
+    )
 
 each_set : (P : Span → Type 0) (spans : List Span) (i : ℕ) (s : Span) → P s → EachOf P spans → EachOf P (set spans i s)
 each_set P [] i s p e = tt
@@ -104,12 +110,15 @@ pub flat_set : (ends more : List ℕ) (spans : List Span) (v : ℕ) → IsFlat e
     × (graph_of (ends ++ more) (set spans v (record { first = length ends; past = length (ends ++ more) })) ≡ set (graph_of ends spans) v more)
 unfolding new_span
 flat_set ends more spans v f e =
-    let is : graph_of (ends ++ more) (set spans v (new_span ends more)) ≡ set (graph_of ends spans) v more = set_graph ends more spans v f in
-    (record {
-       within = each_set (IsWithin (length (ends ++ more))) spans v (new_span ends more) (new_within ends more)
-           (within_more (length ends) (length (ends ++ more)) spans (omega (arith, length-append ends more)) f.within);
-       edges = subst IsGraph (sym is) (graph_set (graph_of ends spans) v more f.edges e);
-       few = omega (arith, f.few, length-set spans v (new_span ends more)); }, is)
+    let is : graph_of (ends ++ more) (set spans v (new_span ends more)) ≡ set (graph_of ends spans) v more = set_graph ends more spans v f in (
+      record {
+        within = each_set (IsWithin (length (ends ++ more))) spans v (new_span ends more) (new_within ends more)
+            (within_more (length ends) (length (ends ++ more)) spans (omega (arith, length-append ends more)) f.within);
+        edges = subst IsGraph (sym is) (graph_set (graph_of ends spans) v more f.edges e);
+        few = omega (arith, f.few, length-set spans v (new_span ends more));
+      },
+      is,
+    )
 
 span_same : (s : Span) (first past : ℕ) → s.first ≡ first → s.past ≡ past → s ≡ record { first = first; past = past }
 span_same s first past a b = ap₂ (λ (x y : ℕ). record s { first = x; past = y }) a b

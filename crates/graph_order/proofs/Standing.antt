@@ -1,11 +1,11 @@
 -- Orders that grow, and that no graph has both an order and a cycle.
-use Rattle.std.proofs.Common.{◌≡◌, ℕ, zero, suc, ◌<◌, List, [], ◌∷◌, ◌++◌, length, refl, sym, subst, arith, append_assoc, ◌⊎◌, inl, inr}
+use Rattle.std.proofs.Common.{ℕ, zero, suc, ◌<◌, List, [], ◌∷◌, ◌++◌, length, sym, subst, arith, append_assoc, inl, inr}
 use Rattle.std.proofs.lemmas.List.{append-nil}
 use Rattle.graph_order.specs.Lists.{EachOf, IsIn}
 use Rattle.graph_order.specs.Graphs.{Graph, next_of, HasEdge}
-use Rattle.graph_order.specs.Orders.{StandsAfter, IsOrder}
-use Rattle.graph_order.specs.Cycles.{Leads, IsCycle, WalksHaveNoOrder, CyclesHaveNoOrder}
-use Rattle.graph_order.proofs.Lists.{in_left, in_last, in_cases, each_at, each_map}
+use Rattle.graph_order.specs.Orders.{StandsAfter}
+use Rattle.graph_order.specs.Cycles.{Leads, WalksHaveNoOrder, CyclesHaveNoOrder}
+use Rattle.graph_order.proofs.Lists.{in_left, in_cases, each_at, each_map}
 
 pub stands_push : (g : Graph) (before vs : List ℕ) (v : ℕ) → StandsAfter g before vs → (IsIn v (before ++ vs) → ⊥) → EachOf (λ w. IsIn w (before ++ vs)) (next_of g v) → StandsAfter g before (vs ++ v ∷ [])
 stands_push g before [] v s n e =
@@ -31,17 +31,19 @@ unfolding IsClosed
 closed_push g before v c e u h =
     each_map (λ w. IsIn w before) (λ w. IsIn w (before ++ v ∷ [])) (next_of g u) (λ w k. in_left w before (v ∷ []) k)
     (elim (in_cases u before (v ∷ []) h) [
-      inl l ↦ c u l
-    | inr r ↦ elim r [ inl same ↦ subst (λ (z : ℕ). EachOf (λ w. IsIn w before) (next_of g z)) (sym same) e | inr k ↦ absurd k ] ])
+      | inl l ↦ c u l
+      | inr r ↦ elim r [ inl same ↦ subst (λ (z : ℕ). EachOf (λ w. IsIn w before) (next_of g z)) (sym same) e | inr k ↦ absurd k ]
+    ])
 
 no_walk : (g : Graph) (before vs : List ℕ) (v : ℕ) (xs : List ℕ) → StandsAfter g before vs → IsClosed g before → IsIn v vs → Leads g v xs v → ⊥
 no_walk g before [] v xs s c h l = h
 no_walk g before (y ∷ vs) v xs s c h l =
     elim h [
-      inl same ↦
-        let e = subst (λ (z : ℕ). EachOf (λ w. IsIn w before) (next_of g z)) (sym same) s.1 in
-        s.0 (subst (λ (z : ℕ). IsIn z before) same (stays g before v xs v c e l))
-    | inr k ↦ no_walk g (before ++ y ∷ []) vs v xs s.2 (closed_push g before y c s.1) k l ]
+      | inl same ↦
+          let e = subst (λ (z : ℕ). EachOf (λ w. IsIn w before) (next_of g z)) (sym same) s.1 in
+          s.0 (subst (λ (z : ℕ). IsIn z before) same (stays g before v xs v c e l))
+      | inr k ↦ no_walk g (before ++ y ∷ []) vs v xs s.2 (closed_push g before y c s.1) k l
+    ]
 
 -- what has an edge is a vertex
 pub edge_within : (g : Graph) (v w : ℕ) → HasEdge g v w → v < length g

@@ -1,5 +1,5 @@
 -- Small graphs, worked by hand.
-use Rattle.std.specs.Prelude.{List, [], ◌∷◌}
+use Rattle.std.specs.Prelude.{[], ◌∷◌}
 use Rattle.graph_order.specs.Graphs.{Graph}
 use Rattle.graph_order.specs.Orders.{IsOrder}
 use Rattle.graph_order.specs.Cycles.{IsCycle}

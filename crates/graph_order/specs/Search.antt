@@ -1,5 +1,5 @@
 -- The search for an order, depth first: the marks of the vertices, the path of those that were begun, and the order of those that were finished.
-use Rattle.std.specs.Prelude.{◌≡◌, ℕ, zero, suc, ◌<◌, ◌==◌, List, [], ◌∷◌, ◌++◌, length, take, slice_index_or, if◌then◌else◌}
+use Rattle.std.specs.Prelude.{◌≡◌, ℕ, suc, ◌==◌, List, [], ◌∷◌, length, take, slice_index_or, if◌then◌else◌}
 use Rattle.graph_order.specs.Lists.{EachOf, IsIn, AreApart}
 use Rattle.graph_order.specs.Graphs.{Graph, next_of, HasEdge}
 use Rattle.graph_order.specs.Orders.{StandsAfter}

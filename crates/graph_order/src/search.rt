@@ -154,7 +154,9 @@ impl Search {
                 self.begin(next)?;
                 Ok(())
             }
-            Mark::Begun | Mark::Finished => Err(GraphFault::Cycle(cycle_of(alloc, &self.path, next)?)),
+            Mark::Begun | Mark::Finished => Err(GraphFault::Cycle(cycle_of(
+                alloc, &self.path, next,
+            )?)),
         }
     }
 

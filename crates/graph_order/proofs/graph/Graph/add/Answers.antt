@@ -11,8 +11,8 @@ invariant_of-self-in_err-push c =
 pub returns-in_err-push-clause-same : goal.returns-in_err-push-clause-same
 returns-in_err-push-clause-same c =
     let known : graph_of c.extend_from_slice.new.self.items c.push.new.self.items ≡ c.args.self.now =
-        (left_same c.self.inside.ends.items c.args.next.now c.extend_from_slice.new.self.items c.self.inside.spans.items c.push.new.self.items c.args.self.now
-        c.in_ok-extend_from_slice.ensures.items c.in_err-push.ensures.items c.self.invariant c.self.view_is).1 in
+    (left_same c.self.inside.ends.items c.args.next.now c.extend_from_slice.new.self.items c.self.inside.spans.items c.push.new.self.items c.args.self.now
+    c.in_ok-extend_from_slice.ensures.items c.in_err-push.ensures.items c.self.invariant c.self.view_is).1 in
     search (rules, known)
 
 pub invariant_of-self-2 : goal.invariant_of-self-2

@@ -25,7 +25,7 @@ returns-in_default-clause-searched c =
     (c.in_ok-finish.ensures.path ∙ c.ahead.ensures.path)
     (c.in_ok-finish.ensures.order ∙ ap (λ (xs : List ℕ). xs ++ v ∷ []) c.ahead.ensures.order)
     (finished g old.marks.items ahead.passed.items old.path.items old.order.items v c.in_default.ensures.all
-     (passed_on g old.marks.items old.passed.items ahead.passed.items (old.path.items ++ v ∷ []) old.order.items c.ahead.ensures.passed c.ahead.ensures.counted c.requires.searched))
+    (passed_on g old.marks.items old.passed.items ahead.passed.items (old.path.items ++ v ∷ []) old.order.items c.ahead.ensures.passed c.ahead.ensures.counted c.requires.searched))
 
 pub returns-in_default-clause-less : goal.returns-in_default-clause-less
 returns-in_default-clause-less c =
@@ -55,8 +55,8 @@ returns-in_ok-begin-in-New-clause-searched c =
     (c.in_ok-begin-in-New.ensures.path ∙ ap (λ (xs : List ℕ). xs ++ w ∷ []) (c.in_ok-push.ensures.items ∙ ap (λ (xs : List ℕ). xs ++ v ∷ []) c.ahead.ensures.path))
     (c.in_ok-begin-in-New.ensures.order ∙ c.ahead.ensures.order)
     (begun g old.marks.items ahead.passed.items (old.path.items ++ v ∷ []) old.order.items w (next_within g v w c.requires.graph c.in-Some.ensures.edge) new
-     (path_push g old.path.items v w c.requires.searched.joined c.in-Some.ensures.edge)
-     (passed_on g old.marks.items old.passed.items ahead.passed.items (old.path.items ++ v ∷ []) old.order.items c.ahead.ensures.passed c.ahead.ensures.counted c.requires.searched))
+    (path_push g old.path.items v w c.requires.searched.joined c.in-Some.ensures.edge)
+    (passed_on g old.marks.items old.passed.items ahead.passed.items (old.path.items ++ v ∷ []) old.order.items c.ahead.ensures.passed c.ahead.ensures.counted c.requires.searched))
 
 pub returns-in_ok-begin-in-New-clause-less : goal.returns-in_ok-begin-in-New-clause-less
 returns-in_ok-begin-in-New-clause-less c =
@@ -67,7 +67,7 @@ returns-in_ok-begin-in-New-clause-less c =
     let marks : c.begin.new.self.marks.items ≡ set old.marks.items w Begun = c.in_ok-begin-in-New.ensures.marks ∙ ap (λ (ms : List Mark). set ms w Begun) c.ahead.ensures.marks in
     let within : w < length old.marks.items = omega (arith, next_within _ _ _ c.requires.graph c.in-Some.ensures.edge, c.requires.searched.marked) in
     let path : c.begin.new.self.path.items ≡ (old.path.items ++ v ∷ []) ++ w ∷ [] =
-        c.in_ok-begin-in-New.ensures.path ∙ ap (λ (xs : List ℕ). xs ++ w ∷ []) (c.in_ok-push.ensures.items ∙ ap (λ (xs : List ℕ). xs ++ v ∷ []) c.ahead.ensures.path) in
+    c.in_ok-begin-in-New.ensures.path ∙ ap (λ (xs : List ℕ). xs ++ w ∷ []) (c.in_ok-push.ensures.items ∙ ap (λ (xs : List ℕ). xs ++ v ∷ []) c.ahead.ensures.path) in
     omega (arith, ap news marks, ap length path, length-append (old.path.items ++ v ∷ []) (w ∷ []), length-append old.path.items (v ∷ []), news_begun old.marks.items w within new)
 
 pub returns-in_ok-cycle_of-in-Begun : goal.returns-in_ok-cycle_of-in-Begun
@@ -79,11 +79,12 @@ returns-in_ok-cycle_of-in-Begun c =
     let s = c.requires.searched in
     let same : mark_of old.marks.items w ≡ c.mark.result = ap (λ (ms : List Mark). mark_of ms w) (sym c.ahead.ensures.marks) ∙ sym c.mark.ensures in
     let mark : mark_of old.marks.items w ≡ Begun = elim c.in-Begun.is [
-        inl is ↦ same ∙ is
-      | inr is ↦ absurd (c.in-Some.ensures.unfinished (same ∙ is)) ] in
+      | inl is ↦ same ∙ is
+      | inr is ↦ absurd (c.in-Some.ensures.unfinished (same ∙ is))
+    ] in
     let path : c.deref.result.now ≡ old.path.items ++ v ∷ [] = c.deref.ensures.value ∙ c.in_ok-push.ensures.items ∙ ap (λ (xs : List ℕ). xs ++ v ∷ []) c.ahead.ensures.path in
     let closed : IsClosedBy (old.path.items ++ v ∷ []) w c.in_ok-cycle_of-in-Begun.field-0.items =
-        subst (λ (xs : List ℕ). IsClosedBy xs w c.in_ok-cycle_of-in-Begun.field-0.items) path c.in_ok-cycle_of-in-Begun.ensures in
+    subst (λ (xs : List ℕ). IsClosedBy xs w c.in_ok-cycle_of-in-Begun.field-0.items) path c.in_ok-cycle_of-in-Begun.ensures in
     record {
       searched = tt;
       cycle = closed g s.joined s.apart (s.begun_path w mark) (last_leads g old.path.items v w c.in-Some.ensures.edge);

@@ -1,4 +1,4 @@
-use Rattle.std.proofs.Common.{◌≡◌, ◌≢◌, ◌+◌, ◌*◌, length}
+use Rattle.std.proofs.Common.{◌≢◌, ◌+◌, ◌*◌, length}
 use Rattle.graph_order.specs.Search.{Searched, StayMarked, mark_of, news}
 use Rattle.graph_order.specs.declared.search.Mark.TheVariants.{New}
 use Rattle.graph_order.proofs.search.Search.visit.Given as goal

@@ -1,4 +1,4 @@
-use Rattle.std.proofs.Common.{◌<◌, length, arith}
+use Rattle.std.proofs.Common.{arith}
 use Rattle.graph_order.proofs.Steps.{searched_all}
 use Rattle.graph_order.proofs.search.Search.visit_all.Goals as goal
 

@@ -1,4 +1,4 @@
-use Rattle.std.proofs.Common.{◌≡◌, ◌≢◌, ◌<◌, ℕ, List, []}
+use Rattle.std.proofs.Common.{◌≡◌, ◌≢◌, ◌<◌, ℕ, []}
 use Rattle.graph_order.specs.Search.{Searched, mark_of}
 use Rattle.graph_order.specs.declared.search.Mark.TheVariants.{New}
 use Rattle.graph_order.proofs.search.Search.visit_all.Given as goal
