@@ -1,6 +1,6 @@
 pub mod Lists
 mod Marks
-mod Paths
-mod Standing
+pub mod Paths
+pub mod Standing
 mod Steps
 mod Spans

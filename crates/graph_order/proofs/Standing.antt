@@ -18,15 +18,15 @@ stands_push g before (x ∷ vs) v s n e =
     (s.0, s.1, stands_push g (before ++ x ∷ []) vs v s.2 both.0 both.1)
 
 -- a list of vertices with all that they have edges to
-IsClosed : Graph → List ℕ → Type 0
+abbrev pub IsClosed : Graph → List ℕ → Type 0
 IsClosed g vs = (v : ℕ) → IsIn v vs → EachOf (λ w. IsIn w vs) (next_of g v)
 
-stays : (g : Graph) (before : List ℕ) (v : ℕ) (xs : List ℕ) (w : ℕ) → IsClosed g before → EachOf (λ u. IsIn u before) (next_of g v) → Leads g v xs w → IsIn w before
+pub stays : (g : Graph) (before : List ℕ) (v : ℕ) (xs : List ℕ) (w : ℕ) → IsClosed g before → EachOf (λ u. IsIn u before) (next_of g v) → Leads g v xs w → IsIn w before
 unfolding IsClosed
 stays g before v [] w c e l = each_at (λ u. IsIn u before) w (next_of g v) e l
 stays g before v (x ∷ xs) w c e l = stays g before x xs w c (c x (each_at (λ u. IsIn u before) x (next_of g v) e l.0)) l.1
 
-closed_push : (g : Graph) (before : List ℕ) (v : ℕ) → IsClosed g before → EachOf (λ u. IsIn u before) (next_of g v) → IsClosed g (before ++ v ∷ [])
+pub closed_push : (g : Graph) (before : List ℕ) (v : ℕ) → IsClosed g before → EachOf (λ u. IsIn u before) (next_of g v) → IsClosed g (before ++ v ∷ [])
 unfolding IsClosed
 closed_push g before v c e u h =
     each_map (λ w. IsIn w before) (λ w. IsIn w (before ++ v ∷ [])) (next_of g u) (λ w k. in_left w before (v ∷ []) k)
@@ -55,7 +55,7 @@ walk_within : (g : Graph) (v : ℕ) (xs : List ℕ) (w : ℕ) → Leads g v xs w
 walk_within g v [] w l = edge_within g v w l
 walk_within g v (x ∷ xs) w l = edge_within g v x l.0
 
-none_closed : (g : Graph) → IsClosed g []
+pub none_closed : (g : Graph) → IsClosed g []
 unfolding IsClosed
 none_closed g v h = absurd h
 

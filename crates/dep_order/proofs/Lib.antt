@@ -1,0 +1,5 @@
+mod Walks
+mod Versions
+mod Flattened
+mod Growing
+mod Contracted

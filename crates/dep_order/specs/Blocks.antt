@@ -1,0 +1,95 @@
+-- What the names of a block read while its statements are taken one after another.
+use Rattle.std.specs.Prelude.{◌≡◌, ℕ, ◌<◌, ◌≤◌, Bool, true, false, bytes_eq, List, [], ◌∷◌, ◌++◌, Option, Some, None, length, option_map, if◌then◌else◌}
+use Rattle.tree_core.specs.Tree.{Tree}
+use Rattle.exec_core.specs.Block.{Name, Now}
+use Rattle.exec_core.specs.Block as blocks
+use Rattle.exec_core.specs.Exec.{Env, on_three}
+use Rattle.design_core.specs.Design as design
+use Rattle.design_exec.specs.Processes as processes
+use Rattle.graph_order.specs.Lists.{EachOf}
+use Rattle.graph_order.specs.Graphs.{Graph, next_of, IsGraph}
+use Rattle.check_core.specs.Known.{Known}
+use Rattle.check_core.specs.Maps.{value_of}
+use Rattle.dep_order.specs.Standing.{Numbers, Readings, AllStand, AllVertices}
+
+-- the version of each own name, if it has one by now
+abbrev pub Versions : Type 0
+Versions = Name → Option ℕ
+
+abbrev pub flat : Option (Option ℕ) → Option ℕ
+flat None = None
+flat (Some o) = o
+
+abbrev pub version_of : List (Name × Option ℕ) → Versions
+version_of entries x = flat (value_of entries x)
+
+abbrev pub put_version : Name → Option ℕ → Versions → Versions
+put_version y v versions x = if bytes_eq x y then v else versions x
+
+abbrev pub no_versions : Versions
+no_versions x = None
+
+-- a list of a vertex
+abbrev pub single : ℕ → List ℕ
+single v = v ∷ []
+
+abbrev pub listed : Option ℕ → List ℕ
+listed None = []
+listed (Some v) = v ∷ []
+
+-- an own name reads its version, and has nothing as long as there is none; any other name reads the signal of that name
+abbrev pub readings : Known → Numbers → Versions → Readings
+readings own number versions x = if own x then option_map single (versions x) else Some (listed (number x))
+
+-- what was read, put behind a list; false: something that is read has nothing
+abbrev pub Reads : Option (List ℕ) → List ℕ → List ℕ → Bool → Type 0
+Reads None before after told = told ≡ false
+Reads (Some vs) before after told = (told ≡ true) × (after ≡ before ++ vs)
+
+-- vertices that were added behind those of g, each with edges to vertices before it
+pub record Grown (g h : Graph) : Type 0 where
+  pub longer : length g ≤ length h
+  pub kept : (v : ℕ) → v < length g → next_of h v ≡ next_of g v
+  pub lower : (v : ℕ) → length g ≤ v → EachOf (λ w. w < v) (next_of h v)
+
+-- signals have numbers below that of any version
+abbrev pub AreSignals : ℕ → Numbers → Type 0
+AreSignals signals number = (x : Name) (n : ℕ) → number x ≡ Some n → n < signals
+
+-- a vertex that was added to g for what is read, if all of it has something
+pub record AddedFor (g h : Graph) (v : ℕ) (vs : List ℕ) : Type 0 where
+  pub added : length g ≤ v
+  pub within : v < length h
+  pub next : next_of h v ≡ vs
+
+abbrev pub MadeVersion : Graph → Graph → Option ℕ → Option (List ℕ) → Type 0
+MadeVersion g h None None = Unit {0}
+MadeVersion g h None (Some vs) = ⊥
+MadeVersion g h (Some v) None = ⊥
+MadeVersion g h (Some v) (Some vs) = AddedFor g h v vs
+
+-- what a choice of three versions reads
+abbrev pub three : Option ℕ → Option ℕ → Option ℕ → Option (List ℕ)
+three c a b = on_three (λ us vs ws. us ++ (vs ++ ws)) (option_map single c) (option_map single a) (option_map single b)
+
+-- a graph with what the names of a block read
+pub record IsReady (own : Known) (number : Numbers) (g : Graph) (versions : Versions) : Type 0 where
+  pub graph : IsGraph g
+  pub vertices : AllVertices (length g) (readings own number versions)
+
+-- after statements: what stood for a block's trees before stands for those afterwards
+pub record Followed (own : Known) (number : Numbers) (g : Graph) (before : Versions) (h : Graph) (after : Versions) (assigned : Name → Bool) (step : Env (Tree Name) → Env (Tree Name)) : Type 0 where
+  pub grown : Grown g h
+  pub ready : IsReady own number h after
+  pub same : (x : Name) → assigned x ≡ false → after x ≡ before x
+  pub stand : (signals : ℕ) (trees : Env (Tree Name)) → signals ≤ length g → AllStand signals g number (readings own number before) trees → AllStand signals h number (readings own number after) (step trees)
+
+-- whether a name is assigned by `=` or `let`
+abbrev pub assigned_by : Bool → design.Stmt → Name → Bool
+assigned_by clocked s x = blocks.assigns (processes.stmt_of clocked s) (Now x)
+
+abbrev pub assigned_in : Bool → design.Body → Name → Bool
+assigned_in clocked b x = blocks.body_assigns (processes.body_of clocked b) (Now x)
+
+abbrev pub assigned_else : Bool → design.Else → Name → Bool
+assigned_else clocked e x = blocks.body_assigns (processes.else_of clocked e) (Now x)

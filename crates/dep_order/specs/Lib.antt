@@ -1,0 +1,6 @@
+pub mod Reaching
+pub mod Standing
+pub mod Blocks
+pub mod Names
+pub mod Signals
+pub mod Results

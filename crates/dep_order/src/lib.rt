@@ -1,0 +1,9 @@
+//! The order in which the driven signals of an elaborated design can be computed; or a loop of signals that depend on one
+//! another.
+#![tactic(auto)]
+
+mod assigned;
+mod maps;
+mod reading;
+mod signals;
+mod version;
