@@ -2,4 +2,5 @@ mod Walks
 mod Versions
 mod Flattened
 mod Growing
+mod Targets
 mod Contracted
