@@ -63,7 +63,7 @@ push_made g h v vs is at = record {
 
 -- ---- what stands for a tree
 
-vertices_more : (n m : ℕ) (o : Option (List ℕ)) → n ≤ m → AreVertices n o → AreVertices m o
+pub vertices_more : (n m : ℕ) (o : Option (List ℕ)) → n ≤ m → AreVertices n o → AreVertices m o
 vertices_more n m None h a = tt
 vertices_more n m (Some vs) h a = each_map (λ v. v < n) (λ v. v < m) vs (λ v i. omega arith) a
 

@@ -3,4 +3,5 @@ mod Versions
 mod Flattened
 mod Growing
 mod Targets
+mod Branches
 mod Contracted

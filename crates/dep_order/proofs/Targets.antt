@@ -27,7 +27,7 @@ eq_turned x y = by_test (bytes_eq x y) (bytes_eq y x) refl refl
     by_test true false e f = sym ((bytes_eq-Decides y x).1 (sym ((bytes_eq-Decides x y).0 e))) ∙ f
     by_test false true e f = sym e ∙ (bytes_eq-Decides x y).1 (sym ((bytes_eq-Decides y x).0 f))
 
-has_push : (names : List Name) (y x : Name) → has (names ++ y ∷ []) x ≡ (has names x || bytes_eq y x)
+pub has_push : (names : List Name) (y x : Name) → has (names ++ y ∷ []) x ≡ (has names x || bytes_eq y x)
 has_push names y x = list_any-append (bytes_eq x) names (y ∷ []) ∙ ap (λ (b : Bool). has names x || b) (sym (or_false (bytes_eq x y)) ∙ eq_turned x y)
 
 adds_both : (clocked : Bool) (names : List Name) (a b : List Stmt) → adds_targets clocked names (a ++ b) ≡ adds_targets clocked (adds_targets clocked names a) b

@@ -4,11 +4,12 @@ use Rattle.tree_core.specs.Tree.{Tree}
 use Rattle.exec_core.specs.Block.{Name, Now}
 use Rattle.exec_core.specs.Block as blocks
 use Rattle.exec_core.specs.Exec.{Env, on_three}
+use Rattle.exec_core.specs.Trees.{trees_after, body_trees_after}
 use Rattle.design_core.specs.Design as design
 use Rattle.design_exec.specs.Processes as processes
 use Rattle.graph_order.specs.Lists.{EachOf}
 use Rattle.graph_order.specs.Graphs.{Graph, next_of, IsGraph}
-use Rattle.check_core.specs.Known.{Known}
+use Rattle.check_core.specs.Known.{Known, has}
 use Rattle.check_core.specs.Maps.{value_of}
 use Rattle.dep_order.specs.Standing.{Numbers, Readings, AllStand, AllVertices}
 
@@ -93,3 +94,24 @@ assigned_in clocked b x = blocks.body_assigns (processes.body_of clocked b) (Now
 
 abbrev pub assigned_else : Bool → design.Else → Name → Bool
 assigned_else clocked e x = blocks.body_assigns (processes.else_of clocked e) (Now x)
+
+-- what a block's trees are afterwards
+abbrev pub step_by : Bool → design.Stmt → Env (Tree Name) → Env (Tree Name)
+step_by clocked s = trees_after (processes.stmt_of clocked s)
+
+abbrev pub step_in : Bool → design.Body → Env (Tree Name) → Env (Tree Name)
+step_in clocked b = body_trees_after (processes.body_of clocked b)
+
+abbrev pub step_else : Bool → design.Else → Env (Tree Name) → Env (Tree Name)
+step_else clocked e = body_trees_after (processes.else_of clocked e)
+
+-- versions for names, one after another
+abbrev pub put_all : List Name → List (Option ℕ) → Versions → Versions
+put_all [] vs versions = versions
+put_all (x ∷ xs) [] versions = versions
+put_all (x ∷ xs) (v ∷ vs) versions = put_all xs vs (put_version x v versions)
+
+-- the names have versions that were made of the test, and of the versions in both branches
+pub record Merged (g h : Graph) (test : Option ℕ) (names : List Name) (before after yes no : Versions) : Type 0 where
+  pub made : (x : Name) → has names x ≡ true → MadeVersion g h (after x) (three test (yes x) (no x))
+  pub others : (x : Name) → has names x ≡ false → after x ≡ before x

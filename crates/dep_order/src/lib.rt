@@ -3,6 +3,7 @@
 #![tactic(auto)]
 
 mod assigned;
+mod branch;
 mod maps;
 mod reading;
 mod signals;
