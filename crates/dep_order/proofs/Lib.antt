@@ -4,4 +4,5 @@ mod Flattened
 mod Growing
 mod Targets
 mod Branches
+mod Following
 mod Contracted

@@ -1,10 +1,10 @@
 -- What the names of a block read while its statements are taken one after another.
-use Rattle.std.specs.Prelude.{◌≡◌, ℕ, ◌<◌, ◌≤◌, Bool, true, false, bytes_eq, List, [], ◌∷◌, ◌++◌, Option, Some, None, length, option_map, if◌then◌else◌}
+use Rattle.std.specs.Prelude.{◌≡◌, ℕ, ◌<◌, ◌≤◌, ◌||◌, Bool, true, false, bytes_eq, List, [], ◌∷◌, ◌++◌, Option, Some, None, length, option_map, if◌then◌else◌}
 use Rattle.tree_core.specs.Tree.{Tree}
 use Rattle.exec_core.specs.Block.{Name, Now}
 use Rattle.exec_core.specs.Block as blocks
-use Rattle.exec_core.specs.Exec.{Env, on_three}
-use Rattle.exec_core.specs.Trees.{trees_after, body_trees_after}
+use Rattle.exec_core.specs.Exec.{Env, put, on_three}
+use Rattle.exec_core.specs.Trees.{trees_after, body_trees_after, tree_in, merged}
 use Rattle.design_core.specs.Design as design
 use Rattle.design_exec.specs.Processes as processes
 use Rattle.graph_order.specs.Lists.{EachOf}
@@ -104,6 +104,19 @@ step_in clocked b = body_trees_after (processes.body_of clocked b)
 
 abbrev pub step_else : Bool → design.Else → Env (Tree Name) → Env (Tree Name)
 step_else clocked e = body_trees_after (processes.else_of clocked e)
+
+-- an assignment of a name by `=` or `let`
+abbrev pub sets : Name → Name → Bool
+sets y x = bytes_eq y x
+
+abbrev pub step_set : Name → design.Expr → Env (Tree Name) → Env (Tree Name)
+step_set y e trees = put (Now y) (tree_in (processes.tree_of e) trees) trees
+
+-- an `if` with this test and these branches
+abbrev pub branches : Bool → design.Expr → design.Body → design.Else → Env (Tree Name) → Env (Tree Name)
+branches clocked c first second trees =
+    λ y. merged (blocks.body_assigns (processes.body_of clocked first) y || blocks.body_assigns (processes.else_of clocked second) y) (tree_in (processes.tree_of c) trees)
+        (step_in clocked first trees y) (step_else clocked second trees y) (trees y)
 
 -- versions for names, one after another
 abbrev pub put_all : List Name → List (Option ℕ) → Versions → Versions

@@ -3,6 +3,7 @@
 #![tactic(auto)]
 
 mod assigned;
+mod block;
 mod branch;
 mod maps;
 mod reading;
