@@ -11,7 +11,7 @@ use Rattle.graph_order.specs.Cycles.{Leads, IsCycle}
 use Rattle.graph_order.proofs.Lists.{each_at, each_map, in_left}
 use Rattle.graph_order.proofs.Standing.{IsClosed, stays, closed_push, none_closed}
 use Rattle.dep_order.specs.Reaching.{Through, Reaches, ReachedFrom, IsLayered, SignalsAfter, SignalsLead}
-use Rattle.dep_order.specs.Signals.{signals_in}
+use Rattle.dep_order.specs.Signals.{signals_in, IsSignalOrder, IsSignalCycle}
 use Rattle.dep_order.proofs.Walks.{itself, to_version}
 
 -- ---- the signals of a list
@@ -100,3 +100,37 @@ walk_contracted signals g v (x ∷ xs) w h l =
 pub cycle_begins : (signals : ℕ) (g : Graph) (v : ℕ) (vs : List ℕ) → IsLayered signals g → IsCycle g (v ∷ vs) → v < signals
 cycle_begins signals g v [] is c = elim (cases_lt v signals) [ inl low ↦ low | inr high ↦ absurd (omega (arith, each_at (λ w. w < v) v (next_of g v) (is v high) c.0)) ]
 cycle_begins signals g v (x ∷ xs) is c = elim (cases_lt v signals) [ inl low ↦ low | inr high ↦ absurd (omega (arith, each_at (λ w. w < v) x (next_of g v) (is v high) c.0.0, c.2.0)) ]
+
+-- ---- whole orders, and whole cycles
+
+each_signal : (P : ℕ → Type 0) (signals : ℕ) (vs : List ℕ) → EachOf P vs → EachOf P (signals_in signals vs)
+each_signal P signals [] e = tt
+each_signal P signals (v ∷ vs) e =
+    elim (cases_lt v signals) [
+      inl low ↦ subst (EachOf P) (sym (kept_here signals v vs low)) (e.0, each_signal P signals vs e.1)
+    | inr high ↦ subst (EachOf P) (sym (left_here signals v vs high)) (each_signal P signals vs e.1) ]
+
+all_below : (signals : ℕ) (vs : List ℕ) → EachOf (λ v. v < signals) (signals_in signals vs)
+all_below signals [] = tt
+all_below signals (v ∷ vs) =
+    elim (cases_lt v signals) [
+      inl low ↦ subst (EachOf (λ w. w < signals)) (sym (kept_here signals v vs low)) (low, all_below signals vs)
+    | inr high ↦ subst (EachOf (λ w. w < signals)) (sym (left_here signals v vs high)) (all_below signals vs) ]
+
+pub order_of_signals : (signals : ℕ) (g : Graph) (order kept : List ℕ) → signals ≤ length g → IsOrder g order → kept ≡ signals_in signals order → IsSignalOrder signals g kept
+order_of_signals signals g order kept h o is =
+    subst (IsSignalOrder signals g) (sym is) (record {
+      signals_alone = all_below signals order;
+      in_order = order_contracted signals g [] order o.in_order (none_closed g);
+      all = λ v low. in_signals signals v order low (o.all v (omega arith));
+    })
+
+pub cycle_of_signals : (signals : ℕ) (g : Graph) (cycle kept : List ℕ) → IsLayered signals g → IsCycle g cycle → kept ≡ signals_in signals cycle → IsSignalCycle signals g kept
+cycle_of_signals signals g [] kept is c e = absurd c
+cycle_of_signals signals g (v ∷ vs) kept is c e =
+    let low : v < signals = cycle_begins signals g v vs is c in
+    subst (IsSignalCycle signals g) (sym (e ∙ kept_here signals v vs low))
+    (walk_contracted signals g v vs v low c.0,
+     subst AreApart (kept_here signals v vs low) (signals_apart signals (v ∷ vs) c.1),
+     each_signal (λ w. v ≤ w) signals vs c.2,
+     (low, all_below signals vs))

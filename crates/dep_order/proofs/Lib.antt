@@ -5,4 +5,5 @@ mod Growing
 mod Targets
 mod Branches
 mod Following
+mod Blocks
 mod Contracted

@@ -4,14 +4,14 @@ use Rattle.tree_core.specs.Tree.{Tree}
 use Rattle.exec_core.specs.Block.{Name, Now}
 use Rattle.exec_core.specs.Block as blocks
 use Rattle.exec_core.specs.Exec.{Env, put, on_three}
-use Rattle.exec_core.specs.Trees.{trees_after, body_trees_after, tree_in, merged}
+use Rattle.exec_core.specs.Trees.{trees_after, body_trees_after, block_trees, tree_in, merged}
 use Rattle.design_core.specs.Design as design
 use Rattle.design_exec.specs.Processes as processes
 use Rattle.graph_order.specs.Lists.{EachOf}
 use Rattle.graph_order.specs.Graphs.{Graph, next_of, IsGraph}
 use Rattle.check_core.specs.Known.{Known, has}
 use Rattle.check_core.specs.Maps.{value_of}
-use Rattle.dep_order.specs.Standing.{Numbers, Readings, AllStand, AllVertices}
+use Rattle.dep_order.specs.Standing.{Numbers, Readings, Stand, AllStand, AreVertices, AllVertices}
 
 -- the version of each own name, if it has one by now
 abbrev pub Versions : Type 0
@@ -53,7 +53,7 @@ pub record Grown (g h : Graph) : Type 0 where
   pub kept : (v : ℕ) → v < length g → next_of h v ≡ next_of g v
   pub lower : (v : ℕ) → length g ≤ v → EachOf (λ w. w < v) (next_of h v)
 
--- signals have numbers below that of any version
+-- what has a number has one below that of any version
 abbrev pub AreSignals : ℕ → Numbers → Type 0
 AreSignals signals number = (x : Name) (n : ℕ) → number x ≡ Some n → n < signals
 
@@ -128,3 +128,20 @@ put_all (x ∷ xs) (v ∷ vs) versions = put_all xs vs (put_version x v versions
 pub record Merged (g h : Graph) (test : Option ℕ) (names : List Name) (before after yes no : Versions) : Type 0 where
   pub made : (x : Name) → has names x ≡ true → MadeVersion g h (after x) (three test (yes x) (no x))
   pub others : (x : Name) → has names x ≡ false → after x ≡ before x
+
+-- the own names of a block
+abbrev pub owns : design.Block → Known
+owns b = assigned_in b.clocked b.body
+
+-- the trees that a block ends with
+abbrev pub end_trees : design.Block → Env (Tree Name)
+end_trees b = block_trees (processes.body_of b.clocked b.body)
+
+-- the versions that own names of a block end with are vertices
+abbrev pub EndVertices : ℕ → design.Block → Versions → Type 0
+EndVertices n b ends = (x : Name) → owns b x ≡ true → AreVertices n (option_map single (ends x))
+
+-- and they stand for the trees that the block ends with, where what has a number is a signal
+abbrev pub EndsStand : Graph → Graph → Numbers → design.Block → Versions → Type 0
+EndsStand g h number b ends =
+    (signals : ℕ) → signals ≤ length g → AreSignals signals number → (x : Name) → owns b x ≡ true → Stand signals h number (option_map single (ends x)) (end_trees b (Now x))

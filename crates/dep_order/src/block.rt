@@ -1,16 +1,18 @@
-ghost use Rattle.std.specs.Prelude.{◌≡◌, OnOk, true};
+ghost use Rattle.std.specs.Prelude.{◌≡◌, length, IfOk, OnOk, true};
 ghost use Rattle.exec_core.specs.Block.{Name};
-ghost use Rattle.design_core.specs.View.{body_of, else_of, expr_of, stmt_of};
+ghost use Rattle.graph_order.specs.Graphs.{IsGraph};
+ghost use Rattle.design_core.specs.View.{block_of, body_of, else_of, expr_of, stmt_of};
 ghost use Rattle.check_core.specs.Known.{either, has};
 ghost use Rattle.check_core.specs.Maps.{value_of};
-ghost use Rattle.dep_order.specs.Blocks.{Followed, IsReady, assigned_by, assigned_else, assigned_in, branches, step_by, step_else, step_in, step_set, sets, version_of};
+ghost use Rattle.dep_order.specs.Names.{names_at};
+ghost use Rattle.dep_order.specs.Blocks.{AreSignals, EndVertices, EndsStand, Followed, Grown, IsReady, assigned_by, assigned_else, assigned_in, branches, no_versions, owns, step_by, step_else, step_in, step_set, sets, version_of};
 
-use crate::assigned::assigned_in_either;
+use crate::assigned::{assigned_in, assigned_in_either};
 use crate::branch::{merge, put_all, versions_of};
 use crate::maps::{NumberMap, VersionMap};
 use crate::version::version;
 use check_core::NameSet;
-use design_core::{Expr, Stmt};
+use design_core::{Block, Expr, Stmt};
 use graph_order::Graph;
 use std::alloc::Global;
 use text_core::NoMemory;
@@ -141,4 +143,66 @@ fn follow_else(
         }
         None => Ok(()),
     }
+}
+
+/// Follows a block with these own names.
+fn follow_own(
+    alloc: Global,
+    graph: &mut Graph,
+    own: &NameSet,
+    numbers: &NumberMap,
+    versions: &mut VersionMap,
+    block: &Block,
+) -> Result<(), NoMemory>
+    requires graph { IsGraph graph.old }
+    requires numbers { AreSignals (length graph.old) (value_of numbers.now) }
+    requires own { has own.now ≡ owns (block_of block.now) }
+    requires versions { version_of versions.old ≡ no_versions }
+    ensures grown { OnOk result (Grown graph.old graph.new) }
+    ensures graph { OnOk result (IsGraph graph.new) }
+    ensures vertices { OnOk result (EndVertices (length graph.new) (block_of block.now) (version_of versions.new)) }
+    ensures stand { OnOk result (EndsStand graph.old graph.new (value_of numbers.now) (block_of block.now) (version_of versions.new)) }
+{
+    follow_body(alloc, graph, block.clocked, own, numbers, versions, &block.body)?;
+    Ok(())
+}
+
+/// The own names of a block.
+fn own_names(alloc: Global, block: &Block) -> Result<NameSet, NoMemory>
+    ensures { IfOk result (λ own. has own ≡ owns (block_of block.now)) }
+{
+    let names = assigned_in(alloc, block.clocked, &block.body)?;
+    let mut own = NameSet::new(alloc);
+    put_names(alloc, &mut own, &names)?;
+    Ok(own)
+}
+
+/// Puts names in.
+fn put_names(alloc: Global, own: &mut NameSet, names: &[&[u8]]) -> Result<(), NoMemory>
+    ensures { OnOk result (has own.new ≡ either (has own.old) (has (names_at names.now))) }
+{
+    for name in names {
+        own.insert(alloc, name)?;
+    }
+    Ok(())
+}
+
+/// Follows a block: adds versions to the graph, and tells which one each own name ends with.
+pub(crate) fn follow_block(
+    alloc: Global,
+    graph: &mut Graph,
+    numbers: &NumberMap,
+    block: &Block,
+) -> Result<VersionMap, NoMemory>
+    requires graph { IsGraph graph.old }
+    requires numbers { AreSignals (length graph.old) (value_of numbers.now) }
+    ensures grown { OnOk result (Grown graph.old graph.new) }
+    ensures graph { OnOk result (IsGraph graph.new) }
+    ensures vertices { IfOk result (λ ends. EndVertices (length graph.new) (block_of block.now) (version_of ends)) }
+    ensures stand { IfOk result (λ ends. EndsStand graph.old graph.new (value_of numbers.now) (block_of block.now) (version_of ends)) }
+{
+    let own = own_names(alloc, block)?;
+    let mut versions = VersionMap::new(alloc);
+    follow_own(alloc, graph, &own, numbers, &mut versions, block)?;
+    Ok(versions)
 }

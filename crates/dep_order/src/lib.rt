@@ -9,3 +9,5 @@ mod maps;
 mod reading;
 mod signals;
 mod version;
+
+pub use signals::order_signals;
