@@ -6,4 +6,5 @@ mod Targets
 mod Branches
 mod Following
 mod Blocks
+mod Wires
 mod Contracted

@@ -3,4 +3,5 @@ pub mod Standing
 pub mod Blocks
 pub mod Names
 pub mod Signals
+pub mod Wiring
 pub mod Results

@@ -20,8 +20,8 @@ SomeLeaf P (Mux c a b) = SomeLeaf P c ⊎ (SomeLeaf P a ⊎ SomeLeaf P b)
 abbrev pub Numbers : Type 0
 Numbers = Name → Option ℕ
 
--- vertices of a graph stand for a tree: from them its leaves are reached through versions alone, those that are signals, and nothing else
-pub record StandFor (signals : ℕ) (g : Graph) (number : Numbers) (vs : List ℕ) (t : Tree Name) : Type 0 where
+-- vertices of a graph stand for a tree: from them its leaves are reached through versions alone, those that have a number, and nothing else
+pub record StandFor {A : Type 0} (signals : ℕ) (g : Graph) (number : A → Option ℕ) (vs : List ℕ) (t : Tree A) : Type 0 where
   pub leaves : EachLeaf (λ x. (n : ℕ) → number x ≡ Some n → ReachedFrom signals g vs n) t
   pub nothing_else : (w : ℕ) → ReachedFrom signals g vs w → SomeLeaf (λ x. number x ≡ Some w) t
 

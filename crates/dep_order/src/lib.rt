@@ -9,5 +9,6 @@ mod maps;
 mod reading;
 mod signals;
 mod version;
+mod wiring;
 
 pub use signals::order_signals;
