@@ -1,4 +1,5 @@
 ghost use Rattle.std.specs.Prelude.{◌≡◌, ◌<◌, length, OnOk};
+ghost use Rattle.graph_order.specs.Graphs.{IsGraph};
 ghost use Rattle.graph_order.specs.Lists.{EachOf};
 ghost use Rattle.dep_order.specs.Wiring.{Drives};
 
@@ -7,6 +8,7 @@ use text_core::NoMemory;
 
 /// Gives a signal's vertex these edges, unless its driver was met before.
 pub(crate) fn drive(graph: &mut Graph, driven: &mut [bool], vertex: u32, edges: &[u32]) -> Result<(), NoMemory>
+    requires graph { IsGraph graph.old }
     requires vertex { vertex < length graph.old }
     requires marked { vertex < length driven.old }
     requires edges { EachOf (λ w. w < length graph.old) edges.now }
