@@ -48,7 +48,7 @@ start_here own number x e = ap (λ (b : Bool). if b then None else Some (listed 
 start_off : (own : Known) (number : Numbers) (x : Name) → own x ≡ false → readings own number no_versions x ≡ Some (listed (number x))
 start_off own number x e = ap (λ (b : Bool). if b then None else Some (listed (number x))) e
 
-signal_vertices : (n : ℕ) (number : Numbers) (x : Name) (o : Option ℕ) → number x ≡ o → AreSignals n number → AreVertices n (Some (listed o))
+pub signal_vertices : (n : ℕ) (number : Numbers) (x : Name) (o : Option ℕ) → number x ≡ o → AreSignals n number → AreVertices n (Some (listed o))
 signal_vertices n number x None e all = tt
 signal_vertices n number x (Some v) e all = (all x v e, tt)
 
@@ -60,7 +60,7 @@ start_ready own number g versions e is all = subst (IsReady own number g) (sym e
       | inr off ↦ subst (AreVertices (length g)) (sym (start_off own number x off)) (signal_vertices (length g) number x (number x) refl all) ];
   })
 
-signal_stands : (signals : ℕ) (g : Graph) (number : Numbers) (x : Name) (o : Option ℕ) → number x ≡ o → AreSignals signals number → Stand signals g number (Some (listed o)) (Some (Leaf x))
+pub signal_stands : (signals : ℕ) (g : Graph) (number : Numbers) (x : Name) (o : Option ℕ) → number x ≡ o → AreSignals signals number → Stand signals g number (Some (listed o)) (Some (Leaf x))
 signal_stands signals g number x None e all = stand_unknown signals g number x e
 signal_stands signals g number x (Some n) e all = stand_signal signals g number x n e (all x n e)
 

@@ -7,4 +7,5 @@ mod Branches
 mod Following
 mod Blocks
 mod Wires
+mod Plain
 mod Contracted

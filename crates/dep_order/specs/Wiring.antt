@@ -1,10 +1,11 @@
 -- The signals of a design as vertices of a graph, each with edges to what its driver reads.
 use Rattle.std.specs.Prelude.{◌≡◌, ℕ, ◌<◌, ◌||◌, ◌&&◌, not, if◌then◌else◌, Bool, false, List, [], find, Option, Some, None, is_some, option_map, option_and_then, slice_index_or}
 use Rattle.tree_core.specs.Tree.{Tree}
+use Rattle.exec_core.specs.Block.{Name}
 use Rattle.exec_core.specs.Whole.{Place}
-use Rattle.exec_core.specs.Design.{Process, same_place, links_to, assigns_to, process_tree, or_else}
+use Rattle.exec_core.specs.Design.{Process, place, moved, same_place, links_to, assigns_to, process_tree, or_else}
 use Rattle.graph_order.specs.Graphs.{Graph, next_of}
-use Rattle.dep_order.specs.Standing.{StandFor}
+use Rattle.dep_order.specs.Standing.{Numbers, StandFor}
 
 -- the vertex of each place that is a signal
 abbrev pub PlaceNumbers : Type 0
@@ -54,3 +55,14 @@ Drives g driven h marked n edges =
     (signals : ℕ) (number : PlaceNumbers) (met : Place → Bool) (driver : Place → Option (Tree Place)) (q : Place) (new : Option (Tree Place)) →
     AreNumbers signals number → number q ≡ Some n → DriverStands signals g number edges new →
     IsWired signals number g driven met driver → IsWired signals number h marked (met_with q met) (driver_with q new met driver)
+
+-- the numbers of an instance's names
+abbrev pub AreOf : PlaceNumbers → ℕ → Numbers → Type 0
+AreOf number i numbers = (x : Name) → number (place i x) ≡ numbers x
+
+-- what a call does that drives the vertex n by a tree over the names of an instance with these numbers, unless it is driven
+abbrev pub DrivesBy : Graph → List Bool → Graph → List Bool → ℕ → Numbers → Tree Name → Type 0
+DrivesBy g driven h marked n numbers t =
+    (signals : ℕ) (number : PlaceNumbers) (met : Place → Bool) (driver : Place → Option (Tree Place)) (q : Place) (i : ℕ) →
+    AreNumbers signals number → number q ≡ Some n → AreOf number i numbers →
+    IsWired signals number g driven met driver → IsWired signals number h marked (met_with q met) (driver_with q (Some (moved i t)) met driver)
