@@ -8,4 +8,5 @@ mod Following
 mod Blocks
 mod Wires
 mod Plain
+mod Names
 mod Contracted

@@ -58,10 +58,10 @@ set_keeps signals g n vs low v high within = get_or-set_other g n v vs [] (λ e.
 
 -- ---- one more link or process
 
-not_same : (q p : Place) → (p ≡ q → ⊥) → same_place q p ≡ false
+pub not_same : (q p : Place) → (p ≡ q → ⊥) → same_place q p ≡ false
 not_same q p n = elim (cases_Bool (same_place q p)) [ inl same ↦ absurd (n (sym (same_place-sound q p same))) | inr other ↦ other ]
 
-pick_other : (q p : Place) (new : Option (Tree Place)) (met : Place → Bool) (driver : Place → Option (Tree Place)) → same_place q p ≡ false → (driver p ≡ driver_with q new met driver p) × (met p ≡ met_with q met p)
+pub pick_other : (q p : Place) (new : Option (Tree Place)) (met : Place → Bool) (driver : Place → Option (Tree Place)) → same_place q p ≡ false → (driver p ≡ driver_with q new met driver p) × (met p ≡ met_with q met p)
 pick_other q p new met driver e =
     (ap (λ (b : Bool). if b && not (met p) then new else driver p) (sym e), or_none (met p) ∙ ap (λ (b : Bool). met p || b) (sym e))
   where
@@ -82,7 +82,7 @@ pick_new : (q p : Place) (new : Option (Tree Place)) (met : Place → Bool) (dri
 pick_new q p new met driver e f =
     (ap₂ (λ (a b : Bool). if a && not b then new else driver p) (sym e) (sym f), ap₂ (λ (a b : Bool). a || b) (sym f) (sym e))
 
-wired_as : (signals : ℕ) (number : PlaceNumbers) (g : Graph) (driven : List Bool) (a b : Bool) (o u : Option (Tree Place)) (n : ℕ) → o ≡ u → a ≡ b → IsWiredAt signals number g driven a o n → IsWiredAt signals number g driven b u n
+pub wired_as : (signals : ℕ) (number : PlaceNumbers) (g : Graph) (driven : List Bool) (a b : Bool) (o u : Option (Tree Place)) (n : ℕ) → o ≡ u → a ≡ b → IsWiredAt signals number g driven a o n → IsWiredAt signals number g driven b u n
 wired_as signals number g driven a b o u n e f w =
     subst (λ (c : Bool). IsWiredAt signals number g driven c u n) f (subst (λ (v : Option (Tree Place)). IsWiredAt signals number g driven a v n) e w)
 
@@ -127,7 +127,7 @@ drives_new g driven n edges graph low in_marks within off signals number met dri
 
 -- ---- the first of a list
 
-find_push : {A : Type 0} (test : A → Bool) (xs : List A) (x : A) → find test (xs ++ x ∷ []) ≡ or_else (find test xs) (if test x then Some x else None)
+pub find_push : {A : Type 0} (test : A → Bool) (xs : List A) (x : A) → find test (xs ++ x ∷ []) ≡ or_else (find test xs) (if test x then Some x else None)
 find_push test [] x = refl
 find_push test (y ∷ xs) x = by_test (test y) (find_push test xs x)
   where

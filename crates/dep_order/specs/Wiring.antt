@@ -1,11 +1,16 @@
 -- The signals of a design as vertices of a graph, each with edges to what its driver reads.
-use Rattle.std.specs.Prelude.{◌≡◌, ℕ, ◌<◌, ◌||◌, ◌&&◌, not, if◌then◌else◌, Bool, false, List, [], find, Option, Some, None, is_some, option_map, option_and_then, slice_index_or}
+use Rattle.std.specs.Prelude.{◌≡◌, ℕ, ◌<◌, ◌≤◌, ◌==◌, ◌||◌, ◌&&◌, not, if◌then◌else◌, Bool, true, false, List, [], ◌∷◌, ◌++◌, length, find, Option, Some, None, is_some, option_map, option_and_then, slice_index_or}
 use Rattle.tree_core.specs.Tree.{Tree}
-use Rattle.exec_core.specs.Block.{Name}
+use Rattle.exec_core.specs.Block.{Name, Now}
 use Rattle.exec_core.specs.Whole.{Place}
 use Rattle.exec_core.specs.Design.{Process, place, moved, same_place, links_to, assigns_to, process_tree, or_else}
-use Rattle.graph_order.specs.Graphs.{Graph, next_of}
-use Rattle.dep_order.specs.Standing.{Numbers, StandFor}
+use Rattle.graph_order.specs.Graphs.{Graph, next_of, IsGraph}
+use Rattle.check_core.specs.Known.{Known}
+use Rattle.design_core.specs.declared.variant.Signal.{Signal}
+use Rattle.design_core.specs.Design as design
+use Rattle.design_exec.specs.Processes as processes
+use Rattle.dep_order.specs.Standing.{Numbers, Stand, StandFor}
+use Rattle.dep_order.specs.Blocks.{Versions, single, owns, end_trees}
 
 -- the vertex of each place that is a signal
 abbrev pub PlaceNumbers : Type 0
@@ -66,3 +71,55 @@ DrivesBy g driven h marked n numbers t =
     (signals : ℕ) (number : PlaceNumbers) (met : Place → Bool) (driver : Place → Option (Tree Place)) (q : Place) (i : ℕ) →
     AreNumbers signals number → number q ≡ Some n → AreOf number i numbers →
     IsWired signals number g driven met driver → IsWired signals number h marked (met_with q met) (driver_with q (Some (moved i t)) met driver)
+
+-- more graph in which versions keep their edges, and so does each signal but those of these names
+pub record KeepsOthers (g h : Graph) (numbers : Numbers) : Type 0 where
+  pub count : length h ≡ length g
+  pub graph : IsGraph h
+  pub kept : (v : ℕ) → ((x : Name) → numbers x ≡ Some v → ⊥) → next_of h v ≡ next_of g v
+
+-- what a call does that drives the signal of a name of an instance by a version, unless it is driven; a name without a number is no signal
+abbrev pub DrivesName : Graph → List Bool → Graph → List Bool → Numbers → Name → Option ℕ → Type 0
+DrivesName g driven h marked numbers x version =
+    (signals : ℕ) (number : PlaceNumbers) (met : Place → Bool) (driver : Place → Option (Tree Place)) (i : ℕ) (tree : Option (Tree Name)) →
+    AreNumbers signals number → AreOf number i numbers → Stand signals g numbers (option_map single version) tree →
+    IsWired signals number g driven met driver → IsWired signals number h marked (met_with (place i x) met) (driver_with (place i x) (option_map (moved i) tree) met driver)
+
+-- a place of an instance with one of these names
+abbrev pub is_named : ℕ → Known → Place → Bool
+is_named i names p = i == p.instance && names p.name
+
+-- one more process for the places of an instance with these names: it counts where the place has met none before
+abbrev pub met_named : ℕ → Known → (Place → Bool) → Place → Bool
+met_named i names met p = met p || is_named i names p
+
+abbrev pub driver_named : ℕ → Known → (Name → Option (Tree Name)) → (Place → Bool) → (Place → Option (Tree Place)) → Place → Option (Tree Place)
+driver_named i names trees met driver p = if is_named i names p && not (met p) then option_map (moved i) (trees p.name) else driver p
+
+-- the same of the signals of these names
+abbrev pub DrivesNames : Graph → List Bool → Graph → List Bool → Numbers → Known → Versions → Type 0
+DrivesNames g driven h marked numbers names ends =
+    (signals : ℕ) (number : PlaceNumbers) (met : Place → Bool) (driver : Place → Option (Tree Place)) (i : ℕ) (trees : Name → Option (Tree Name)) →
+    AreNumbers signals number → AreOf number i numbers → ((x : Name) → names x ≡ true → Stand signals g numbers (option_map single (ends x)) (trees x)) →
+    IsWired signals number g driven met driver → IsWired signals number h marked (met_named i names met) (driver_named i names trees met driver)
+
+-- the same of a block
+abbrev pub DrivesBlock : Graph → List Bool → Graph → List Bool → Numbers → design.Block → Type 0
+DrivesBlock g driven h marked numbers b =
+    (signals : ℕ) (number : PlaceNumbers) (met : Place → Bool) (driver : Place → Option (Tree Place)) (i : ℕ) →
+    signals ≤ length g → AreNumbers signals number → AreOf number i numbers →
+    IsWired signals number g driven met driver → IsWired signals number h marked (met_named i (owns b) met) (driver_named i (owns b) (λ x. end_trees b (Now x)) met driver)
+
+-- a block of an instance is its process: what is met and what drives, with one process more
+abbrev pub BlockIsProcess : Type 0
+BlockIsProcess =
+    (links : List Link) (before : List Process) (i : ℕ) (signals : List Signal) (b : design.Block) (p : Place) →
+    (is_met links (before ++ processes.process i signals b ∷ []) p ≡ met_named i (owns b) (is_met links before) p)
+    × (driver_in links (before ++ processes.process i signals b ∷ []) p ≡ driver_named i (owns b) (λ x. end_trees b (Now x)) (is_met links before) (driver_in links before) p)
+
+-- and a link is one
+abbrev pub LinkIsMet : Type 0
+LinkIsMet =
+    (links : List Link) (q : Place) (t : Tree Place) (p : Place) →
+    (is_met (links ++ (q, t) ∷ []) [] p ≡ met_with q (is_met links []) p)
+    × (driver_in (links ++ (q, t) ∷ []) [] p ≡ driver_with q (Some t) (is_met links []) (driver_in links []) p)
