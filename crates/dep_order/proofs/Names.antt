@@ -1,5 +1,5 @@
 -- The signals that a block assigns, driven one after another.
-use Rattle.std.proofs.Common.{◌≡◌, ℕ, ◌+◌, ◌<◌, ◌≤◌, ◌==◌, ◌||◌, ◌&&◌, not, Bool, true, false, true≢false, bytes_eq, if◌then◌else◌, List, [], ◌∷◌, ◌++◌, find, take, Option, Some, None, is_some, option_map, option_and_then, length, set, get_or, refl, sym, subst, ap, ap₂, ◌∙◌, ◌⊎◌, inl, inr, arith, map}
+use Rattle.std.proofs.Common.{◌≡◌, ℕ, zero, suc, ◌+◌, ◌<◌, ◌≤◌, ◌==◌, ◌||◌, ◌&&◌, not, Bool, true, false, true≢false, bytes_eq, if◌then◌else◌, List, [], ◌∷◌, ◌++◌, find, take, Option, Some, None, is_some, option_map, option_and_then, length, set, get_or, refl, sym, subst, ap, ap₂, ◌∙◌, ◌⊎◌, inl, inr, arith, map}
 use Rattle.std.specs.Borrow.{Bor}
 use Rattle.std.proofs.lemmas.Bool.{cases_Bool, cases_eq}
 use Rattle.std.proofs.lemmas.List.{take_more, map_push}
@@ -18,8 +18,8 @@ use Rattle.check_core.specs.Known.{Known, has}
 use Rattle.dep_order.specs.Names.{names_at}
 use Rattle.dep_order.specs.Reaching.{KeepsVersions}
 use Rattle.dep_order.specs.Standing.{Numbers, Stand, StandFor, AreVertices}
-use Rattle.dep_order.specs.Blocks.{Versions, single, owns, end_trees, Grown}
-use Rattle.dep_order.specs.Wiring.{PlaceNumbers, AreNumbers, AreOf, Link, driver_in, is_met, DriverStands, IsWiredAt, IsWired, met_with, driver_with, Drives, DrivesName, DrivesNames, KeepsOthers, is_named, met_named, driver_named, BlockIsProcess, LinkIsMet}
+use Rattle.dep_order.specs.Blocks.{Versions, single, owns, end_trees, Grown, EndsStand}
+use Rattle.dep_order.specs.Wiring.{PlaceNumbers, AreNumbers, AreOf, Link, driver_in, is_met, DriverStands, IsWiredAt, IsWired, met_with, driver_with, Drives, DrivesBlock, DrivesName, DrivesNames, KeepsOthers, is_named, met_named, driver_named, BlockIsProcess, LinkIsMet}
 use Rattle.dep_order.proofs.Targets.{has_push}
 use Rattle.dep_order.proofs.Versions.{stand_kept}
 use Rattle.dep_order.proofs.Growing.{grown_keeps}
@@ -182,3 +182,27 @@ block_is_process links before i signals b p =
 
 pub link_is_met : LinkIsMet
 link_is_met links q t p = (link_meets links q t p, link_drives links q t p)
+
+-- ---- the code's names
+
+pub name_has : (names : List (Bor Name)) (i : ℕ) (d : Bor Name) → i < length names → has (names_at names) (get_or names i d).now ≡ true
+name_has [] i d h = absurd (omega arith)
+name_has (n ∷ names) zero d h = ap (λ (b : Bool). b || has (names_at names) n.now) ((bytes_eq-Decides n.now n.now).1 refl)
+name_has (n ∷ names) (suc i) d h = ap (λ (b : Bool). bytes_eq (get_or names i d).now n.now || b) (name_has names i d (omega arith)) ∙ or_true (bytes_eq (get_or names i d).now n.now)
+  where
+    or_true : (b : Bool) → (b || true) ≡ true
+    or_true true = refl
+    or_true false = refl
+
+pub more_names : (names : List (Bor Name)) (i : ℕ) (d : Bor Name) → i < length names → names_at (take (i + 1) names) ≡ names_at (take i names) ++ (get_or names i d).now ∷ []
+more_names names i d h = ap names_at (take_more names i d h) ∙ map_push (λ (r : Bor Name). r.now) (take i names) (get_or names i d)
+
+-- ---- whole blocks
+
+pub block_drives : (g g1 h : Graph) (driven marked : List Bool) (numbers : Numbers) (b : design.Block) (names : Known) (ends : Versions) → IsGraph g → Grown g g1 → EndsStand g g1 numbers b ends → names ≡ owns b →
+    DrivesNames g1 driven h marked numbers names ends → DrivesBlock g driven h marked numbers b
+block_drives g g1 h driven marked numbers b names ends is grown stands same d signals number met driver i low are of w =
+    subst (λ (k : Known). IsWired signals number h marked (met_named i k met) (driver_named i k (λ x. end_trees b (Now x)) met driver)) same
+    (d signals number met driver i (λ x. end_trees b (Now x)) are of
+     (λ x e. stands signals low (λ y m k. are.below (place i y) m (of y ∙ k)) x (ap (λ (k : Known). k x) (sym same) ∙ e))
+     (wired_grown signals number g g1 driven met driver is grown low are w))

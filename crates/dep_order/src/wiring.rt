@@ -1,16 +1,22 @@
-ghost use Rattle.std.specs.Prelude.{◌≡◌, ◌<◌, length, OnOk};
-ghost use Rattle.graph_order.specs.Graphs.{IsGraph};
+ghost use Rattle.std.specs.Prelude.{◌≡◌, ◌≢◌, ◌<◌, ◌≤◌, ℕ, length, true, option_map, OnOk};
+ghost use Rattle.graph_order.specs.Graphs.{IsGraph, next_of};
 ghost use Rattle.graph_order.specs.Lists.{EachOf};
-ghost use Rattle.dep_order.specs.Wiring.{Drives, DrivesBy};
-ghost use Rattle.dep_order.specs.Blocks.{AreSignals};
+ghost use Rattle.dep_order.specs.Wiring.{Drives, DrivesBlock, DrivesBy, DrivesName, DrivesNames, KeepsOthers};
+ghost use Rattle.dep_order.specs.Blocks.{AreSignals, single, version_of};
 ghost use Rattle.check_core.specs.Maps.{value_of};
-ghost use Rattle.design_core.specs.View.{expr_of};
+ghost use Rattle.check_core.specs.Known.{has};
+ghost use Rattle.dep_order.specs.Names.{names_at};
+ghost use Rattle.dep_order.specs.Standing.{AreVertices};
+ghost use Rattle.exec_core.specs.Block.{Name};
+ghost use Rattle.design_core.specs.View.{block_of, expr_of};
 ghost use Rattle.design_exec.specs.Processes.{tree_of};
 
 use crate::maps::{NumberMap, VersionMap};
 use crate::reading::read_expr;
+use crate::assigned::assigned_in;
+use crate::block::follow_block;
 use check_core::NameSet;
-use design_core::Expr;
+use design_core::{Block, Expr};
 use graph_order::Graph;
 use std::alloc::Global;
 use text_core::NoMemory;
@@ -22,6 +28,8 @@ pub(crate) fn drive(graph: &mut Graph, driven: &mut [bool], vertex: u32, edges: 
     requires marked { vertex < length driven.old }
     requires edges { EachOf (λ w. w < length graph.old) edges.now }
     ensures count { length graph.new ≡ length graph.old }
+    ensures graph { OnOk result (IsGraph graph.new) }
+    ensures others { OnOk result ((v : ℕ) → v ≢ vertex → next_of graph.new v ≡ next_of graph.old v) }
     ensures drives { OnOk result (Drives graph.old driven.old graph.new driven.new vertex edges.now) }
 {
     if driven[vertex as usize] {
@@ -53,5 +61,73 @@ pub(crate) fn drive_by(
     let mut read = Vec::new(alloc);
     let _ = read_expr(alloc, &own, numbers, &versions, expr, &mut read)?;
     drive(graph, driven, vertex, &read)?;
+    Ok(())
+}
+
+/// Drives the signal of a name by the version that the name ends with, or by nothing where it has none, unless its driver
+/// was met before. A name without a number is no signal.
+fn drive_name(
+    graph: &mut Graph,
+    driven: &mut [bool],
+    numbers: &NumberMap,
+    ends: &VersionMap,
+    name: &[u8],
+) -> Result<(), NoMemory>
+    requires graph { IsGraph graph.old }
+    requires numbers { AreSignals (length graph.old) (value_of numbers.now) }
+    requires marked { AreSignals (length driven.old) (value_of numbers.now) }
+    requires version { AreVertices (length graph.old) (option_map single (version_of ends.now name.now)) }
+    ensures others { OnOk result (KeepsOthers graph.old graph.new (value_of numbers.now)) }
+    ensures drives { OnOk result (DrivesName graph.old driven.old graph.new driven.new (value_of numbers.now) name.now (version_of ends.now name.now)) }
+{
+    let Some(vertex) = numbers.get(name) else {
+        return Ok(());
+    };
+    match ends.get(name) {
+        Some(version) => drive(graph, driven, vertex, &[version])?,
+        None => drive(graph, driven, vertex, &[])?,
+    }
+    Ok(())
+}
+
+/// The same of names in order.
+fn drive_names(
+    graph: &mut Graph,
+    driven: &mut [bool],
+    numbers: &NumberMap,
+    ends: &VersionMap,
+    names: &[&[u8]],
+) -> Result<(), NoMemory>
+    requires graph { IsGraph graph.old }
+    requires numbers { AreSignals (length graph.old) (value_of numbers.now) }
+    requires marked { AreSignals (length driven.old) (value_of numbers.now) }
+    requires versions { (x : Name) → has (names_at names.now) x ≡ true → AreVertices (length graph.old) (option_map single (version_of ends.now x)) }
+    ensures others { OnOk result (KeepsOthers graph.old graph.new (value_of numbers.now)) }
+    ensures drives { OnOk result (DrivesNames graph.old driven.old graph.new driven.new (value_of numbers.now) (has (names_at names.now)) (version_of ends.now)) }
+{
+    for name in names {
+        drive_name(graph, driven, numbers, ends, name)?;
+    }
+    Ok(())
+}
+
+/// Drives the signals that a block assigns by the versions that it ends with, unless their drivers were met before.
+pub(crate) fn drive_block(
+    alloc: Global,
+    graph: &mut Graph,
+    driven: &mut [bool],
+    numbers: &NumberMap,
+    block: &Block,
+) -> Result<(), NoMemory>
+    requires graph { IsGraph graph.old }
+    requires numbers { AreSignals (length graph.old) (value_of numbers.now) }
+    requires marked { AreSignals (length driven.old) (value_of numbers.now) }
+    ensures graph { OnOk result (IsGraph graph.new) }
+    ensures longer { OnOk result (length graph.old ≤ length graph.new) }
+    ensures drives { OnOk result (DrivesBlock graph.old driven.old graph.new driven.new (value_of numbers.now) (block_of block.now)) }
+{
+    let ends = follow_block(alloc, graph, numbers, block)?;
+    let names = assigned_in(alloc, block.clocked, &block.body)?;
+    drive_names(graph, driven, numbers, &ends, &names)?;
     Ok(())
 }
