@@ -9,4 +9,5 @@ mod Blocks
 mod Wires
 mod Plain
 mod Names
+mod Joining
 mod Contracted

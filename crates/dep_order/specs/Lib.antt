@@ -5,3 +5,4 @@ pub mod Names
 pub mod Signals
 pub mod Wiring
 pub mod Results
+pub mod Joined

@@ -2,7 +2,7 @@
 use Rattle.std.specs.Prelude.{◌≡◌, ◌≢◌, ℕ, ◌<◌, ◌⊎◌, List, [], ◌∷◌, map, Option, Some, None, option_map, slice_get}
 use Rattle.tree_core.specs.Tree.{Tree}
 use Rattle.exec_core.specs.Lists.{EachOf, AreApart}
-use Rattle.exec_core.specs.Whole.{Place, IsOrder}
+use Rattle.exec_core.specs.Whole.{Place, Drivers, IsOrder}
 use Rattle.exec_core.specs.Design.{place, driver_of}
 use Rattle.design_core.specs.declared.variant.Signal.{Signal}
 use Rattle.design_core.specs.Design as design
@@ -10,18 +10,18 @@ use Rattle.design_exec.specs.Processes.{processes_of, signals_at, is_signal_of}
 use Rattle.dep_order.specs.Standing.{SomeLeaf}
 
 -- a signal depends on the leaves of the tree that drives it
-pub record DependsOn (d : design.Design) (p q : Place) : Type 0 where
+pub record DependsOn (d : Drivers) (p q : Place) : Type 0 where
   pub driver : Tree Place
-  pub drives : driver_of (processes_of d) p ≡ Some driver
+  pub drives : d p ≡ Some driver
   pub reads : SomeLeaf (λ r. r ≡ q) driver
 
 -- each depends on the next, from p along the list to q
-abbrev pub Depend : design.Design → Place → List Place → Place → Type 0
+abbrev pub Depend : Drivers → Place → List Place → Place → Type 0
 Depend d p [] q = DependsOn d p q
 Depend d p (r ∷ rs) q = DependsOn d p r × Depend d r rs q
 
 -- different signals, each depending on the next and the last on the first
-abbrev pub IsLoop : design.Design → List Place → Type 0
+abbrev pub IsLoop : Drivers → List Place → Type 0
 IsLoop d [] = ⊥
 IsLoop d (p ∷ ps) = Depend d p ps p × AreApart (p ∷ ps)
 
@@ -52,5 +52,5 @@ pub record TellsOrder (d : design.Design) (pairs : List Pair) : Type 0 where
 pub record TellsLoop (d : design.Design) (pairs : List Pair) : Type 0 where
   pub loop : List Place
   pub signals : map (signal_at d) pairs ≡ map (λ p. Some p) loop
-  pub depend : IsLoop d loop
+  pub depend : IsLoop (driver_of (processes_of d)) loop
   pub first : IsFirst pairs

@@ -5,10 +5,12 @@
 mod assigned;
 mod block;
 mod branch;
+mod laws;
 mod maps;
 mod reading;
 mod signals;
 mod version;
 mod wiring;
 
+pub use laws::{drivers_in_order, vertices_are_signals};
 pub use signals::order_signals;
