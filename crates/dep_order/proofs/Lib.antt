@@ -9,5 +9,6 @@ mod Blocks
 mod Wires
 mod Plain
 mod Names
+mod Rows
 mod Joining
 mod Contracted

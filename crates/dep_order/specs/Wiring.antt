@@ -1,5 +1,5 @@
 -- The signals of a design as vertices of a graph, each with edges to what its driver reads.
-use Rattle.std.specs.Prelude.{◌≡◌, ℕ, ◌<◌, ◌≤◌, ◌==◌, ◌||◌, ◌&&◌, not, if◌then◌else◌, Bool, true, false, List, [], ◌∷◌, ◌++◌, length, find, Option, Some, None, is_some, option_map, option_and_then, slice_index_or}
+use Rattle.std.specs.Prelude.{◌≡◌, ℕ, ◌<◌, ◌≤◌, ◌==◌, ◌||◌, ◌&&◌, not, if◌then◌else◌, Bool, true, false, List, [], ◌∷◌, ◌++◌, length, map, find, Option, Some, None, is_some, option_map, option_and_then, slice_index_or}
 use Rattle.tree_core.specs.Tree.{Tree}
 use Rattle.exec_core.specs.Block.{Name, Now}
 use Rattle.exec_core.specs.Whole.{Place}
@@ -123,3 +123,27 @@ LinkIsMet =
     (links : List Link) (q : Place) (t : Tree Place) (p : Place) →
     (is_met (links ++ (q, t) ∷ []) [] p ≡ met_with q (is_met links []) p)
     × (driver_in (links ++ (q, t) ∷ []) [] p ≡ driver_with q (Some t) (is_met links []) (driver_in links []) p)
+
+-- what a call does that drives the signals of an instance by these blocks, behind links and processes that were met before
+abbrev pub DrivesBlocks : Graph → List Bool → Graph → List Bool → Numbers → List design.Block → Type 0
+DrivesBlocks g driven h marked numbers bs =
+    (signals : ℕ) (number : PlaceNumbers) (i : ℕ) (declared : List Signal) (links : List Link) (before : List Process) →
+    signals ≤ length g → AreNumbers signals number → AreOf number i numbers →
+    IsWired signals number g driven (is_met links before) (driver_in links before) →
+    IsWired signals number h marked (is_met links (before ++ map (processes.process i declared) bs)) (driver_in links (before ++ map (processes.process i declared) bs))
+
+-- what one does that drives an input of a child by a connection
+abbrev pub DrivesConn : Graph → List Bool → Graph → List Bool → Numbers → Numbers → design.Conn → Type 0
+DrivesConn g driven h marked of_child of_parent c =
+    (signals : ℕ) (number : PlaceNumbers) (i j : ℕ) (met : Place → Bool) (driver : Place → Option (Tree Place)) →
+    AreNumbers signals number → AreOf number i of_parent → AreOf number j of_child →
+    IsWired signals number g driven met driver →
+    IsWired signals number h marked (met_with (place j c.port) met) (driver_with (place j c.port) (Some (moved i (processes.tree_of c.value))) met driver)
+
+-- and one that drives the inputs of a child by these connections, whose names are those of its parent, behind links that were met before
+abbrev pub DrivesConns : Graph → List Bool → Graph → List Bool → Numbers → Numbers → List design.Conn → Type 0
+DrivesConns g driven h marked of_child of_parent conns =
+    (signals : ℕ) (number : PlaceNumbers) (i j : ℕ) (links : List Link) →
+    AreNumbers signals number → AreOf number i of_parent → AreOf number j of_child →
+    IsWired signals number g driven (is_met links []) (driver_in links []) →
+    IsWired signals number h marked (is_met (links ++ map (processes.conn_link i j) conns) []) (driver_in (links ++ map (processes.conn_link i j) conns) [])

@@ -1,14 +1,14 @@
-ghost use Rattle.std.specs.Prelude.{◌≡◌, ◌≢◌, ◌<◌, ◌≤◌, ℕ, length, true, option_map, OnOk};
+ghost use Rattle.std.specs.Prelude.{◌≡◌, ◌≢◌, ◌<◌, ◌≤◌, ℕ, length, map, true, option_map, OnOk};
 ghost use Rattle.graph_order.specs.Graphs.{IsGraph, next_of};
 ghost use Rattle.graph_order.specs.Lists.{EachOf};
-ghost use Rattle.dep_order.specs.Wiring.{Drives, DrivesBlock, DrivesBy, DrivesName, DrivesNames, KeepsOthers};
+ghost use Rattle.dep_order.specs.Wiring.{Drives, DrivesBlock, DrivesBlocks, DrivesBy, DrivesConn, DrivesConns, DrivesName, DrivesNames, KeepsOthers};
 ghost use Rattle.dep_order.specs.Blocks.{AreSignals, single, version_of};
 ghost use Rattle.check_core.specs.Maps.{value_of};
 ghost use Rattle.check_core.specs.Known.{has};
 ghost use Rattle.dep_order.specs.Names.{names_at};
 ghost use Rattle.dep_order.specs.Standing.{AreVertices};
 ghost use Rattle.exec_core.specs.Block.{Name};
-ghost use Rattle.design_core.specs.View.{block_of, expr_of};
+ghost use Rattle.design_core.specs.View.{block_of, conn_of, expr_of};
 ghost use Rattle.design_exec.specs.Processes.{tree_of};
 
 use crate::maps::{NumberMap, VersionMap};
@@ -16,7 +16,7 @@ use crate::reading::read_expr;
 use crate::assigned::assigned_in;
 use crate::block::follow_block;
 use check_core::NameSet;
-use design_core::{Block, Expr};
+use design_core::{Block, Conn, Expr};
 use graph_order::Graph;
 use std::alloc::Global;
 use text_core::NoMemory;
@@ -54,6 +54,7 @@ pub(crate) fn drive_by(
     requires marked { vertex < length driven.old }
     requires numbers { AreSignals (length graph.old) (value_of numbers.now) }
     ensures count { length graph.new ≡ length graph.old }
+    ensures graph { OnOk result (IsGraph graph.new) }
     ensures drives { OnOk result (DrivesBy graph.old driven.old graph.new driven.new vertex (value_of numbers.now) (tree_of (expr_of expr.now))) }
 {
     let own = NameSet::new(alloc);
@@ -129,5 +130,73 @@ pub(crate) fn drive_block(
     let ends = follow_block(alloc, graph, numbers, block)?;
     let names = assigned_in(alloc, block.clocked, &block.body)?;
     drive_names(graph, driven, numbers, &ends, &names)?;
+    Ok(())
+}
+
+/// The same of an instance's blocks in order.
+pub(crate) fn drive_blocks(
+    alloc: Global,
+    graph: &mut Graph,
+    driven: &mut [bool],
+    numbers: &NumberMap,
+    blocks: &[Block],
+) -> Result<(), NoMemory>
+    requires graph { IsGraph graph.old }
+    requires numbers { AreSignals (length graph.old) (value_of numbers.now) }
+    requires marked { AreSignals (length driven.old) (value_of numbers.now) }
+    ensures graph { OnOk result (IsGraph graph.new) }
+    ensures longer { OnOk result (length graph.old ≤ length graph.new) }
+    ensures drives { OnOk result (DrivesBlocks graph.old driven.old graph.new driven.new (value_of numbers.now) (map block_of blocks.now)) }
+{
+    for block in blocks {
+        drive_block(alloc, graph, driven, numbers, block)?;
+    }
+    Ok(())
+}
+
+/// Drives an input of a child by what is connected to it, unless its driver was met before. A port that is no signal of the
+/// child is passed over.
+fn drive_conn(
+    alloc: Global,
+    graph: &mut Graph,
+    driven: &mut [bool],
+    child: &NumberMap,
+    parent: &NumberMap,
+    conn: &Conn,
+) -> Result<(), NoMemory>
+    requires graph { IsGraph graph.old }
+    requires parent { AreSignals (length graph.old) (value_of parent.now) }
+    requires child { AreSignals (length graph.old) (value_of child.now) }
+    requires marked { AreSignals (length driven.old) (value_of child.now) }
+    ensures graph { OnOk result (IsGraph graph.new) }
+    ensures count { length graph.new ≡ length graph.old }
+    ensures drives { OnOk result (DrivesConn graph.old driven.old graph.new driven.new (value_of child.now) (value_of parent.now) (conn_of conn.now)) }
+{
+    match child.get(conn.port.bytes()) {
+        Some(vertex) => drive_by(alloc, graph, driven, vertex, parent, &conn.value),
+        None => Ok(()),
+    }
+}
+
+/// The same of a child's connections in order.
+pub(crate) fn drive_conns(
+    alloc: Global,
+    graph: &mut Graph,
+    driven: &mut [bool],
+    child: &NumberMap,
+    parent: &NumberMap,
+    conns: &[Conn],
+) -> Result<(), NoMemory>
+    requires graph { IsGraph graph.old }
+    requires parent { AreSignals (length graph.old) (value_of parent.now) }
+    requires child { AreSignals (length graph.old) (value_of child.now) }
+    requires marked { AreSignals (length driven.old) (value_of child.now) }
+    ensures graph { OnOk result (IsGraph graph.new) }
+    ensures count { length graph.new ≡ length graph.old }
+    ensures drives { OnOk result (DrivesConns graph.old driven.old graph.new driven.new (value_of child.now) (value_of parent.now) (map conn_of conns.now)) }
+{
+    for conn in conns {
+        drive_conn(alloc, graph, driven, child, parent, conn)?;
+    }
     Ok(())
 }
