@@ -1,18 +1,18 @@
 -- A block from its first statement to its last.
-use Rattle.std.proofs.Common.{◌≡◌, ℕ, ◌+◌, ◌<◌, ◌≤◌, Bool, true, false, true≢false, ◌||◌, bytes_eq, if◌then◌else◌, List, [], ◌∷◌, map, drop, Option, Some, None, option_map, length, get_or, refl, sym, subst, ap, ◌∙◌, inl, inr}
+use Rattle.std.proofs.Common.{◌≡◌, ℕ, ◌+◌, ◌<◌, ◌≤◌, Bool, true, false, ◌||◌, bytes_eq, if◌then◌else◌, List, drop, Option, Some, None, option_map, length, get_or, refl, sym, subst, ap, ◌∙◌, inl, inr}
 use Rattle.std.specs.Borrow.{Bor}
 use Rattle.std.proofs.lemmas.Bool.{cases_Bool}
 use Rattle.std.proofs.lemmas.List.{drop_more, drop_all}
-use Rattle.tree_core.specs.Tree.{Tree, Leaf}
+use Rattle.tree_core.specs.Tree.{Leaf}
 use Rattle.exec_core.specs.Block.{Name, Now}
-use Rattle.exec_core.specs.Exec.{Env, start}
+use Rattle.exec_core.specs.Exec.{start}
 use Rattle.design_core.specs.Design as design
 use Rattle.design_exec.specs.Processes as processes
 use Rattle.graph_order.specs.Graphs.{Graph, IsGraph}
 use Rattle.check_core.specs.Known.{Known, either, has, none, with}
 use Rattle.dep_order.specs.Names.{names_at}
 use Rattle.dep_order.specs.Standing.{Numbers, Stand, AllStand, AreVertices}
-use Rattle.dep_order.specs.Blocks.{Versions, single, listed, readings, no_versions, Grown, IsReady, Followed, AreSignals, assigned_in, step_in, owns, end_trees, EndVertices, EndsStand}
+use Rattle.dep_order.specs.Blocks.{Versions, single, listed, readings, no_versions, IsReady, Followed, AreSignals, assigned_in, step_in, owns, end_trees, EndVertices, EndsStand}
 use Rattle.dep_order.proofs.Versions.{stand_signal, stand_unknown}
 
 -- ---- own names
@@ -54,11 +54,12 @@ signal_vertices n number x (Some v) e all = (all x v e, tt)
 
 pub start_ready : (own : Known) (number : Numbers) (g : Graph) (versions : Versions) → versions ≡ no_versions → IsGraph g → AreSignals (length g) number → IsReady own number g versions
 start_ready own number g versions e is all = subst (IsReady own number g) (sym e) (record {
-    graph = is;
-    vertices = λ x. elim (cases_Bool (own x)) [
-        inl here ↦ subst (AreVertices (length g)) (sym (start_here own number x here)) tt
-      | inr off ↦ subst (AreVertices (length g)) (sym (start_off own number x off)) (signal_vertices (length g) number x (number x) refl all) ];
-  })
+  graph = is;
+  vertices = λ x. elim (cases_Bool (own x)) [
+    | inl here ↦ subst (AreVertices (length g)) (sym (start_here own number x here)) tt
+    | inr off ↦ subst (AreVertices (length g)) (sym (start_off own number x off)) (signal_vertices (length g) number x (number x) refl all)
+  ];
+})
 
 pub signal_stands : (signals : ℕ) (g : Graph) (number : Numbers) (x : Name) (o : Option ℕ) → number x ≡ o → AreSignals signals number → Stand signals g number (Some (listed o)) (Some (Leaf x))
 signal_stands signals g number x None e all = stand_unknown signals g number x e
@@ -74,12 +75,13 @@ start_stands : (signals : ℕ) (g : Graph) (number : Numbers) (b : design.Block)
     AllStand signals g number (readings (owns b) number no_versions) (start (processes.body_of b.clocked b.body) (λ (y : Name). Leaf y))
 start_stands signals g number b all x =
     elim (cases_Bool (owns b x)) [
-      inl here ↦
-        subst (λ (o : Option (List ℕ)). Stand signals g number o (start (processes.body_of b.clocked b.body) (λ (y : Name). Leaf y) (Now x))) (sym (start_here (owns b) number x here))
-        (subst (Stand signals g number None) (sym (tree_here b x here)) tt)
-    | inr off ↦
-        subst (λ (o : Option (List ℕ)). Stand signals g number o (start (processes.body_of b.clocked b.body) (λ (y : Name). Leaf y) (Now x))) (sym (start_off (owns b) number x off))
-        (subst (Stand signals g number (Some (listed (number x)))) (sym (tree_off b x off)) (signal_stands signals g number x (number x) refl all)) ]
+      | inl here ↦
+          subst (λ (o : Option (List ℕ)). Stand signals g number o (start (processes.body_of b.clocked b.body) (λ (y : Name). Leaf y) (Now x))) (sym (start_here (owns b) number x here))
+          (subst (Stand signals g number None) (sym (tree_here b x here)) tt)
+      | inr off ↦
+          subst (λ (o : Option (List ℕ)). Stand signals g number o (start (processes.body_of b.clocked b.body) (λ (y : Name). Leaf y) (Now x))) (sym (start_off (owns b) number x off))
+          (subst (Stand signals g number (Some (listed (number x)))) (sym (tree_off b x off)) (signal_stands signals g number x (number x) refl all))
+    ]
 
 -- ---- the end
 
@@ -98,6 +100,6 @@ pub ends_stand : (own : Known) (number : Numbers) (g h : Graph) (before ends : V
 unfolding FollowedBlock
 ends_stand own number g h before ends b is none_yet f signals low all x e =
     let g' : FollowedBlock (owns b) number g no_versions h ends b =
-        subst (λ (v : Versions). FollowedBlock (owns b) number g v h ends b) none_yet (subst (λ (k : Known). FollowedBlock k number g before h ends b) is f) in
+    subst (λ (v : Versions). FollowedBlock (owns b) number g v h ends b) none_yet (subst (λ (k : Known). FollowedBlock k number g before h ends b) is f) in
     subst (λ (o : Option (List ℕ)). Stand signals h number o (end_trees b (Now x))) (own_reads (owns b) number ends x e)
     (g'.stand signals (start (processes.body_of b.clocked b.body) (λ (y : Name). Leaf y)) low (start_stands signals g number b all) x)

@@ -1,5 +1,5 @@
 -- Versions of names in a map.
-use Rattle.std.proofs.Common.{◌≡◌, ℕ, Bool, true, false, bytes_eq, List, Option, Some, None, if◌then◌else◌, refl, ap, ◌∙◌}
+use Rattle.std.proofs.Common.{◌≡◌, ℕ, Bool, true, false, bytes_eq, List, Option, Some, if◌then◌else◌, refl, ap, ◌∙◌}
 use Rattle.exec_core.specs.Block.{Name}
 use Rattle.check_core.specs.Maps.{value_of, put_value}
 use Rattle.dep_order.specs.Blocks.{flat, version_of, put_version}

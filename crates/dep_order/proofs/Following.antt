@@ -1,13 +1,12 @@
 -- What the statements of a block leave.
-use Rattle.std.proofs.Common.{◌≡◌, ℕ, zero, suc, ◌+◌, ◌<◌, ◌≤◌, Bool, true, false, true≢false, ◌||◌, bytes_eq, if◌then◌else◌, List, [], ◌∷◌, ◌++◌, map, take, drop, Option, Some, None, option_map, length, get_or, refl, sym, subst, ap, ap₂, ◌∙◌, ◌⊎◌, inl, inr, arith, Vec, Global}
+use Rattle.std.proofs.Common.{◌≡◌, ℕ, zero, suc, ◌+◌, ◌<◌, ◌≤◌, Bool, true, false, true≢false, ◌||◌, bytes_eq, if◌then◌else◌, List, [], ◌∷◌, ◌++◌, map, take, Option, Some, option_map, length, get_or, refl, sym, subst, ap, ◌∙◌, inl, inr, arith, Vec, Global}
 use Rattle.std.proofs.lemmas.Bool.{cases_Bool}
-use Rattle.std.proofs.lemmas.List.{take_more, take_all, map_push}
+use Rattle.std.proofs.lemmas.List.{take_more, map_push}
 use Rattle.std.proofs.Math.Bool.{or_assoc}
 use Rattle.std.proofs.lemmas.Slice.Eq.{bytes_eq-Decides}
 use Rattle.tree_core.specs.Tree.{Tree, Mux}
-use Rattle.exec_core.specs.Block as blocks
-use Rattle.exec_core.specs.Block.{Name, Now, Next}
-use Rattle.exec_core.specs.Exec.{Env, put, on_three}
+use Rattle.exec_core.specs.Block.{Name, Now}
+use Rattle.exec_core.specs.Exec.{Env, on_three}
 use Rattle.exec_core.specs.Trees.{tree_in, merged}
 use Rattle.design_core.specs.declared.statement.Stmt as code_stmt
 use Rattle.design_core.specs.declared.expr.Expr as code_expr
@@ -43,23 +42,23 @@ same_reads own number before after x e = ap (λ (v : Option ℕ). if own x then 
 pub followed_none : (own : Known) (number : Numbers) (g : Graph) (versions : Versions) (assigned : Name → Bool) (step : Env (Tree Name) → Env (Tree Name)) → IsReady own number g versions →
     ((trees : Env (Tree Name)) (x : Name) → step trees (Now x) ≡ trees (Now x)) → Followed own number g versions g versions assigned step
 followed_none own number g versions assigned step ready same = record {
-    grown = grown_same g;
-    ready = ready;
-    same = λ x e. refl;
-    stand = λ signals trees low all x. subst (Stand signals g number (readings own number versions x)) (sym (same trees x)) (all x);
-  }
+  grown = grown_same g;
+  ready = ready;
+  same = λ x e. refl;
+  stand = λ signals trees low all x. subst (Stand signals g number (readings own number versions x)) (sym (same trees x)) (all x);
+}
 
 pub followed_then : (own : Known) (number : Numbers) (g h k : Graph) (before now after : Versions) (a b c : Name → Bool) (step more both : Env (Tree Name) → Env (Tree Name)) →
     ((x : Name) → c x ≡ (a x || b x)) → ((trees : Env (Tree Name)) → both trees ≡ more (step trees)) →
     Followed own number g before h now a step → Followed own number h now k after b more → Followed own number g before k after c both
 followed_then own number g h k before now after a b c step more both of_both steps f m = record {
-    grown = grown_after g h k f.grown m.grown;
-    ready = m.ready;
-    same = λ x e. let parts = neither (a x) (b x) (sym (of_both x) ∙ e) in m.same x parts.1 ∙ f.same x parts.0;
-    stand = λ signals trees low all.
-        subst (AllStand signals k number (readings own number after)) (sym (steps trees))
-        (m.stand signals (step trees) (omega (arith, low, f.grown.longer)) (f.stand signals trees low all));
-  }
+  grown = grown_after g h k f.grown m.grown;
+  ready = m.ready;
+  same = λ x e. let parts = neither (a x) (b x) (sym (of_both x) ∙ e) in m.same x parts.1 ∙ f.same x parts.0;
+  stand = λ signals trees low all.
+      subst (AllStand signals k number (readings own number after)) (sym (steps trees))
+      (m.stand signals (step trees) (omega (arith, low, f.grown.longer)) (f.stand signals trees low all));
+}
   where
     neither : (a b : Bool) → (a || b) ≡ false → (a ≡ false) × (b ≡ false)
     neither true b e = absurd (true≢false e)
@@ -73,27 +72,33 @@ pub followed_set : (own : Known) (number : Numbers) (g h : Graph) (before after 
 followed_set own number g h before after y v e ready is_own grown made is =
     subst (λ (f : Versions). Followed own number g before h f (sets y) (step_set y e)) (sym is) (record {
       grown = grown;
-      ready = record { graph = grown_graph g h ready.graph grown; vertices = λ x. elim (cases_Bool (bytes_eq x y)) [
-          inl here ↦ subst (AreVertices (length h)) (sym (reads_here x here)) (made_vertices g h v (read_by (processes.tree_of e) (readings own number before)) made)
-        | inr off ↦ subst (AreVertices (length h)) (sym (reads_off x off)) (vertices_more (length g) (length h) (readings own number before x) grown.longer (ready.vertices x)) ]; };
+      ready = record {
+        graph = grown_graph g h ready.graph grown;
+        vertices = λ x. elim (cases_Bool (bytes_eq x y)) [
+          | inl here ↦ subst (AreVertices (length h)) (sym (reads_here x here)) (made_vertices g h v (read_by (processes.tree_of e) (readings own number before)) made)
+          | inr off ↦ subst (AreVertices (length h)) (sym (reads_off x off)) (vertices_more (length g) (length h) (readings own number before x) grown.longer (ready.vertices x))
+        ];
+      };
       same = λ x off. put_elsewhere y x v before (turned y x off);
       stand = λ signals trees low all x. elim (cases_Bool (bytes_eq x y)) [
-          inl here ↦
+        | inl here ↦
             subst (λ (o : Option (List ℕ)). Stand signals h number o (step_set y e trees (Now x))) (sym (reads_here x here))
             (subst (Stand signals h number (option_map single v)) (sym (tree_here trees x here))
-             (made_stands signals g h number v (read_by (processes.tree_of e) (readings own number before)) (tree_in (processes.tree_of e) trees) low ready.graph grown
-              (reads_vertices (length g) (readings own number before) (processes.tree_of e) ready.vertices) made
-              (reads_stand signals g number (readings own number before) trees (processes.tree_of e) all)))
+            (made_stands signals g h number v (read_by (processes.tree_of e) (readings own number before)) (tree_in (processes.tree_of e) trees) low ready.graph grown
+            (reads_vertices (length g) (readings own number before) (processes.tree_of e) ready.vertices) made
+            (reads_stand signals g number (readings own number before) trees (processes.tree_of e) all)))
         | inr off ↦
             subst (λ (o : Option (List ℕ)). Stand signals h number o (step_set y e trees (Now x))) (sym (reads_off x off))
             (subst (Stand signals h number (readings own number before x)) (sym (tree_off trees x off))
-             (all_kept signals g h number (readings own number before) trees ready.graph grown ready.vertices all x)) ];
+            (all_kept signals g h number (readings own number before) trees ready.graph grown ready.vertices all x))
+      ];
     })
   where
     turned : (x y : Name) → bytes_eq x y ≡ false → bytes_eq y x ≡ false
     turned x y k = elim (cases_Bool (bytes_eq y x)) [
-        inl same ↦ absurd (true≢false (sym ((bytes_eq-Decides x y).1 (sym ((bytes_eq-Decides y x).0 same))) ∙ k))
-      | inr other ↦ other ]
+      | inl same ↦ absurd (true≢false (sym ((bytes_eq-Decides x y).1 (sym ((bytes_eq-Decides y x).0 same))) ∙ k))
+      | inr other ↦ other
+    ]
 
     straight : (x y : Name) → bytes_eq x y ≡ true → bytes_eq y x ≡ true
     straight x y k = (bytes_eq-Decides y x).1 (sym ((bytes_eq-Decides x y).0 k))
@@ -123,30 +128,35 @@ pub followed_if : (own : Known) (number : Numbers) (g0 g1 g2 g3 g4 : Graph) (v0 
     Grown g3 g4 → Merged g3 g4 test names v2 v3 v1 v2 →
     Followed own number g0 v0 g4 v3 (either (assigned_in clocked first) (assigned_else clocked second)) (branches clocked c first second)
 followed_if own number g0 g1 g2 g3 g4 v0 v1 v2 v3 test names clocked c first second ready all_own are grown1 tested f s grown4 m = record {
-    grown = grown04;
-    ready = record { graph = grown_graph g3 g4 s.ready.graph grown4; vertices = λ x. elim (cases_Bool (has names x)) [
-        inl is ↦ subst (AreVertices (length g4)) (sym (own_reads own number v3 x (is_own x is))) (made_vertices g3 g4 (v3 x) (three test (v1 x) (v2 x)) (m.made x is))
-      | inr not ↦ subst (AreVertices (length g4)) (sym (same_reads own number v0 v3 x (unchanged x not))) (vertices_more (length g0) (length g4) (readings own number v0 x) grown04.longer (ready.vertices x)) ]; };
-    same = λ x e. unchanged x (ap (λ (k : Known). k x) are ∙ e);
-    stand = λ signals trees low all x. elim (cases_Bool (has names x)) [
-        inl is ↦
-          subst (λ (o : Option (List ℕ)). Stand signals g4 number o (branches clocked c first second trees (Now x))) (sym (own_reads own number v3 x (is_own x is)))
-          (subst (Stand signals g4 number (option_map single (v3 x))) (sym (chosen trees x is))
-           (made_stands signals g3 g4 number (v3 x) (three test (v1 x) (v2 x)) (on_three Mux (tree_in (processes.tree_of c) trees) (step_in clocked first trees (Now x)) (step_else clocked second trees (Now x)))
-            (omega (arith, low, grown1.longer, f.grown.longer, s.grown.longer)) s.ready.graph grown4
-            (three_vertices (length g3) (option_map single test) (option_map single (v1 x)) (option_map single (v2 x)) test_vertex (first_vertex x is) (second_vertex x is))
-            (m.made x is)
-            (mux_stands signals g3 number (option_map single test) (option_map single (v1 x)) (option_map single (v2 x)) (tree_in (processes.tree_of c) trees) (step_in clocked first trees (Now x)) (step_else clocked second trees (Now x))
-             (test_stands signals trees low all)
-             (subst (λ (o : Option (List ℕ)). Stand signals g3 number o (step_in clocked first trees (Now x))) (own_reads own number v1 x (is_own x is))
-              (all_kept signals g2 g3 number (readings own number v1) (step_in clocked first trees) f.ready.graph s.grown f.ready.vertices (after_first signals trees low all) x))
-             (subst (λ (o : Option (List ℕ)). Stand signals g3 number o (step_else clocked second trees (Now x))) (own_reads own number v2 x (is_own x is))
-              (after_second signals trees low all x)))))
-      | inr not ↦
-          subst (λ (o : Option (List ℕ)). Stand signals g4 number o (branches clocked c first second trees (Now x))) (sym (same_reads own number v0 v3 x (unchanged x not)))
-          (subst (Stand signals g4 number (readings own number v0 x)) (sym (kept_tree trees x not))
-           (all_kept signals g0 g4 number (readings own number v0) trees ready.graph grown04 ready.vertices all x)) ];
-  }
+  grown = grown04;
+  ready = record {
+    graph = grown_graph g3 g4 s.ready.graph grown4;
+    vertices = λ x. elim (cases_Bool (has names x)) [
+      | inl is ↦ subst (AreVertices (length g4)) (sym (own_reads own number v3 x (is_own x is))) (made_vertices g3 g4 (v3 x) (three test (v1 x) (v2 x)) (m.made x is))
+      | inr not ↦ subst (AreVertices (length g4)) (sym (same_reads own number v0 v3 x (unchanged x not))) (vertices_more (length g0) (length g4) (readings own number v0 x) grown04.longer (ready.vertices x))
+    ];
+  };
+  same = λ x e. unchanged x (ap (λ (k : Known). k x) are ∙ e);
+  stand = λ signals trees low all x. elim (cases_Bool (has names x)) [
+    | inl is ↦
+        subst (λ (o : Option (List ℕ)). Stand signals g4 number o (branches clocked c first second trees (Now x))) (sym (own_reads own number v3 x (is_own x is)))
+        (subst (Stand signals g4 number (option_map single (v3 x))) (sym (chosen trees x is))
+        (made_stands signals g3 g4 number (v3 x) (three test (v1 x) (v2 x)) (on_three Mux (tree_in (processes.tree_of c) trees) (step_in clocked first trees (Now x)) (step_else clocked second trees (Now x)))
+        (omega (arith, low, grown1.longer, f.grown.longer, s.grown.longer)) s.ready.graph grown4
+        (three_vertices (length g3) (option_map single test) (option_map single (v1 x)) (option_map single (v2 x)) test_vertex (first_vertex x is) (second_vertex x is))
+        (m.made x is)
+        (mux_stands signals g3 number (option_map single test) (option_map single (v1 x)) (option_map single (v2 x)) (tree_in (processes.tree_of c) trees) (step_in clocked first trees (Now x)) (step_else clocked second trees (Now x))
+        (test_stands signals trees low all)
+        (subst (λ (o : Option (List ℕ)). Stand signals g3 number o (step_in clocked first trees (Now x))) (own_reads own number v1 x (is_own x is))
+        (all_kept signals g2 g3 number (readings own number v1) (step_in clocked first trees) f.ready.graph s.grown f.ready.vertices (after_first signals trees low all) x))
+        (subst (λ (o : Option (List ℕ)). Stand signals g3 number o (step_else clocked second trees (Now x))) (own_reads own number v2 x (is_own x is))
+        (after_second signals trees low all x)))))
+    | inr not ↦
+        subst (λ (o : Option (List ℕ)). Stand signals g4 number o (branches clocked c first second trees (Now x))) (sym (same_reads own number v0 v3 x (unchanged x not)))
+        (subst (Stand signals g4 number (readings own number v0 x)) (sym (kept_tree trees x not))
+        (all_kept signals g0 g4 number (readings own number v0) trees ready.graph grown04 ready.vertices all x))
+  ];
+}
   where
     neither : (a b : Bool) → (a || b) ≡ false → (a ≡ false) × (b ≡ false)
     neither true b e = absurd (true≢false e)
@@ -197,8 +207,8 @@ followed_if own number g0 g1 g2 g3 g4 v0 v1 v2 v3 test names clocked c first sec
         stand_kept signals g1 g3 number (option_map single test) (tree_in (processes.tree_of c) trees) graph1 (grown_keeps signals g1 g3 grown13)
         (made_vertices g0 g1 test (read_by (processes.tree_of c) (readings own number v0)) tested)
         (made_stands signals g0 g1 number test (read_by (processes.tree_of c) (readings own number v0)) (tree_in (processes.tree_of c) trees) low ready.graph grown1
-         (reads_vertices (length g0) (readings own number v0) (processes.tree_of c) ready.vertices) tested
-         (reads_stand signals g0 number (readings own number v0) trees (processes.tree_of c) all))
+        (reads_vertices (length g0) (readings own number v0) (processes.tree_of c) ready.vertices) tested
+        (reads_stand signals g0 number (readings own number v0) trees (processes.tree_of c) all))
 
     chosen : (trees : Env (Tree Name)) (x : Name) → has names x ≡ true →
         branches clocked c first second trees (Now x) ≡ on_three Mux (tree_in (processes.tree_of c) trees) (step_in clocked first trees (Now x)) (step_else clocked second trees (Now x))
@@ -253,9 +263,9 @@ assigned_at clocked (t ∷ body) (suc i) s x h at e = ap (λ (b : Bool). assigne
 
 pub ready_grown : (own : Known) (number : Numbers) (g h : Graph) (versions : Versions) → IsReady own number g versions → Grown g h → IsReady own number h versions
 ready_grown own number g h versions r a = record {
-    graph = grown_graph g h r.graph a;
-    vertices = all_vertices_more (length g) (length h) (readings own number versions) a.longer r.vertices;
-  }
+  graph = grown_graph g h r.graph a;
+  vertices = all_vertices_more (length g) (length h) (readings own number versions) a.longer r.vertices;
+}
 
 pub ready_same : (own : Known) (number : Numbers) (g : Graph) (before after : Versions) → after ≡ before → IsReady own number g before → IsReady own number g after
 ready_same own number g before after e r = subst (IsReady own number g) (sym e) r
@@ -292,7 +302,7 @@ unfolding FollowedBy
 clocked_followed own number g versions clocked s slot line gens x e is on ready =
     subst (FollowedBy own number g versions g versions clocked) (sym (ap stmt_of is ∙ stmt_assign slot line gens x e))
     (subst (λ (b : Bool). FollowedBy own number g versions g versions b (design.Assign slot line gens x (expr_of e))) (sym on)
-     (followed_none own number g versions (assigned_by true (design.Assign slot line gens x (expr_of e))) (step_by true (design.Assign slot line gens x (expr_of e))) ready (λ trees y. refl)))
+    (followed_none own number g versions (assigned_by true (design.Assign slot line gens x (expr_of e))) (step_by true (design.Assign slot line gens x (expr_of e))) ready (λ trees y. refl)))
 
 pub let_followed : (own : Known) (number : Numbers) (g h : Graph) (before after : Versions) (clocked : Bool) (s : code_stmt.Stmt) (slot line : ℕ) (gens : design.Gens) (x : Name) (e : code_expr.Expr) →
     s ≡ code_stmts.Let slot line gens x e → Followed own number g before h after (sets x) (step_set x (expr_of e)) → Followed own number g before h after (assigned_by clocked (stmt_of s)) (step_by clocked (stmt_of s))
@@ -332,8 +342,9 @@ else_followed own number g h before after clocked o body items is same f =
 in_has : (x : Name) (names : List Name) → IsIn x names → has names x ≡ true
 in_has x [] h = absurd h
 in_has x (y ∷ names) h = elim h [
-    inl e ↦ ap (λ (b : Bool). b || has names x) ((bytes_eq-Decides x y).1 e)
-  | inr k ↦ ap (λ (b : Bool). bytes_eq x y || b) (in_has x names k) ∙ or_true (bytes_eq x y) ]
+  | inl e ↦ ap (λ (b : Bool). b || has names x) ((bytes_eq-Decides x y).1 e)
+  | inr k ↦ ap (λ (b : Bool). bytes_eq x y || b) (in_has x names k) ∙ or_true (bytes_eq x y)
+]
   where
     or_true : (b : Bool) → (b || true) ≡ true
     or_true true = refl

@@ -1,65 +1,67 @@
 -- Graphs that grow by versions.
-use Rattle.std.proofs.Common.{◌≡◌, ℕ, zero, suc, ◌<◌, ◌≤◌, ◌+◌, Bool, true, false, bytes_eq, if◌then◌else◌, List, [], ◌∷◌, ◌++◌, ◌⊎◌, inl, inr, Option, Some, None, option_map, length, get_or, refl, sym, subst, ap, ◌∙◌, arith, length-append, true≢false}
-use Rattle.std.proofs.lemmas.Bool.{cases_lt, cases_eq, cases_Bool}
+use Rattle.std.proofs.Common.{◌≡◌, ℕ, ◌<◌, ◌≤◌, ◌+◌, Bool, true, false, List, [], ◌∷◌, ◌++◌, inl, inr, Option, Some, None, option_map, length, refl, sym, subst, ap, ◌∙◌, arith, length-append, true≢false}
+use Rattle.std.proofs.lemmas.Bool.{cases_lt, cases_eq}
 use Rattle.std.proofs.lemmas.List.{get_or_append_left, get_or_push, get_or_past}
-use Rattle.tree_core.specs.Tree.{Tree, Mux}
-use Rattle.exec_core.specs.Block.{Name, Expr, Now}
-use Rattle.exec_core.specs.Exec.{Env, on_three}
-use Rattle.exec_core.specs.Trees.{tree_in}
-use Rattle.graph_order.specs.Lists.{EachOf, IsIn}
+use Rattle.tree_core.specs.Tree.{Tree}
+use Rattle.exec_core.specs.Block.{Name, Now}
+use Rattle.exec_core.specs.Exec.{Env}
+use Rattle.graph_order.specs.Lists.{EachOf}
 use Rattle.graph_order.specs.Graphs.{Graph, next_of, IsGraph}
-use Rattle.graph_order.proofs.Lists.{each_at, each_map}
-use Rattle.check_core.specs.Known.{Known}
+use Rattle.graph_order.proofs.Lists.{each_map}
 use Rattle.dep_order.specs.Reaching.{KeepsVersions}
-use Rattle.dep_order.specs.Standing.{Numbers, Readings, Stand, AllStand, read_by, AreVertices, AllVertices}
-use Rattle.dep_order.specs.Blocks.{Versions, single, three, readings, Reads, Grown, AddedFor, MadeVersion, IsReady, Followed}
-use Rattle.dep_order.proofs.Versions.{reads_stand, reads_vertices, stand_kept, version_stands, one_version}
+use Rattle.dep_order.specs.Standing.{Numbers, Readings, Stand, AllStand, AreVertices, AllVertices}
+use Rattle.dep_order.specs.Blocks.{single, Reads, Grown, AddedFor, MadeVersion}
+use Rattle.dep_order.proofs.Versions.{stand_kept, version_stands}
 
 pub grown_same : (g : Graph) → Grown g g
 grown_same g = record {
-    longer = omega arith;
-    kept = λ v h. refl;
-    lower = λ v h. subst (EachOf (λ w. w < v)) (sym (get_or_past g v [] h)) tt;
-  }
+  longer = omega arith;
+  kept = λ v h. refl;
+  lower = λ v h. subst (EachOf (λ w. w < v)) (sym (get_or_past g v [] h)) tt;
+}
 
 pub grown_after : (g h k : Graph) → Grown g h → Grown h k → Grown g k
 grown_after g h k a b = record {
-    longer = omega (arith, a.longer, b.longer);
-    kept = λ v i. b.kept v (omega (arith, a.longer)) ∙ a.kept v i;
-    lower = λ v i. elim (cases_lt v (length h)) [
-        inl low ↦ subst (EachOf (λ w. w < v)) (sym (b.kept v low)) (a.lower v i)
-      | inr high ↦ b.lower v high ];
-  }
+  longer = omega (arith, a.longer, b.longer);
+  kept = λ v i. b.kept v (omega (arith, a.longer)) ∙ a.kept v i;
+  lower = λ v i. elim (cases_lt v (length h)) [
+    | inl low ↦ subst (EachOf (λ w. w < v)) (sym (b.kept v low)) (a.lower v i)
+    | inr high ↦ b.lower v high
+  ];
+}
 
 pub grown_graph : (g h : Graph) → IsGraph g → Grown g h → IsGraph h
 grown_graph g h is a v =
     elim (cases_lt v (length g)) [
-      inl low ↦ subst (EachOf (λ w. w < length h)) (sym (a.kept v low)) (each_map (λ w. w < length g) (λ w. w < length h) (next_of g v) (λ w i. omega (arith, a.longer)) (is v))
-    | inr high ↦ elim (cases_lt v (length h)) [
-        inl low ↦ each_map (λ w. w < v) (λ w. w < length h) (next_of h v) (λ w i. omega arith) (a.lower v high)
-      | inr past ↦ subst (EachOf (λ w. w < length h)) (sym (get_or_past h v [] past)) tt ] ]
+      | inl low ↦ subst (EachOf (λ w. w < length h)) (sym (a.kept v low)) (each_map (λ w. w < length g) (λ w. w < length h) (next_of g v) (λ w i. omega (arith, a.longer)) (is v))
+      | inr high ↦ elim (cases_lt v (length h)) [
+        | inl low ↦ each_map (λ w. w < v) (λ w. w < length h) (next_of h v) (λ w i. omega arith) (a.lower v high)
+        | inr past ↦ subst (EachOf (λ w. w < length h)) (sym (get_or_past h v [] past)) tt
+      ]
+    ]
 
 pub grown_keeps : (signals : ℕ) (g h : Graph) → Grown g h → KeepsVersions signals g h
 grown_keeps signals g h a v high low = a.kept v low
 
 pub grown_push : (g : Graph) (vs : List ℕ) → EachOf (λ w. w < length g) vs → Grown g (g ++ vs ∷ [])
 grown_push g vs e = record {
-    longer = omega (arith, length-append g (vs ∷ []));
-    kept = λ v h. get_or_append_left g (vs ∷ []) [] v h;
-    lower = λ v h. elim (cases_eq (length g) v) [
-        inl same ↦ subst (EachOf (λ w. w < v)) (sym (get_or_push g vs [] v same)) (each_map (λ w. w < length g) (λ w. w < v) vs (λ w i. omega arith) e)
-      | inr other ↦ subst (EachOf (λ w. w < v)) (sym (get_or_past (g ++ vs ∷ []) v [] (past_push g vs v h other))) tt ];
-  }
+  longer = omega (arith, length-append g (vs ∷ []));
+  kept = λ v h. get_or_append_left g (vs ∷ []) [] v h;
+  lower = λ v h. elim (cases_eq (length g) v) [
+    | inl same ↦ subst (EachOf (λ w. w < v)) (sym (get_or_push g vs [] v same)) (each_map (λ w. w < length g) (λ w. w < v) vs (λ w i. omega arith) e)
+    | inr other ↦ subst (EachOf (λ w. w < v)) (sym (get_or_past (g ++ vs ∷ []) v [] (past_push g vs v h other))) tt
+  ];
+}
   where
     past_push : (g : Graph) (vs : List ℕ) (v : ℕ) → length g ≤ v → (length g ≡ v → ⊥) → length (g ++ vs ∷ []) ≤ v
     past_push g vs v h n = omega (arith, length-append g (vs ∷ []))
 
 pub push_made : (g h : Graph) (v : ℕ) (vs : List ℕ) → h ≡ g ++ vs ∷ [] → v ≡ length g → AddedFor g h v vs
 push_made g h v vs is at = record {
-    added = omega arith;
-    within = omega (arith, ap length is, length-append g (vs ∷ []));
-    next = ap (λ (k : Graph). next_of k v) is ∙ get_or_push g vs [] v (sym at);
-  }
+  added = omega arith;
+  within = omega (arith, ap length is, length-append g (vs ∷ []));
+  next = ap (λ (k : Graph). next_of k v) is ∙ get_or_push g vs [] v (sym at);
+}
 
 -- ---- what stands for a tree
 
@@ -98,13 +100,13 @@ pub made_kept : (g h k : Graph) (v : Option ℕ) (o : Option (List ℕ)) → Gro
 made_kept g h k None None a m = tt
 made_kept g h k None (Some vs) a m = m
 made_kept g h k (Some v) None a m = m
-made_kept g h k (Some v) (Some vs) a m = record { added = m.added; within = omega (arith, m.within, a.longer); next = a.kept v m.within ∙ m.next; }
+made_kept g h k (Some v) (Some vs) a m = record { added = m.added; within = omega (arith, m.within, a.longer); next = a.kept v m.within ∙ m.next }
 
 pub made_later : (g h k : Graph) (v : Option ℕ) (o : Option (List ℕ)) → Grown g h → MadeVersion h k v o → MadeVersion g k v o
 made_later g h k None None a m = tt
 made_later g h k None (Some vs) a m = m
 made_later g h k (Some v) None a m = m
-made_later g h k (Some v) (Some vs) a m = record { added = omega (arith, m.added, a.longer); within = m.within; next = m.next; }
+made_later g h k (Some v) (Some vs) a m = record { added = omega (arith, m.added, a.longer); within = m.within; next = m.next }
 
 -- ---- what was read
 

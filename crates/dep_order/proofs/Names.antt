@@ -1,25 +1,21 @@
 -- The signals that a block assigns, driven one after another.
-use Rattle.std.proofs.Common.{◌≡◌, ℕ, zero, suc, ◌+◌, ◌<◌, ◌≤◌, ◌==◌, ◌||◌, ◌&&◌, not, Bool, true, false, true≢false, bytes_eq, if◌then◌else◌, List, [], ◌∷◌, ◌++◌, find, take, Option, Some, None, is_some, option_map, option_and_then, length, set, get_or, refl, sym, subst, ap, ap₂, ◌∙◌, ◌⊎◌, inl, inr, arith, map}
+use Rattle.std.proofs.Common.{◌≡◌, ℕ, zero, suc, ◌+◌, ◌<◌, ◌≤◌, ◌==◌, ◌||◌, ◌&&◌, not, Bool, true, false, true≢false, bytes_eq, if◌then◌else◌, List, [], ◌∷◌, ◌++◌, find, take, Option, Some, None, is_some, option_map, option_and_then, length, get_or, refl, sym, subst, ap, ◌∙◌, arith}
 use Rattle.std.specs.Borrow.{Bor}
-use Rattle.std.proofs.lemmas.Bool.{cases_Bool, cases_eq}
 use Rattle.std.proofs.lemmas.List.{take_more, map_push}
 use Rattle.std.proofs.lemmas.Slice.Eq.{bytes_eq-Decides}
 use Rattle.tree_core.specs.Tree.{Tree}
 use Rattle.exec_core.specs.Block.{Name, Now}
 use Rattle.exec_core.specs.Whole.{Place}
-use Rattle.exec_core.specs.Design.{Process, place, moved, same_place, links_to, assigns_to, process_tree, or_else}
-use Rattle.exec_core.proofs.Sources.{same_place-sound}
-use Rattle.design_core.specs.declared.variant.Signal.{Signal}
+use Rattle.exec_core.specs.Design.{Process, place, moved, links_to, assigns_to, process_tree, or_else}
 use Rattle.design_core.specs.Design as design
 use Rattle.design_exec.specs.Processes as processes
-use Rattle.graph_order.specs.Lists.{EachOf, IsIn}
 use Rattle.graph_order.specs.Graphs.{Graph, next_of, IsGraph}
 use Rattle.check_core.specs.Known.{Known, has}
 use Rattle.dep_order.specs.Names.{names_at}
 use Rattle.dep_order.specs.Reaching.{KeepsVersions}
 use Rattle.dep_order.specs.Standing.{Numbers, Stand, StandFor, AreVertices}
 use Rattle.dep_order.specs.Blocks.{Versions, single, owns, end_trees, Grown, EndsStand}
-use Rattle.dep_order.specs.Wiring.{PlaceNumbers, AreNumbers, AreOf, Link, driver_in, is_met, DriverStands, IsWiredAt, IsWired, met_with, driver_with, Drives, DrivesBlock, DrivesName, DrivesNames, KeepsOthers, is_named, met_named, driver_named, BlockIsProcess, LinkIsMet}
+use Rattle.dep_order.specs.Wiring.{PlaceNumbers, AreNumbers, AreOf, Link, DriverStands, IsWired, met_with, driver_with, Drives, DrivesBlock, DrivesName, DrivesNames, KeepsOthers, met_named, driver_named, BlockIsProcess, LinkIsMet}
 use Rattle.dep_order.proofs.Targets.{has_push}
 use Rattle.dep_order.proofs.Versions.{stand_kept}
 use Rattle.dep_order.proofs.Growing.{grown_keeps}
@@ -114,30 +110,31 @@ names_next g h k driven now marked numbers xs x ends is others vs d next signals
     (driver_with (place i x) (option_map (moved i) (trees x)) (met_named i (has xs) met) (driver_named i (has xs) trees met driver) p) (driver_named i (has (xs ++ x ∷ [])) trees met driver p) n
     (driver_push i xs x trees met driver p) (met_push i xs x met p)
     (next signals number (met_named i (has xs) met) (driver_named i (has xs) trees met driver) i (trees x) are of
-     (stand_kept signals g h numbers (option_map single (ends x)) (trees x) is (others_keep signals g h number i numbers are of others) vs (s x (has_push xs x x ∙ last_true (has xs x) (bytes_eq x x) ((bytes_eq-Decides x x).1 refl))))
-     (d signals number met driver i trees are of (λ y m. s y (has_push xs x y ∙ first_true (has xs y) (bytes_eq x y) m)) w) p n e)
+    (stand_kept signals g h numbers (option_map single (ends x)) (trees x) is (others_keep signals g h number i numbers are of others) vs (s x (has_push xs x x ∙ last_true (has xs x) (bytes_eq x x) ((bytes_eq-Decides x x).1 refl))))
+    (d signals number met driver i trees are of (λ y m. s y (has_push xs x y ∙ first_true (has xs y) (bytes_eq x y) m)) w) p n e)
   where
     last_true : (a b : Bool) → b ≡ true → (a || b) ≡ true
     last_true true b e = refl
     last_true false b e = e
+
     first_true : (a b : Bool) → a ≡ true → (a || b) ≡ true
     first_true a b e = ap (λ (c : Bool). c || b) e
 
 pub others_same : (g : Graph) (numbers : Numbers) → IsGraph g → KeepsOthers g g numbers
-others_same g numbers is = record { count = refl; graph = is; kept = λ v h. refl; }
+others_same g numbers is = record { count = refl; graph = is; kept = λ v h. refl }
 
 pub others_after : (g h k : Graph) (numbers : Numbers) → KeepsOthers g h numbers → KeepsOthers h k numbers → KeepsOthers g k numbers
-others_after g h k numbers a b = record { count = b.count ∙ a.count; graph = b.graph; kept = λ v f. b.kept v f ∙ a.kept v f; }
+others_after g h k numbers a b = record { count = b.count ∙ a.count; graph = b.graph; kept = λ v f. b.kept v f ∙ a.kept v f }
 
 -- ---- more versions
 
 pub wired_grown : (signals : ℕ) (number : PlaceNumbers) (g h : Graph) (driven : List Bool) (met : Place → Bool) (driver : Place → Option (Tree Place)) → IsGraph g → Grown g h → signals ≤ length g → AreNumbers signals number →
     IsWired signals number g driven met driver → IsWired signals number h driven met driver
 wired_grown signals number g h driven met driver is a low are w p n e = record {
-    marked = (w p n e).marked;
-    stands = subst (λ (vs : List ℕ). DriverStands signals h number vs (driver p)) (sym (a.kept n (omega (arith, are.below p n e))))
-        (driver_kept signals g h number (next_of g n) (driver p) is (grown_keeps signals g h a) (is n) (w p n e).stands);
-  }
+  marked = (w p n e).marked;
+  stands = subst (λ (vs : List ℕ). DriverStands signals h number vs (driver p)) (sym (a.kept n (omega (arith, are.below p n e))))
+      (driver_kept signals g h number (next_of g n) (driver p) is (grown_keeps signals g h a) (is n) (w p n e).stands);
+}
 
 -- ---- processes
 
@@ -173,12 +170,13 @@ link_none (Some l) e = absurd (true≢false e)
 
 pub block_is_process : BlockIsProcess
 block_is_process links before i signals b p =
-    let c = processes.process i signals b in
-    (ap (λ (u : Option Process). is_some (find (links_to p) links) || is_some u) (find_push (assigns_to p) before c)
-     ∙ process_marked (is_some (find (links_to p) links)) (find (assigns_to p) before) (assigns_to p c) c,
-     ap (λ (u : Option Process). or_else (option_map (λ (link : Link). link.1) (find (links_to p) links)) (option_and_then (process_tree p) u)) (find_push (assigns_to p) before c)
-     ∙ process_picked (option_map (λ (link : Link). link.1) (find (links_to p) links)) (process_tree p) (find (assigns_to p) before) (is_some (find (links_to p) links)) (assigns_to p c) c
-         (none_link (find (links_to p) links)) (link_none (find (links_to p) links)))
+    let c = processes.process i signals b in (
+      ap (λ (u : Option Process). is_some (find (links_to p) links) || is_some u) (find_push (assigns_to p) before c)
+          ∙ process_marked (is_some (find (links_to p) links)) (find (assigns_to p) before) (assigns_to p c) c,
+      ap (λ (u : Option Process). or_else (option_map (λ (link : Link). link.1) (find (links_to p) links)) (option_and_then (process_tree p) u)) (find_push (assigns_to p) before c)
+          ∙ process_picked (option_map (λ (link : Link). link.1) (find (links_to p) links)) (process_tree p) (find (assigns_to p) before) (is_some (find (links_to p) links)) (assigns_to p c) c
+          (none_link (find (links_to p) links)) (link_none (find (links_to p) links)),
+    )
 
 pub link_is_met : LinkIsMet
 link_is_met links q t p = (link_meets links q t p, link_drives links q t p)
@@ -204,5 +202,5 @@ pub block_drives : (g g1 h : Graph) (driven marked : List Bool) (numbers : Numbe
 block_drives g g1 h driven marked numbers b names ends is grown stands same d signals number met driver i low are of w =
     subst (λ (k : Known). IsWired signals number h marked (met_named i k met) (driver_named i k (λ x. end_trees b (Now x)) met driver)) same
     (d signals number met driver i (λ x. end_trees b (Now x)) are of
-     (λ x e. stands signals low (λ y m k. are.below (place i y) m (of y ∙ k)) x (ap (λ (k : Known). k x) (sym same) ∙ e))
-     (wired_grown signals number g g1 driven met driver is grown low are w))
+    (λ x e. stands signals low (λ y m k. are.below (place i y) m (of y ∙ k)) x (ap (λ (k : Known). k x) (sym same) ∙ e))
+    (wired_grown signals number g g1 driven met driver is grown low are w))

@@ -1,18 +1,16 @@
 -- Expressions that read signals alone.
-use Rattle.std.proofs.Common.{◌≡◌, ℕ, ◌<◌, Bool, true, false, List, [], ◌∷◌, ◌++◌, Option, Some, None, length, refl, sym, subst, ap, ap₂, ◌∙◌}
-use Rattle.bv_core.specs.declared.operators.Op2.{Op2}
+use Rattle.std.proofs.Common.{◌≡◌, ℕ, ◌<◌, Bool, List, [], ◌++◌, Option, Some, None, length, refl, sym, subst, ap, ap₂, ◌∙◌}
 use Rattle.tree_core.specs.Tree.{Tree, Const, Leaf, One, Two, Mux}
-use Rattle.exec_core.specs.Block.{Name, Key, Expr, Now, key_name}
+use Rattle.exec_core.specs.Block.{Name, Expr, key_name}
 use Rattle.exec_core.specs.Exec.{Env, on_one, on_two, on_three}
 use Rattle.exec_core.specs.Trees.{tree_in}
-use Rattle.exec_core.specs.Whole.{Place}
 use Rattle.exec_core.specs.Design.{place, moved}
 use Rattle.graph_order.specs.Lists.{EachOf}
 use Rattle.graph_order.specs.Graphs.{Graph}
 use Rattle.check_core.specs.Known.{Known, none}
 use Rattle.dep_order.specs.Standing.{Numbers, Stand, StandFor, AllStand, read_by, AreVertices}
-use Rattle.dep_order.specs.Blocks.{Versions, readings, no_versions, listed, Reads, AreSignals}
-use Rattle.dep_order.specs.Wiring.{PlaceNumbers, AreNumbers, Drives, DrivesBy, AreOf}
+use Rattle.dep_order.specs.Blocks.{Versions, readings, no_versions, Reads, AreSignals}
+use Rattle.dep_order.specs.Wiring.{Drives, DrivesBy}
 use Rattle.dep_order.proofs.Versions.{reads_stand, reads_vertices}
 use Rattle.dep_order.proofs.Blocks.{signal_stands, signal_vertices}
 use Rattle.dep_order.proofs.Wires.{moved_stands}
@@ -46,7 +44,7 @@ plain_stands signals g own number versions e before after told no_own no_version
     was_read signals g number e (read_by e (readings none number no_versions)) before after told empty
     (subst (λ (f : Name → Option (List ℕ)). Reads (read_by e f) before after told) (same_readings own number versions no_own no_version) r)
     (subst (Stand signals g number (read_by e (readings none number no_versions))) (tree_itself e)
-     (reads_stand signals g number (readings none number no_versions) leaves e (plain_all signals g number all)))
+    (reads_stand signals g number (readings none number no_versions) leaves e (plain_all signals g number all)))
 
 some_read : (signals : ℕ) (g : Graph) (number : Numbers) (e : Expr) (o : Option (List ℕ)) → Stand signals g number o (Some e) → o ≡ None → ⊥
 some_read signals g number e None s k = s
@@ -63,8 +61,8 @@ plain_within g own number versions e before after told no_own no_version empty r
     (subst (λ (f : Name → Option (List ℕ)). Reads (read_by e f) before after told) (same_readings own number versions no_own no_version) r)
     (reads_vertices (length g) (readings none number no_versions) e (λ x. signal_vertices (length g) number x (number x) refl all))
     (some_read (length g) g number e (read_by e (readings none number no_versions))
-     (subst (Stand (length g) g number (read_by e (readings none number no_versions))) (tree_itself e)
-      (reads_stand (length g) g number (readings none number no_versions) leaves e (plain_all (length g) g number all))))
+    (subst (Stand (length g) g number (read_by e (readings none number no_versions))) (tree_itself e)
+    (reads_stand (length g) g number (readings none number no_versions) leaves e (plain_all (length g) g number all))))
 
 -- a vertex that is driven by what an expression of an instance reads
 pub drives_by : (g h : Graph) (driven marked : List Bool) (n : ℕ) (numbers : Numbers) (edges : List ℕ) (t : Tree Name) → Drives g driven h marked n edges →
@@ -72,5 +70,5 @@ pub drives_by : (g h : Graph) (driven marked : List Bool) (n : ℕ) (numbers : N
 drives_by g h driven marked n numbers edges t d stands signals number met driver q i are is of w =
     d signals number met driver q (Some (moved i t)) are is
     (moved_stands signals g number i edges t
-     (subst (λ (f : Numbers). StandFor signals g f edges t) (λ j x. sym (of x) j) (stands signals (λ x m e. are.below (place i x) m (of x ∙ e)))))
+    (subst (λ (f : Numbers). StandFor signals g f edges t) (λ j x. sym (of x) j) (stands signals (λ x m e. are.below (place i x) m (of x ∙ e)))))
     w

@@ -1,41 +1,41 @@
 -- What stands for which tree.
-use Rattle.std.proofs.Common.{◌≡◌, ℕ, zero, suc, ◌<◌, ◌≤◌, List, [], ◌∷◌, ◌++◌, ◌⊎◌, inl, inr, Option, Some, None, length, refl, sym, subst, ap, ◌∙◌, arith}
+use Rattle.std.proofs.Common.{◌≡◌, ℕ, ◌<◌, ◌≤◌, List, [], ◌∷◌, ◌++◌, inl, inr, Option, Some, None, length, refl, sym, subst, ap, ◌∙◌}
 use Rattle.bv_core.specs.declared.operators.Op1.{Op1}
 use Rattle.bv_core.specs.declared.operators.Op2.{Op2}
 use Rattle.bv_core.specs.Value.{Bits}
 use Rattle.tree_core.specs.Tree.{Tree, Const, Leaf, One, Two, Mux}
-use Rattle.exec_core.specs.Block.{Name, Expr, Now}
+use Rattle.exec_core.specs.Block.{Name, Expr}
 use Rattle.exec_core.specs.Exec.{Env, on_one, on_two, on_three}
 use Rattle.exec_core.specs.Trees.{tree_in}
 use Rattle.exec_core.specs.Leaves.{EachLeaf}
 use Rattle.exec_core.proofs.Slots.{some_same}
 use Rattle.exec_core.proofs.Wholes.{each_leaf}
-use Rattle.graph_order.specs.Lists.{EachOf, IsIn}
 use Rattle.graph_order.specs.Graphs.{Graph, next_of, IsGraph}
 use Rattle.graph_order.proofs.Lists.{each_at, each_append}
 use Rattle.dep_order.specs.Reaching.{Reaches, ReachedFrom, KeepsVersions}
-use Rattle.dep_order.specs.Standing.{Numbers, Readings, SomeLeaf, StandFor, Stand, AllStand, read_by, AreVertices, AllVertices}
+use Rattle.dep_order.specs.Standing.{Numbers, Readings, StandFor, Stand, AllStand, read_by, AreVertices, AllVertices}
 use Rattle.dep_order.proofs.Walks.{itself, signal_alone, from_version, to_version, reaches_kept, reaches_back, from_left, from_right, from_cases}
 
 -- ---- from leaves up
 
 pub stand_signal : (signals : ℕ) (g : Graph) (number : Numbers) (x : Name) (n : ℕ) → number x ≡ Some n → n < signals → StandFor signals g number (n ∷ []) (Leaf x)
 stand_signal signals g number x n e h = record {
-    leaves = λ m k. let same : n ≡ m = some_same n m (sym e ∙ k) in
-        subst (ReachedFrom signals g (n ∷ [])) same (record { start = n; one_of = inl refl; reaches = itself signals g n h; });
-    nothing_else = λ w r. elim r.one_of [
-        inl is ↦ e ∙ ap (λ (m : ℕ). Some m) (sym is ∙ signal_alone signals g r.start w (subst (λ (m : ℕ). m < signals) (sym is) h) r.reaches)
-      | inr k ↦ absurd k ];
-  }
+  leaves = λ m k. let same : n ≡ m = some_same n m (sym e ∙ k) in
+      subst (ReachedFrom signals g (n ∷ [])) same (record { start = n; one_of = inl refl; reaches = itself signals g n h });
+  nothing_else = λ w r. elim r.one_of [
+    | inl is ↦ e ∙ ap (λ (m : ℕ). Some m) (sym is ∙ signal_alone signals g r.start w (subst (λ (m : ℕ). m < signals) (sym is) h) r.reaches)
+    | inr k ↦ absurd k
+  ];
+}
 
 pub stand_unknown : (signals : ℕ) (g : Graph) (number : Numbers) (x : Name) → number x ≡ None → StandFor signals g number [] (Leaf x)
-stand_unknown signals g number x e = record { leaves = λ m k. cc; nothing_else = λ w r. absurd r.one_of; }
+stand_unknown signals g number x e = record { leaves = λ m k. cc; nothing_else = λ w r. absurd r.one_of }
 
 stand_const : (signals : ℕ) (g : Graph) (number : Numbers) (b : Bits) → StandFor signals g number [] (Const b)
-stand_const signals g number b = record { leaves = tt; nothing_else = λ w r. r.one_of; }
+stand_const signals g number b = record { leaves = tt; nothing_else = λ w r. r.one_of }
 
 stand_one : (signals : ℕ) (g : Graph) (number : Numbers) (vs : List ℕ) (op : Op1) (t : Tree Name) → StandFor signals g number vs t → StandFor signals g number vs (One op t)
-stand_one signals g number vs op t s = record { leaves = s.leaves; nothing_else = s.nothing_else; }
+stand_one signals g number vs op t s = record { leaves = s.leaves; nothing_else = s.nothing_else }
 
 -- more vertices reach more
 more_left : (signals : ℕ) (g : Graph) (number : Numbers) (us vs : List ℕ) (t : Tree Name) → StandFor signals g number us t → EachLeaf (λ x. (n : ℕ) → number x ≡ Some n → ReachedFrom signals g (us ++ vs) n) t
@@ -46,21 +46,23 @@ more_right signals g number us vs t s = each_leaf (λ x f n e. from_right signal
 
 stand_two : (signals : ℕ) (g : Graph) (number : Numbers) (us vs : List ℕ) (op : Op2) (a b : Tree Name) → StandFor signals g number us a → StandFor signals g number vs b → StandFor signals g number (us ++ vs) (Two op a b)
 stand_two signals g number us vs op a b s t = record {
-    leaves = (more_left signals g number us vs a s, more_right signals g number us vs b t);
-    nothing_else = λ w r. elim (from_cases signals g us vs w r) [ inl l ↦ inl (s.nothing_else w l) | inr l ↦ inr (t.nothing_else w l) ];
-  }
+  leaves = (more_left signals g number us vs a s, more_right signals g number us vs b t);
+  nothing_else = λ w r. elim (from_cases signals g us vs w r) [ inl l ↦ inl (s.nothing_else w l) | inr l ↦ inr (t.nothing_else w l) ];
+}
 
 stand_mux : (signals : ℕ) (g : Graph) (number : Numbers) (us vs ws : List ℕ) (c a b : Tree Name) → StandFor signals g number us c → StandFor signals g number vs a → StandFor signals g number ws b →
     StandFor signals g number (us ++ (vs ++ ws)) (Mux c a b)
 stand_mux signals g number us vs ws c a b r s t = record {
-    leaves =
-        (more_left signals g number us (vs ++ ws) c r,
-         each_leaf (λ x f n e. from_right signals g us (vs ++ ws) n (f n e)) a (more_left signals g number vs ws a s),
-         each_leaf (λ x f n e. from_right signals g us (vs ++ ws) n (f n e)) b (more_right signals g number vs ws b t));
-    nothing_else = λ w k. elim (from_cases signals g us (vs ++ ws) w k) [
-        inl l ↦ inl (r.nothing_else w l)
-      | inr l ↦ elim (from_cases signals g vs ws w l) [ inl m ↦ inr (inl (s.nothing_else w m)) | inr m ↦ inr (inr (t.nothing_else w m)) ] ];
-  }
+  leaves = (
+    more_left signals g number us (vs ++ ws) c r,
+    each_leaf (λ x f n e. from_right signals g us (vs ++ ws) n (f n e)) a (more_left signals g number vs ws a s),
+    each_leaf (λ x f n e. from_right signals g us (vs ++ ws) n (f n e)) b (more_right signals g number vs ws b t),
+  );
+  nothing_else = λ w k. elim (from_cases signals g us (vs ++ ws) w k) [
+    | inl l ↦ inl (r.nothing_else w l)
+    | inr l ↦ elim (from_cases signals g vs ws w l) [ inl m ↦ inr (inl (s.nothing_else w m)) | inr m ↦ inr (inr (t.nothing_else w m)) ]
+  ];
+}
 
 -- ---- where there is something
 
@@ -114,9 +116,9 @@ stand_kept signals g h number None None is k w s = tt
 stand_kept signals g h number None (Some t) is k w s = s
 stand_kept signals g h number (Some vs) None is k w s = s
 stand_kept signals g h number (Some vs) (Some t) is k w s = record {
-    leaves = each_leaf (λ x f n e. let r = f n e in record { start = r.start; one_of = r.one_of; reaches = reaches_kept signals g h r.start n k r.reaches; }) t s.leaves;
-    nothing_else = λ n r. s.nothing_else n (record { start = r.start; one_of = r.one_of; reaches = reaches_back signals g h r.start n is k (each_at (λ v. v < length g) r.start vs w r.one_of) r.reaches; });
-  }
+  leaves = each_leaf (λ x f n e. let r = f n e in record { start = r.start; one_of = r.one_of; reaches = reaches_kept signals g h r.start n k r.reaches }) t s.leaves;
+  nothing_else = λ n r. s.nothing_else n (record { start = r.start; one_of = r.one_of; reaches = reaches_back signals g h r.start n is k (each_at (λ v. v < length g) r.start vs w r.one_of) r.reaches });
+}
 
 -- a version of what a list reads, in place of the list
 abbrev pub one_version : ℕ → Option (List ℕ) → Option (List ℕ)
@@ -131,10 +133,11 @@ version_stands signals h number v (Some vs) None high next s = s
 version_stands signals h number v (Some vs) (Some t) high next s =
     let is : next_of h v ≡ vs = next vs refl in
     record {
-      leaves = each_leaf (λ x f n e. record { start = v; one_of = inl refl; reaches = to_version signals h v n high (subst (λ (us : List ℕ). ReachedFrom signals h us n) (sym is) (f n e)); }) t s.leaves;
+      leaves = each_leaf (λ x f n e. record { start = v; one_of = inl refl; reaches = to_version signals h v n high (subst (λ (us : List ℕ). ReachedFrom signals h us n) (sym is) (f n e)) }) t s.leaves;
       nothing_else = λ n r. elim r.one_of [
-          inl same ↦ s.nothing_else n (subst (λ (us : List ℕ). ReachedFrom signals h us n) is (from_version signals h v n high (subst (λ (u : ℕ). Reaches signals h u n) same r.reaches)))
-        | inr k ↦ absurd k ];
+        | inl same ↦ s.nothing_else n (subst (λ (us : List ℕ). ReachedFrom signals h us n) is (from_version signals h v n high (subst (λ (u : ℕ). Reaches signals h u n) same r.reaches)))
+        | inr k ↦ absurd k
+      ];
     }
 
 -- ---- vertices

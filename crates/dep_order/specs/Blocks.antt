@@ -116,7 +116,7 @@ step_set y e trees = put (Now y) (tree_in (processes.tree_of e) trees) trees
 abbrev pub branches : Bool → design.Expr → design.Body → design.Else → Env (Tree Name) → Env (Tree Name)
 branches clocked c first second trees =
     λ y. merged (blocks.body_assigns (processes.body_of clocked first) y || blocks.body_assigns (processes.else_of clocked second) y) (tree_in (processes.tree_of c) trees)
-        (step_in clocked first trees y) (step_else clocked second trees y) (trees y)
+    (step_in clocked first trees y) (step_else clocked second trees y) (trees y)
 
 -- versions for names, one after another
 abbrev pub put_all : List Name → List (Option ℕ) → Versions → Versions

@@ -1,5 +1,5 @@
 -- From signals as vertices to signals as places.
-use Rattle.std.specs.Prelude.{◌≡◌, ℕ, ◌<◌, Bool, true, List, [], ◌∷◌, map, filter, Option, Some, is_some}
+use Rattle.std.specs.Prelude.{◌≡◌, ℕ, ◌<◌, Bool, true, List, map, filter, Some, is_some}
 use Rattle.tree_core.specs.Tree.{Tree}
 use Rattle.exec_core.specs.Whole.{Place, Drivers, IsOrder, OverSignals}
 use Rattle.graph_order.specs.Graphs.{Graph}

@@ -1,5 +1,5 @@
 -- The names that statements assign.
-use Rattle.std.specs.Prelude.{ℕ, Bool, List, [], ◌∷◌, ◌++◌, map, if◌then◌else◌}
+use Rattle.std.specs.Prelude.{Bool, List, [], ◌∷◌, ◌++◌, map, if◌then◌else◌}
 use Rattle.std.specs.Borrow.{Bor}
 use Rattle.exec_core.specs.Block.{Name}
 use Rattle.design_core.specs.Design.{Stmt, Assign, Let, If}

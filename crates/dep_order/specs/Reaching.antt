@@ -2,7 +2,7 @@
 -- statement on.
 use Rattle.std.specs.Prelude.{◌≡◌, ℕ, ◌<◌, ◌≤◌, List, [], ◌∷◌, ◌++◌, ◌⊎◌, length}
 use Rattle.graph_order.specs.Lists.{EachOf, IsIn}
-use Rattle.graph_order.specs.Graphs.{Graph, next_of, HasEdge}
+use Rattle.graph_order.specs.Graphs.{Graph, next_of}
 use Rattle.graph_order.specs.Cycles.{Leads}
 
 -- a walk from v to w through versions alone

@@ -40,7 +40,11 @@ fn put_target<'a>(clocked: bool, names: &mut Vec<&'a [u8]>, stmt: &'a Stmt) -> R
 
 /// The same of statements in order.
 #[tactic(auto, using(crate::proofs::Targets::next_target, crate::proofs::Targets::last_target))]
-fn put_targets<'a>(clocked: bool, names: &mut Vec<&'a [u8]>, stmts: &[&'a Stmt]) -> Result<(), NoMemory>
+fn put_targets<'a>(
+    clocked: bool,
+    names: &mut Vec<&'a [u8]>,
+    stmts: &[&'a Stmt],
+) -> Result<(), NoMemory>
     ensures { OnOk result (names_at names.new.items ≡ adds_targets clocked (names_at names.old.items) (stmts_at stmts.now)) }
 {
     for stmt in stmts {
@@ -50,7 +54,12 @@ fn put_targets<'a>(clocked: bool, names: &mut Vec<&'a [u8]>, stmts: &[&'a Stmt])
 }
 
 /// The same of what an `else` holds, if one stands there.
-fn put_else<'a>(alloc: Global, clocked: bool, names: &mut Vec<&'a [u8]>, no: &'a Option<Vec<Stmt>>) -> Result<(), NoMemory>
+fn put_else<'a>(
+    alloc: Global,
+    clocked: bool,
+    names: &mut Vec<&'a [u8]>,
+    no: &'a Option<Vec<Stmt>>,
+) -> Result<(), NoMemory>
     ensures { OnOk result (names_at names.new.items ≡ adds_targets clocked (names_at names.old.items) (else_statements (else_of no.now))) }
 {
     match no {
@@ -60,7 +69,12 @@ fn put_else<'a>(alloc: Global, clocked: bool, names: &mut Vec<&'a [u8]>, no: &'a
 }
 
 /// Puts the names behind others that a body assigns, with what is inside its statements.
-fn put_body<'a>(alloc: Global, clocked: bool, names: &mut Vec<&'a [u8]>, body: &'a [Stmt]) -> Result<(), NoMemory>
+fn put_body<'a>(
+    alloc: Global,
+    clocked: bool,
+    names: &mut Vec<&'a [u8]>,
+    body: &'a [Stmt],
+) -> Result<(), NoMemory>
     ensures { OnOk result (names_at names.new.items ≡ adds_targets clocked (names_at names.old.items) (the_statements (body_of body.now))) }
 {
     let stmts = statements(alloc, body)?;
@@ -69,7 +83,11 @@ fn put_body<'a>(alloc: Global, clocked: bool, names: &mut Vec<&'a [u8]>, body: &
 }
 
 /// The names that a body assigns by `=` or `let`; an assignment of a clocked block is none.
-pub(crate) fn assigned_in<'a>(alloc: Global, clocked: bool, body: &'a [Stmt]) -> Result<Vec<&'a [u8]>, NoMemory>
+pub(crate) fn assigned_in<'a>(
+    alloc: Global,
+    clocked: bool,
+    body: &'a [Stmt],
+) -> Result<Vec<&'a [u8]>, NoMemory>
     ensures { IfOk result (λ names. has (names_at names.items) ≡ assigned_in clocked (body_of body.now)) }
 {
     let mut names = Vec::new(alloc);

@@ -163,7 +163,15 @@ fn follow_own(
     ensures vertices { OnOk result (EndVertices (length graph.new) (block_of block.now) (version_of versions.new)) }
     ensures stand { OnOk result (EndsStand graph.old graph.new (value_of numbers.now) (block_of block.now) (version_of versions.new)) }
 {
-    follow_body(alloc, graph, block.clocked, own, numbers, versions, &block.body)?;
+    follow_body(
+        alloc,
+        graph,
+        block.clocked,
+        own,
+        numbers,
+        versions,
+        &block.body,
+    )?;
     Ok(())
 }
 

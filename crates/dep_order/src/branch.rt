@@ -11,7 +11,11 @@ use std::alloc::Global;
 use text_core::NoMemory;
 
 /// The versions of names.
-pub(crate) fn versions_of(alloc: Global, versions: &VersionMap, names: &[&[u8]]) -> Result<Vec<Option<u32>>, NoMemory>
+pub(crate) fn versions_of(
+    alloc: Global,
+    versions: &VersionMap,
+    names: &[&[u8]],
+) -> Result<Vec<Option<u32>>, NoMemory>
     ensures { IfOk result (λ saved. saved.items ≡ map (version_of versions.now) (names_at names.now)) }
 {
     let mut saved = Vec::new(alloc);

@@ -95,7 +95,12 @@ impl VersionMap {
     }
 
     /// Gives a name a version, or takes the one that it had.
-    pub(crate) fn set(&mut self, alloc: Global, name: &[u8], version: Option<u32>) -> Result<(), NoMemory>
+    pub(crate) fn set(
+        &mut self,
+        alloc: Global,
+        name: &[u8],
+        version: Option<u32>,
+    ) -> Result<(), NoMemory>
         ensures { OnOk result (version_of self.new ≡ put_version name.now version (version_of self.old)) }
     {
         self.put(alloc, name, version)?;

@@ -14,7 +14,13 @@ use std::alloc::Global;
 use text_core::NoMemory;
 
 /// Puts what a name reads behind the vertices that are there; false, where it is an own name without a version.
-pub(crate) fn read_name(own: &NameSet, numbers: &NumberMap, versions: &VersionMap, name: &[u8], read: &mut Vec<u32>) -> Result<bool, NoMemory>
+pub(crate) fn read_name(
+    own: &NameSet,
+    numbers: &NumberMap,
+    versions: &VersionMap,
+    name: &[u8],
+    read: &mut Vec<u32>,
+) -> Result<bool, NoMemory>
     ensures { IfOk result (Reads (readings (has own.now) (value_of numbers.now) (version_of versions.now) name.now) read.old.items read.new.items) }
 {
     if own.contains(name) {
@@ -31,14 +37,29 @@ pub(crate) fn read_name(own: &NameSet, numbers: &NumberMap, versions: &VersionMa
 }
 
 /// The same of all names that an expression reads.
-pub(crate) fn read_expr(alloc: Global, own: &NameSet, numbers: &NumberMap, versions: &VersionMap, expr: &Expr, read: &mut Vec<u32>) -> Result<bool, NoMemory>
+pub(crate) fn read_expr(
+    alloc: Global,
+    own: &NameSet,
+    numbers: &NumberMap,
+    versions: &VersionMap,
+    expr: &Expr,
+    read: &mut Vec<u32>,
+) -> Result<bool, NoMemory>
     ensures { IfOk result (Reads (read_by (tree_of (expr_of expr.now)) (readings (has own.now) (value_of numbers.now) (version_of versions.now))) read.old.items read.new.items) }
 {
     match expr {
         Expr::Read(name) => read_name(own, numbers, versions, name.bytes(), read),
-        Expr::Out(child, port) => read_name(own, numbers, versions, below(alloc, child.bytes(), port.bytes())?.bytes(), read),
+        Expr::Out(child, port) => read_name(
+            own,
+            numbers,
+            versions,
+            below(alloc, child.bytes(), port.bytes())?.bytes(),
+            read,
+        ),
         Expr::Value(_) => Ok(true),
-        Expr::Un(_, inner) | Expr::Zext(inner, _) | Expr::Slice(inner, _, _) => read_expr(alloc, own, numbers, versions, inner, read),
+        Expr::Un(_, inner) | Expr::Zext(inner, _) | Expr::Slice(inner, _, _) => read_expr(
+            alloc, own, numbers, versions, inner, read,
+        ),
         Expr::Bin(_, left, right) => {
             if !read_expr(alloc, own, numbers, versions, left, read)? {
                 return Ok(false);

@@ -9,7 +9,11 @@ use std::alloc::{AllocError, Global};
 fn signals_in(alloc: Global, signals: u32, vertices: &[u32]) -> Result<Vec<u32>, AllocError>
     ensures { IfOk result (λ kept. kept.items ≡ signals_in signals vertices.now) }
 {
-    vertices.iter().copied().filter(|v| *v < signals).collect(alloc)
+    vertices
+        .iter()
+        .copied()
+        .filter(|v| *v < signals)
+        .collect(alloc)
 }
 
 /// The signals of a graph of signals and versions, each once and after those that are reached from it through versions
@@ -25,7 +29,9 @@ pub fn order_signals(alloc: Global, graph: &Graph, signals: u32) -> Result<Vec<u
 {
     match order_of(alloc, graph) {
         Ok(order) => Ok(signals_in(alloc, signals, &order)?),
-        Err(GraphFault::Cycle(cycle)) => Err(GraphFault::Cycle(signals_in(alloc, signals, &cycle)?)),
+        Err(GraphFault::Cycle(cycle)) => Err(GraphFault::Cycle(signals_in(
+            alloc, signals, &cycle,
+        )?)),
         Err(GraphFault::NoMemory) => Err(GraphFault::NoMemory),
     }
 }

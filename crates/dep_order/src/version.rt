@@ -36,7 +36,12 @@ pub(crate) fn version(
 }
 
 /// A version that reads these three; none, where one of them is missing.
-pub(crate) fn choice(graph: &mut Graph, test: Option<u32>, yes: Option<u32>, no: Option<u32>) -> Result<Option<u32>, NoMemory>
+pub(crate) fn choice(
+    graph: &mut Graph,
+    test: Option<u32>,
+    yes: Option<u32>,
+    no: Option<u32>,
+) -> Result<Option<u32>, NoMemory>
     requires test { AreVertices (length graph.old) (option_map single test) }
     requires yes { AreVertices (length graph.old) (option_map single yes) }
     requires no { AreVertices (length graph.old) (option_map single no) }

@@ -11,10 +11,10 @@ ghost use Rattle.exec_core.specs.Block.{Name};
 ghost use Rattle.design_core.specs.View.{block_of, conn_of, expr_of};
 ghost use Rattle.design_exec.specs.Processes.{tree_of};
 
-use crate::maps::{NumberMap, VersionMap};
-use crate::reading::read_expr;
 use crate::assigned::assigned_in;
 use crate::block::follow_block;
+use crate::maps::{NumberMap, VersionMap};
+use crate::reading::read_expr;
 use check_core::NameSet;
 use design_core::{Block, Conn, Expr};
 use graph_order::Graph;
@@ -22,7 +22,12 @@ use std::alloc::Global;
 use text_core::NoMemory;
 
 /// Gives a signal's vertex these edges, unless its driver was met before.
-pub(crate) fn drive(graph: &mut Graph, driven: &mut [bool], vertex: u32, edges: &[u32]) -> Result<(), NoMemory>
+pub(crate) fn drive(
+    graph: &mut Graph,
+    driven: &mut [bool],
+    vertex: u32,
+    edges: &[u32],
+) -> Result<(), NoMemory>
     requires graph { IsGraph graph.old }
     requires vertex { vertex < length graph.old }
     requires marked { vertex < length driven.old }

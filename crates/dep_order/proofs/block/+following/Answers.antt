@@ -1,5 +1,5 @@
-use Rattle.std.proofs.Common.{◌≡◌, ◌<◌, ◌∙◌, Bool, true, false, ◌||◌, List, ℕ, map, length, sym, subst, ap, arith, rules}
-use Rattle.design_core.specs.View.{body_of, else_of, expr_of, stmt_of}
+use Rattle.std.proofs.Common.{◌≡◌, ◌∙◌, Bool, ◌||◌, length, sym, subst, ap, arith}
+use Rattle.design_core.specs.View.{body_of, else_of, expr_of}
 use Rattle.exec_core.specs.Block.{Name}
 use Rattle.check_core.specs.Known.{Known, either, has}
 use Rattle.check_core.specs.Maps.{value_of}
@@ -12,10 +12,13 @@ use Rattle.dep_order.proofs.block.+following.Goals as goal
 
 pub follow_body-follow_stmt-requires : goal.follow_body-follow_stmt-requires
 follow_body-follow_stmt-requires t c =
-    let i = c.loop-stmt.stmt-index in
-    (omega (arith, size_next c.args.body.now i c.stmt-item.result c.loop-stmt-test.true c.stmt-item.is, c.loop-stmt.invariant.left),
-     (c.loop-stmt.invariant.followed.ready,
-      λ x e. c.requires.own x (assigned_at c.args.clocked c.args.body.now i c.stmt-item.result x c.loop-stmt-test.true c.stmt-item.is e)))
+    let i = c.loop-stmt.stmt-index in (
+      omega (arith, size_next c.args.body.now i c.stmt-item.result c.loop-stmt-test.true c.stmt-item.is, c.loop-stmt.invariant.left),
+      (
+        c.loop-stmt.invariant.followed.ready,
+        λ x e. c.requires.own x (assigned_at c.args.clocked c.args.body.now i c.stmt-item.result x c.loop-stmt-test.true c.stmt-item.is e),
+      ),
+    )
 
 pub follow_body-loop-stmt-preserved : goal.follow_body-loop-stmt-preserved
 follow_body-loop-stmt-preserved t c =
@@ -32,10 +35,13 @@ follow_else-returns-in_ok-follow_body-in-Some t c =
     c.in-Some.is c.deref.ensures.value c.in_ok-follow_body-in-Some.ensures
 
 pub follow_if-follow_body-requires : goal.follow_if-follow_body-requires
-follow_if-follow_body-requires t c =
-    (omega arith,
-     (ready_grown (has c.args.own.now) (value_of c.args.numbers.now) c.args.graph.now c.version.new.graph (version_of c.args.versions.now) c.requires.ready c.in_ok-tested.ensures.grown,
-      λ x e. c.requires.own x (ap (λ (b : Bool). b || assigned_else c.args.clocked (else_of c.args.no.now) x) e)))
+follow_if-follow_body-requires t c = (
+  omega arith,
+  (
+    ready_grown (has c.args.own.now) (value_of c.args.numbers.now) c.args.graph.now c.version.new.graph (version_of c.args.versions.now) c.requires.ready c.in_ok-tested.ensures.grown,
+    λ x e. c.requires.own x (ap (λ (b : Bool). b || assigned_else c.args.clocked (else_of c.args.no.now) x) e),
+  ),
+)
 
 pub follow_if-follow_else-requires : goal.follow_if-follow_else-requires
 follow_if-follow_else-requires t c =
@@ -44,14 +50,17 @@ follow_if-follow_else-requires t c =
     let b = assigned_else c.args.clocked (else_of c.args.no.now) in
     let are : has names ≡ either a b = ap (λ l. has (names_at l)) c.deref-names.ensures.value ∙ c.in_ok-names.ensures in
     let back : version_of c.put_all.new.versions ≡ version_of c.args.versions.now =
-        put_back names c.deref.result.now (version_of c.args.versions.now) (version_of c.follow_body.new.versions) (version_of c.put_all.new.versions)
-        (c.deref.ensures.value ∙ c.in_ok-before.ensures) c.in_ok-put_all.ensures (λ y e. c.in_ok-follow_body.ensures.same y (not_left a b names y are e)) in
-    (omega arith,
-     (ready_same (has c.args.own.now) (value_of c.args.numbers.now) c.follow_body.new.graph (version_of c.args.versions.now) (version_of c.put_all.new.versions) back
-      (ready_grown (has c.args.own.now) (value_of c.args.numbers.now) c.version.new.graph c.follow_body.new.graph (version_of c.args.versions.now)
-       (ready_grown (has c.args.own.now) (value_of c.args.numbers.now) c.args.graph.now c.version.new.graph (version_of c.args.versions.now) c.requires.ready c.in_ok-tested.ensures.grown)
-       c.in_ok-follow_body.ensures.grown),
-      λ x e. c.requires.own x (is_right a b x e)))
+    put_back names c.deref.result.now (version_of c.args.versions.now) (version_of c.follow_body.new.versions) (version_of c.put_all.new.versions)
+    (c.deref.ensures.value ∙ c.in_ok-before.ensures) c.in_ok-put_all.ensures (λ y e. c.in_ok-follow_body.ensures.same y (not_left a b names y are e)) in (
+      omega arith,
+      (
+        ready_same (has c.args.own.now) (value_of c.args.numbers.now) c.follow_body.new.graph (version_of c.args.versions.now) (version_of c.put_all.new.versions) back
+            (ready_grown (has c.args.own.now) (value_of c.args.numbers.now) c.version.new.graph c.follow_body.new.graph (version_of c.args.versions.now)
+            (ready_grown (has c.args.own.now) (value_of c.args.numbers.now) c.args.graph.now c.version.new.graph (version_of c.args.versions.now) c.requires.ready c.in_ok-tested.ensures.grown)
+            c.in_ok-follow_body.ensures.grown),
+        λ x e. c.requires.own x (is_right a b x e),
+      ),
+    )
 
 pub follow_if-merge-requires-clause-first : goal.follow_if-merge-requires-clause-first
 follow_if-merge-requires-clause-first t c =
@@ -85,10 +94,10 @@ follow_if-returns t c =
     let v2 = version_of c.follow_else.new.versions in
     let are : has names ≡ either a b = ap (λ l. has (names_at l)) c.deref-names.ensures.value ∙ c.in_ok-names.ensures in
     let back : version_of c.put_all.new.versions ≡ v0 =
-        put_back names c.deref.result.now v0 v1 (version_of c.put_all.new.versions)
-        (c.deref.ensures.value ∙ c.in_ok-before.ensures) c.in_ok-put_all.ensures (λ y e. c.in_ok-follow_body.ensures.same y (not_left a b names y are e)) in
+    put_back names c.deref.result.now v0 v1 (version_of c.put_all.new.versions)
+    (c.deref.ensures.value ∙ c.in_ok-before.ensures) c.in_ok-put_all.ensures (λ y e. c.in_ok-follow_body.ensures.same y (not_left a b names y are e)) in
     let second : Followed own number c.follow_body.new.graph v0 c.follow_else.new.graph v2 b (step_else c.args.clocked (else_of c.args.no.now)) =
-        subst (λ (v : Versions). Followed own number c.follow_body.new.graph v c.follow_else.new.graph v2 b (step_else c.args.clocked (else_of c.args.no.now))) back c.in_ok-follow_else.ensures in
+    subst (λ (v : Versions). Followed own number c.follow_body.new.graph v c.follow_else.new.graph v2 b (step_else c.args.clocked (else_of c.args.no.now))) back c.in_ok-follow_else.ensures in
     followed_if own number c.args.graph.now c.version.new.graph c.follow_body.new.graph c.follow_else.new.graph c.merge.new.graph v0 v1 v2 (version_of c.merge.new.versions) c.in_ok-tested.tested names c.args.clocked
     (expr_of c.args.test.now) (body_of c.args.yes.now) (else_of c.args.no.now) c.requires.ready c.requires.own are c.in_ok-tested.ensures.grown c.in_ok-tested.ensures.made c.in_ok-follow_body.ensures second
     c.in_ok-merge.ensures.grown
@@ -103,10 +112,13 @@ follow_stmt-set_name-requires-in-Let-clause-own t c = let x : c.bytes-in-Let.res
     ap (has c.args.own.now) x ∙ c.requires.own c.in-Let.name (let_own c.args.clocked c.args.stmt.now _ _ _ _ _ c.in-Let.is)
 
 pub follow_stmt-follow_if-requires : goal.follow_stmt-follow_if-requires
-follow_stmt-follow_if-requires t c =
-    (omega (arith, if_size c.args.stmt.now _ _ _ _ _ c.in-If.no c.deref.result.now c.in-If.is c.deref.ensures.value),
-     (c.requires.ready,
-      λ x e. c.requires.own x (if_assigns c.args.clocked c.args.stmt.now _ _ _ _ _ c.in-If.no c.deref.result.now x c.in-If.is c.deref.ensures.value e)))
+follow_stmt-follow_if-requires t c = (
+  omega (arith, if_size c.args.stmt.now _ _ _ _ _ c.in-If.no c.deref.result.now c.in-If.is c.deref.ensures.value),
+  (
+    c.requires.ready,
+    λ x e. c.requires.own x (if_assigns c.args.clocked c.args.stmt.now _ _ _ _ _ c.in-If.no c.deref.result.now x c.in-If.is c.deref.ensures.value e),
+  ),
+)
 
 pub follow_stmt-returns-in_ok-set_name-in-Assign : goal.follow_stmt-returns-in_ok-set_name-in-Assign
 follow_stmt-returns-in_ok-set_name-in-Assign t c =

@@ -1,4 +1,4 @@
-use Rattle.std.proofs.Common.{◌≡◌, ◌∙◌, Bool, List, sym, subst, ap}
+use Rattle.std.proofs.Common.{◌∙◌, List, sym, subst, ap}
 use Rattle.design_core.specs.declared.statement.Stmt as code_stmt
 use Rattle.design_core.specs.View.{block_of, body_of}
 use Rattle.check_core.specs.Known.{Known, has}
@@ -19,10 +19,10 @@ pub returns-clause-vertices : goal.returns-clause-vertices
 returns-clause-vertices c =
     end_vertices (has c.args.own.now) (value_of c.args.numbers.now) c.args.graph.now c.follow_body.new.graph (version_of c.args.versions.now) (version_of c.follow_body.new.versions) (block_of c.args.block.now) c.requires.own
     (subst (λ (l : List code_stmt.Stmt). Followed (has c.args.own.now) (value_of c.args.numbers.now) c.args.graph.now (version_of c.args.versions.now) c.follow_body.new.graph (version_of c.follow_body.new.versions)
-        (assigned_in c.args.block.now.clocked (body_of l)) (step_in c.args.block.now.clocked (body_of l))) c.deref.ensures.value c.in_ok-follow_body.ensures)
+    (assigned_in c.args.block.now.clocked (body_of l)) (step_in c.args.block.now.clocked (body_of l))) c.deref.ensures.value c.in_ok-follow_body.ensures)
 
 pub returns-clause-stand : goal.returns-clause-stand
 returns-clause-stand c =
     ends_stand (has c.args.own.now) (value_of c.args.numbers.now) c.args.graph.now c.follow_body.new.graph (version_of c.args.versions.now) (version_of c.follow_body.new.versions) (block_of c.args.block.now) c.requires.own c.requires.versions
     (subst (λ (l : List code_stmt.Stmt). Followed (has c.args.own.now) (value_of c.args.numbers.now) c.args.graph.now (version_of c.args.versions.now) c.follow_body.new.graph (version_of c.follow_body.new.versions)
-        (assigned_in c.args.block.now.clocked (body_of l)) (step_in c.args.block.now.clocked (body_of l))) c.deref.ensures.value c.in_ok-follow_body.ensures)
+    (assigned_in c.args.block.now.clocked (body_of l)) (step_in c.args.block.now.clocked (body_of l))) c.deref.ensures.value c.in_ok-follow_body.ensures)

@@ -1,4 +1,4 @@
-use Rattle.std.proofs.Common.{List, Bool, ap, ◌∙◌}
+use Rattle.std.proofs.Common.{List, ap, ◌∙◌}
 use Rattle.design_core.specs.declared.statement.Stmt as code_stmt
 use Rattle.design_core.specs.View.{block_of, body_of}
 use Rattle.check_core.specs.Known.{has}

@@ -1,4 +1,4 @@
-use Rattle.std.proofs.Common.{List, ℕ, ap, ◌∙◌}
+use Rattle.std.proofs.Common.{ap, ◌∙◌}
 use Rattle.dep_order.specs.Signals.{signals_in}
 use Rattle.dep_order.proofs.Contracted.{order_of_signals}
 use Rattle.dep_order.proofs.signals.order_signals.Goals as goal

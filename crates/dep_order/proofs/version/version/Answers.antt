@@ -22,5 +22,5 @@ returns-clause-grown c =
     let r = readings (has c.args.own.now) (value_of c.args.numbers.now) (version_of c.args.versions.now) in
     grown_add c.args.graph.now _ c.deref.result.now
     (subst (EachOf (λ v. v < n)) (sym c.deref.ensures.value)
-     (read_within n _ _ _ _ c.new-read.ensures.items (reads_vertices n r (tree_of (expr_of c.args.expr.now)) c.requires.vertices) c.in_ok-read_expr.ensures c.if-not-branch.false))
+    (read_within n _ _ _ _ c.new-read.ensures.items (reads_vertices n r (tree_of (expr_of c.args.expr.now)) c.requires.vertices) c.in_ok-read_expr.ensures c.if-not-branch.false))
     c.in_ok-vertex.ensures.added

@@ -1,4 +1,4 @@
-use Rattle.std.proofs.Common.{Bool, true, set, sym, subst}
+use Rattle.std.proofs.Common.{true, set, sym, subst}
 use Rattle.graph_order.specs.Graphs.{Graph}
 use Rattle.dep_order.specs.Wiring.{Drives}
 use Rattle.dep_order.proofs.Wires.{drives_new, drives_none}

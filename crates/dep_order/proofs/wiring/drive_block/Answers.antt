@@ -11,12 +11,12 @@ use Rattle.dep_order.proofs.wiring.drive_block.Goals as goal
 pub drive_names-requires-clause-versions : goal.drive_names-requires-clause-versions
 drive_names-requires-clause-versions c x e =
     let same : has (names_at c.deref-2.result.now) ≡ owns (block_of c.args.block.now) =
-        ap (λ l. has (names_at l)) c.deref-2.ensures.value ∙ c.in_ok-names.ensures ∙ ap (λ (l : List code_stmt.Stmt). assigned_in c.args.block.now.clocked (body_of l)) c.deref.ensures.value in
+    ap (λ l. has (names_at l)) c.deref-2.ensures.value ∙ c.in_ok-names.ensures ∙ ap (λ (l : List code_stmt.Stmt). assigned_in c.args.block.now.clocked (body_of l)) c.deref.ensures.value in
     c.in_ok-ends.ensures.vertices x (ap (λ (k : Known). k x) (sym same) ∙ e)
 
 pub returns-clause-drives : goal.returns-clause-drives
 returns-clause-drives c =
     let same : has (names_at c.deref-2.result.now) ≡ owns (block_of c.args.block.now) =
-        ap (λ l. has (names_at l)) c.deref-2.ensures.value ∙ c.in_ok-names.ensures ∙ ap (λ (l : List code_stmt.Stmt). assigned_in c.args.block.now.clocked (body_of l)) c.deref.ensures.value in
+    ap (λ l. has (names_at l)) c.deref-2.ensures.value ∙ c.in_ok-names.ensures ∙ ap (λ (l : List code_stmt.Stmt). assigned_in c.args.block.now.clocked (body_of l)) c.deref.ensures.value in
     block_drives c.args.graph.now c.follow_block.new.graph c.drive_names.new.graph c.args.driven.now c.drive_names.new.driven (value_of c.args.numbers.now) (block_of c.args.block.now) (has (names_at c.deref-2.result.now)) (version_of c.in_ok-ends.ends)
     c.requires.graph c.in_ok-ends.ensures.grown c.in_ok-ends.ensures.stand same c.in_ok-drive_names.ensures.drives

@@ -18,7 +18,7 @@ loop-block-preserved c =
           subst (λ (bs : List design.Block). DrivesBlocks c.args.graph.now c.args.driven.now c.drive_block.new.graph c.drive_block.new.driven (value_of c.args.numbers.now) bs)
           (sym (more_blocks c.args.blocks.now i c.block-item.result c.loop-block-test.true c.block-item.is))
           (blocks_next c.args.graph.now c.loop-block.graph c.drive_block.new.graph c.args.driven.now c.loop-block.driven c.drive_block.new.driven (value_of c.args.numbers.now) (map block_of (take i c.args.blocks.now)) (block_of c.block-item.result)
-           c.loop-block.invariant.longer c.loop-block.invariant.drives c.in_ok-drive_block.ensures.drives);
+          c.loop-block.invariant.longer c.loop-block.invariant.drives c.in_ok-drive_block.ensures.drives);
     }
 
 pub returns-clause-drives : goal.returns-clause-drives

@@ -18,7 +18,7 @@ loop-conn-preserved c =
           subst (λ (cs : List design.Conn). DrivesConns c.args.graph.now c.args.driven.now c.drive_conn.new.graph c.drive_conn.new.driven (value_of c.args.child.now) (value_of c.args.parent.now) cs)
           (sym (more_conns c.args.conns.now i c.conn-item.result c.loop-conn-test.true c.conn-item.is))
           (conns_next c.args.graph.now c.loop-conn.graph c.drive_conn.new.graph c.args.driven.now c.loop-conn.driven c.drive_conn.new.driven (value_of c.args.child.now) (value_of c.args.parent.now) (map conn_of (take i c.args.conns.now)) (conn_of c.conn-item.result)
-           c.loop-conn.invariant.drives c.in_ok-drive_conn.ensures.drives);
+          c.loop-conn.invariant.drives c.in_ok-drive_conn.ensures.drives);
     }
 
 pub returns-clause-drives : goal.returns-clause-drives

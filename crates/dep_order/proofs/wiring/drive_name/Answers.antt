@@ -1,4 +1,4 @@
-use Rattle.std.proofs.Common.{◌≡◌, ◌∷◌, [], ◌∙◌, Option, Some, None, sym, ap, refl}
+use Rattle.std.proofs.Common.{◌≡◌, ◌∷◌, [], ◌∙◌, Some, None, sym, ap, refl}
 use Rattle.exec_core.proofs.Slots.{some_same}
 use Rattle.check_core.specs.Maps.{value_of}
 use Rattle.dep_order.specs.Blocks.{single, version_of}

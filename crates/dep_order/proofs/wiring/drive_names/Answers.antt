@@ -13,9 +13,9 @@ use Rattle.dep_order.proofs.wiring.drive_names.Goals as goal
 
 pub loop-name-init : goal.loop-name-init
 loop-name-init c = record {
-    others = others_same c.args.graph.now (value_of c.args.numbers.now) c.requires.graph;
-    drives = names_none c.args.graph.now c.args.driven.now (value_of c.args.numbers.now) (version_of c.args.ends.now);
-  }
+  others = others_same c.args.graph.now (value_of c.args.numbers.now) c.requires.graph;
+  drives = names_none c.args.graph.now c.args.driven.now (value_of c.args.numbers.now) (version_of c.args.ends.now);
+}
 
 pub drive_name-requires-clause-version : goal.drive_name-requires-clause-version
 drive_name-requires-clause-version c =
@@ -33,7 +33,7 @@ loop-name-preserved c =
           subst (λ (k : List Name). DrivesNames c.args.graph.now c.args.driven.now c.drive_name.new.graph c.drive_name.new.driven (value_of c.args.numbers.now) (has k) (version_of c.args.ends.now))
           (sym (more_names c.args.names.now i _ c.loop-name-test.true))
           (names_next c.args.graph.now c.loop-name.graph c.drive_name.new.graph c.args.driven.now c.loop-name.driven c.drive_name.new.driven (value_of c.args.numbers.now) (names_at (take i c.args.names.now)) _ (version_of c.args.ends.now)
-           c.requires.graph c.loop-name.invariant.others (c.requires.versions _ (name_has c.args.names.now i _ c.loop-name-test.true)) c.loop-name.invariant.drives c.in_ok-drive_name.ensures.drives);
+          c.requires.graph c.loop-name.invariant.others (c.requires.versions _ (name_has c.args.names.now i _ c.loop-name-test.true)) c.loop-name.invariant.drives c.in_ok-drive_name.ensures.drives);
     }
 
 pub returns-clause-drives : goal.returns-clause-drives
