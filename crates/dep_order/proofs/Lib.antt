@@ -11,4 +11,5 @@ mod Plain
 mod Names
 mod Rows
 mod Joining
+mod Sampled
 mod Contracted

@@ -6,3 +6,4 @@ pub mod Signals
 pub mod Wiring
 pub mod Results
 pub mod Joined
+pub mod Samples

@@ -1,4 +1,5 @@
 ghost use Rattle.dep_order.specs.Joined.{CyclesJoin, OrdersJoin};
+ghost use Rattle.dep_order.specs.Samples.{depend_in_a_loop, depends_through_its_test, reaches_through_two_versions, ring_is_a_cycle};
 ghost use Rattle.dep_order.specs.Wiring.{BlockIsProcess, LinkIsMet};
 
 /// What the vertices of a design's signals tell of the signals: an order of them is an order of the driven signals, and a
@@ -12,4 +13,12 @@ pub fn vertices_are_signals()
 pub fn drivers_in_order()
     ensures links { LinkIsMet }
     ensures blocks { BlockIsProcess }
+{}
+
+/// Small graphs and drivers, worked by hand. Computes nothing.
+pub fn loops_of_the_samples()
+    ensures reached { reaches_through_two_versions }
+    ensures cycle { ring_is_a_cycle }
+    ensures itself { depends_through_its_test }
+    ensures others { depend_in_a_loop }
 {}
