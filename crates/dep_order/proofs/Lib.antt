@@ -10,6 +10,7 @@ mod Wires
 mod Plain
 mod Names
 mod Rows
+mod Outputs
 mod Joining
 mod Sampled
 mod Contracted

@@ -1,6 +1,6 @@
 -- The signals of a design as vertices of a graph, each with edges to what its driver reads.
 use Rattle.std.specs.Prelude.{◌≡◌, ℕ, ◌<◌, ◌≤◌, ◌==◌, ◌||◌, ◌&&◌, not, if◌then◌else◌, Bool, true, false, List, [], ◌∷◌, ◌++◌, length, map, find, Option, Some, None, is_some, option_map, option_and_then, slice_index_or}
-use Rattle.tree_core.specs.Tree.{Tree}
+use Rattle.tree_core.specs.Tree.{Tree, Leaf}
 use Rattle.exec_core.specs.Block.{Name, Now}
 use Rattle.exec_core.specs.Whole.{Place}
 use Rattle.exec_core.specs.Design.{Process, place, moved, same_place, links_to, assigns_to, process_tree, or_else}
@@ -147,3 +147,11 @@ DrivesConns g driven h marked of_child of_parent conns =
     AreNumbers signals number → AreOf number i of_parent → AreOf number j of_child →
     IsWired signals number g driven (is_met links []) (driver_in links []) →
     IsWired signals number h marked (is_met (links ++ map (processes.conn_link i j) conns) []) (driver_in (links ++ map (processes.conn_link i j) conns) [])
+
+-- what a call does that drives a signal of an instance by an output of a child, behind links that were met before
+abbrev pub DrivesOutput : Graph → List Bool → Graph → List Bool → Numbers → Numbers → Name → Name → Type 0
+DrivesOutput g driven h marked of_child of_parent x q =
+    (signals : ℕ) (number : PlaceNumbers) (i j : ℕ) (links : List Link) →
+    AreNumbers signals number → AreOf number i of_parent → AreOf number j of_child →
+    IsWired signals number g driven (is_met links []) (driver_in links []) →
+    IsWired signals number h marked (is_met (links ++ (place i x, Leaf (place j q)) ∷ []) []) (driver_in (links ++ (place i x, Leaf (place j q)) ∷ []) [])

@@ -1,7 +1,7 @@
 ghost use Rattle.std.specs.Prelude.{◌≡◌, ◌≢◌, ◌<◌, ◌≤◌, ℕ, length, map, true, option_map, OnOk};
 ghost use Rattle.graph_order.specs.Graphs.{IsGraph, next_of};
 ghost use Rattle.graph_order.specs.Lists.{EachOf};
-ghost use Rattle.dep_order.specs.Wiring.{Drives, DrivesBlock, DrivesBlocks, DrivesBy, DrivesConn, DrivesConns, DrivesName, DrivesNames, KeepsOthers};
+ghost use Rattle.dep_order.specs.Wiring.{Drives, DrivesBlock, DrivesBlocks, DrivesBy, DrivesConn, DrivesConns, DrivesName, DrivesNames, DrivesOutput, KeepsOthers};
 ghost use Rattle.dep_order.specs.Blocks.{AreSignals, single, version_of};
 ghost use Rattle.check_core.specs.Maps.{value_of};
 ghost use Rattle.check_core.specs.Known.{has};
@@ -202,6 +202,33 @@ pub(crate) fn drive_conns(
 {
     for conn in conns {
         drive_conn(alloc, graph, driven, child, parent, conn)?;
+    }
+    Ok(())
+}
+
+/// Drives a signal that is an output of a child by that output, unless its driver was met before.
+pub(crate) fn drive_output(
+    graph: &mut Graph,
+    driven: &mut [bool],
+    child: &NumberMap,
+    parent: &NumberMap,
+    name: &[u8],
+    output: &[u8],
+) -> Result<(), NoMemory>
+    requires graph { IsGraph graph.old }
+    requires parent { AreSignals (length graph.old) (value_of parent.now) }
+    requires child { AreSignals (length graph.old) (value_of child.now) }
+    requires marked { AreSignals (length driven.old) (value_of parent.now) }
+    ensures graph { OnOk result (IsGraph graph.new) }
+    ensures count { length graph.new ≡ length graph.old }
+    ensures drives { OnOk result (DrivesOutput graph.old driven.old graph.new driven.new (value_of child.now) (value_of parent.now) name.now output.now) }
+{
+    let Some(vertex) = parent.get(name) else {
+        return Ok(());
+    };
+    match child.get(output) {
+        Some(source) => drive(graph, driven, vertex, &[source])?,
+        None => drive(graph, driven, vertex, &[])?,
     }
     Ok(())
 }
