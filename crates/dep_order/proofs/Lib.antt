@@ -1,0 +1,16 @@
+mod Walks
+mod Versions
+mod Flattened
+mod Growing
+mod Targets
+mod Branches
+mod Following
+mod Blocks
+mod Wires
+mod Plain
+mod Names
+mod Rows
+mod Outputs
+mod Joining
+mod Sampled
+mod Contracted

@@ -1,0 +1,22 @@
+use Rattle.std.proofs.Common.{◌≡◌, ◌∙◌, List, sym, ap}
+use Rattle.design_core.specs.declared.statement.Stmt as code_stmt
+use Rattle.design_core.specs.View.{block_of, body_of}
+use Rattle.check_core.specs.Known.{Known, has}
+use Rattle.check_core.specs.Maps.{value_of}
+use Rattle.dep_order.specs.Names.{names_at}
+use Rattle.dep_order.specs.Blocks.{assigned_in, owns, version_of}
+use Rattle.dep_order.proofs.Names.{block_drives}
+use Rattle.dep_order.proofs.wiring.drive_block.Goals as goal
+
+pub drive_names-requires-clause-versions : goal.drive_names-requires-clause-versions
+drive_names-requires-clause-versions c x e =
+    let same : has (names_at c.deref-2.result.now) ≡ owns (block_of c.args.block.now) =
+    ap (λ l. has (names_at l)) c.deref-2.ensures.value ∙ c.in_ok-names.ensures ∙ ap (λ (l : List code_stmt.Stmt). assigned_in c.args.block.now.clocked (body_of l)) c.deref.ensures.value in
+    c.in_ok-ends.ensures.vertices x (ap (λ (k : Known). k x) (sym same) ∙ e)
+
+pub returns-clause-drives : goal.returns-clause-drives
+returns-clause-drives c =
+    let same : has (names_at c.deref-2.result.now) ≡ owns (block_of c.args.block.now) =
+    ap (λ l. has (names_at l)) c.deref-2.ensures.value ∙ c.in_ok-names.ensures ∙ ap (λ (l : List code_stmt.Stmt). assigned_in c.args.block.now.clocked (body_of l)) c.deref.ensures.value in
+    block_drives c.args.graph.now c.follow_block.new.graph c.drive_names.new.graph c.args.driven.now c.drive_names.new.driven (value_of c.args.numbers.now) (block_of c.args.block.now) (has (names_at c.deref-2.result.now)) (version_of c.in_ok-ends.ends)
+    c.requires.graph c.in_ok-ends.ensures.grown c.in_ok-ends.ensures.stand same c.in_ok-drive_names.ensures.drives

@@ -1,0 +1,56 @@
+-- Which versions stand for which trees of a block.
+use Rattle.std.specs.Prelude.{◌≡◌, ℕ, ◌<◌, List, [], ◌++◌, ◌⊎◌, Option, Some, None}
+use Rattle.tree_core.specs.Tree.{Tree, Const, Leaf, One, Two, Mux}
+use Rattle.exec_core.specs.Block.{Name, Expr, Now}
+use Rattle.exec_core.specs.Exec.{Env, on_two, on_three}
+use Rattle.exec_core.specs.Leaves.{EachLeaf}
+use Rattle.graph_order.specs.Lists.{EachOf}
+use Rattle.graph_order.specs.Graphs.{Graph}
+use Rattle.dep_order.specs.Reaching.{ReachedFrom}
+
+-- a fact of some leaf
+abbrev pub SomeLeaf : {A : Type 0} → (A → Type 0) → Tree A → Type 0
+SomeLeaf P (Const b) = ⊥
+SomeLeaf P (Leaf x) = P x
+SomeLeaf P (One op a) = SomeLeaf P a
+SomeLeaf P (Two op a b) = SomeLeaf P a ⊎ SomeLeaf P b
+SomeLeaf P (Mux c a b) = SomeLeaf P c ⊎ (SomeLeaf P a ⊎ SomeLeaf P b)
+
+-- the number of each name that is a signal
+abbrev pub Numbers : Type 0
+Numbers = Name → Option ℕ
+
+-- vertices of a graph stand for a tree: from them its leaves are reached through versions alone, those that have a number, and nothing else
+pub record StandFor {A : Type 0} (signals : ℕ) (g : Graph) (number : A → Option ℕ) (vs : List ℕ) (t : Tree A) : Type 0 where
+  pub leaves : EachLeaf (λ x. (n : ℕ) → number x ≡ Some n → ReachedFrom signals g vs n) t
+  pub nothing_else : (w : ℕ) → ReachedFrom signals g vs w → SomeLeaf (λ x. number x ≡ Some w) t
+
+-- a tree, where there is one, with vertices that stand for it
+abbrev pub Stand : ℕ → Graph → Numbers → Option (List ℕ) → Option (Tree Name) → Type 0
+Stand signals g number None None = Unit {0}
+Stand signals g number None (Some t) = ⊥
+Stand signals g number (Some vs) None = ⊥
+Stand signals g number (Some vs) (Some t) = StandFor signals g number vs t
+
+-- what each name reads, if it has something
+abbrev pub Readings : Type 0
+Readings = Name → Option (List ℕ)
+
+abbrev pub AllStand : ℕ → Graph → Numbers → Readings → Env (Tree Name) → Type 0
+AllStand signals g number readings trees = (x : Name) → Stand signals g number (readings x) (trees (Now x))
+
+-- vertices of a graph of n vertices
+abbrev pub AreVertices : ℕ → Option (List ℕ) → Type 0
+AreVertices n None = Unit {0}
+AreVertices n (Some vs) = EachOf (λ v. v < n) vs
+
+abbrev pub AllVertices : ℕ → Readings → Type 0
+AllVertices n readings = (x : Name) → AreVertices n (readings x)
+
+-- what an expression reads, where each name has something
+abbrev pub read_by : Expr → Readings → Option (List ℕ)
+read_by (Const bits) readings = Some []
+read_by (Leaf x) readings = readings x
+read_by (One op a) readings = read_by a readings
+read_by (Two op a b) readings = on_two (λ vs ws. vs ++ ws) (read_by a readings) (read_by b readings)
+read_by (Mux c a b) readings = on_three (λ us vs ws. us ++ (vs ++ ws)) (read_by c readings) (read_by a readings) (read_by b readings)

@@ -1,0 +1,24 @@
+ghost use Rattle.dep_order.specs.Joined.{CyclesJoin, OrdersJoin};
+ghost use Rattle.dep_order.specs.Samples.{depend_in_a_loop, depends_through_its_test, reaches_through_two_versions, ring_is_a_cycle};
+ghost use Rattle.dep_order.specs.Wiring.{BlockIsProcess, LinkIsMet};
+
+/// What the vertices of a design's signals tell of the signals: an order of them is an order of the driven signals, and a
+/// cycle of them is a loop of signals that depend on one another. Computes nothing.
+pub fn vertices_are_signals()
+    ensures orders { OrdersJoin }
+    ensures cycles { CyclesJoin }
+{}
+
+/// A link and a block, put behind those before them, drive what the design that has them drives. Computes nothing.
+pub fn drivers_in_order()
+    ensures links { LinkIsMet }
+    ensures blocks { BlockIsProcess }
+{}
+
+/// Small graphs and drivers, worked by hand. Computes nothing.
+pub fn loops_of_the_samples()
+    ensures reached { reaches_through_two_versions }
+    ensures cycle { ring_is_a_cycle }
+    ensures itself { depends_through_its_test }
+    ensures others { depend_in_a_loop }
+{}

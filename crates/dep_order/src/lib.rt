@@ -1,0 +1,16 @@
+//! The order in which the driven signals of an elaborated design can be computed; or a loop of signals that depend on one
+//! another.
+#![tactic(auto)]
+
+mod assigned;
+mod block;
+mod branch;
+mod laws;
+mod maps;
+mod reading;
+mod signals;
+mod version;
+mod wiring;
+
+pub use laws::{drivers_in_order, loops_of_the_samples, vertices_are_signals};
+pub use signals::order_signals;

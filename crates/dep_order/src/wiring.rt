@@ -1,0 +1,234 @@
+ghost use Rattle.std.specs.Prelude.{◌≡◌, ◌≢◌, ◌<◌, ◌≤◌, ℕ, length, map, true, option_map, OnOk};
+ghost use Rattle.graph_order.specs.Graphs.{IsGraph, next_of};
+ghost use Rattle.graph_order.specs.Lists.{EachOf};
+ghost use Rattle.dep_order.specs.Wiring.{Drives, DrivesBlock, DrivesBlocks, DrivesBy, DrivesConn, DrivesConns, DrivesName, DrivesNames, DrivesOutput, KeepsOthers};
+ghost use Rattle.dep_order.specs.Blocks.{AreSignals, single, version_of};
+ghost use Rattle.check_core.specs.Maps.{value_of};
+ghost use Rattle.check_core.specs.Known.{has};
+ghost use Rattle.dep_order.specs.Names.{names_at};
+ghost use Rattle.dep_order.specs.Standing.{AreVertices};
+ghost use Rattle.exec_core.specs.Block.{Name};
+ghost use Rattle.design_core.specs.View.{block_of, conn_of, expr_of};
+ghost use Rattle.design_exec.specs.Processes.{tree_of};
+
+use crate::assigned::assigned_in;
+use crate::block::follow_block;
+use crate::maps::{NumberMap, VersionMap};
+use crate::reading::read_expr;
+use check_core::NameSet;
+use design_core::{Block, Conn, Expr};
+use graph_order::Graph;
+use std::alloc::Global;
+use text_core::NoMemory;
+
+/// Gives a signal's vertex these edges, unless its driver was met before.
+pub(crate) fn drive(
+    graph: &mut Graph,
+    driven: &mut [bool],
+    vertex: u32,
+    edges: &[u32],
+) -> Result<(), NoMemory>
+    requires graph { IsGraph graph.old }
+    requires vertex { vertex < length graph.old }
+    requires marked { vertex < length driven.old }
+    requires edges { EachOf (λ w. w < length graph.old) edges.now }
+    ensures count { length graph.new ≡ length graph.old }
+    ensures graph { OnOk result (IsGraph graph.new) }
+    ensures others { OnOk result ((v : ℕ) → v ≢ vertex → next_of graph.new v ≡ next_of graph.old v) }
+    ensures drives { OnOk result (Drives graph.old driven.old graph.new driven.new vertex edges.now) }
+{
+    if driven[vertex as usize] {
+        return Ok(());
+    }
+    graph.set(vertex, edges)?;
+    driven[vertex as usize] = true;
+    Ok(())
+}
+
+/// Drives a signal's vertex by an expression over the names of an instance, unless its driver was met before.
+pub(crate) fn drive_by(
+    alloc: Global,
+    graph: &mut Graph,
+    driven: &mut [bool],
+    vertex: u32,
+    numbers: &NumberMap,
+    expr: &Expr,
+) -> Result<(), NoMemory>
+    requires graph { IsGraph graph.old }
+    requires vertex { vertex < length graph.old }
+    requires marked { vertex < length driven.old }
+    requires numbers { AreSignals (length graph.old) (value_of numbers.now) }
+    ensures count { length graph.new ≡ length graph.old }
+    ensures graph { OnOk result (IsGraph graph.new) }
+    ensures drives { OnOk result (DrivesBy graph.old driven.old graph.new driven.new vertex (value_of numbers.now) (tree_of (expr_of expr.now))) }
+{
+    let own = NameSet::new(alloc);
+    let versions = VersionMap::new(alloc);
+    let mut read = Vec::new(alloc);
+    let _ = read_expr(alloc, &own, numbers, &versions, expr, &mut read)?;
+    drive(graph, driven, vertex, &read)?;
+    Ok(())
+}
+
+/// Drives the signal of a name by the version that the name ends with, or by nothing where it has none, unless its driver
+/// was met before. A name without a number is no signal.
+fn drive_name(
+    graph: &mut Graph,
+    driven: &mut [bool],
+    numbers: &NumberMap,
+    ends: &VersionMap,
+    name: &[u8],
+) -> Result<(), NoMemory>
+    requires graph { IsGraph graph.old }
+    requires numbers { AreSignals (length graph.old) (value_of numbers.now) }
+    requires marked { AreSignals (length driven.old) (value_of numbers.now) }
+    requires version { AreVertices (length graph.old) (option_map single (version_of ends.now name.now)) }
+    ensures others { OnOk result (KeepsOthers graph.old graph.new (value_of numbers.now)) }
+    ensures drives { OnOk result (DrivesName graph.old driven.old graph.new driven.new (value_of numbers.now) name.now (version_of ends.now name.now)) }
+{
+    let Some(vertex) = numbers.get(name) else {
+        return Ok(());
+    };
+    match ends.get(name) {
+        Some(version) => drive(graph, driven, vertex, &[version])?,
+        None => drive(graph, driven, vertex, &[])?,
+    }
+    Ok(())
+}
+
+/// The same of names in order.
+fn drive_names(
+    graph: &mut Graph,
+    driven: &mut [bool],
+    numbers: &NumberMap,
+    ends: &VersionMap,
+    names: &[&[u8]],
+) -> Result<(), NoMemory>
+    requires graph { IsGraph graph.old }
+    requires numbers { AreSignals (length graph.old) (value_of numbers.now) }
+    requires marked { AreSignals (length driven.old) (value_of numbers.now) }
+    requires versions { (x : Name) → has (names_at names.now) x ≡ true → AreVertices (length graph.old) (option_map single (version_of ends.now x)) }
+    ensures others { OnOk result (KeepsOthers graph.old graph.new (value_of numbers.now)) }
+    ensures drives { OnOk result (DrivesNames graph.old driven.old graph.new driven.new (value_of numbers.now) (has (names_at names.now)) (version_of ends.now)) }
+{
+    for name in names {
+        drive_name(graph, driven, numbers, ends, name)?;
+    }
+    Ok(())
+}
+
+/// Drives the signals that a block assigns by the versions that it ends with, unless their drivers were met before.
+pub(crate) fn drive_block(
+    alloc: Global,
+    graph: &mut Graph,
+    driven: &mut [bool],
+    numbers: &NumberMap,
+    block: &Block,
+) -> Result<(), NoMemory>
+    requires graph { IsGraph graph.old }
+    requires numbers { AreSignals (length graph.old) (value_of numbers.now) }
+    requires marked { AreSignals (length driven.old) (value_of numbers.now) }
+    ensures graph { OnOk result (IsGraph graph.new) }
+    ensures longer { OnOk result (length graph.old ≤ length graph.new) }
+    ensures drives { OnOk result (DrivesBlock graph.old driven.old graph.new driven.new (value_of numbers.now) (block_of block.now)) }
+{
+    let ends = follow_block(alloc, graph, numbers, block)?;
+    let names = assigned_in(alloc, block.clocked, &block.body)?;
+    drive_names(graph, driven, numbers, &ends, &names)?;
+    Ok(())
+}
+
+/// The same of an instance's blocks in order.
+pub(crate) fn drive_blocks(
+    alloc: Global,
+    graph: &mut Graph,
+    driven: &mut [bool],
+    numbers: &NumberMap,
+    blocks: &[Block],
+) -> Result<(), NoMemory>
+    requires graph { IsGraph graph.old }
+    requires numbers { AreSignals (length graph.old) (value_of numbers.now) }
+    requires marked { AreSignals (length driven.old) (value_of numbers.now) }
+    ensures graph { OnOk result (IsGraph graph.new) }
+    ensures longer { OnOk result (length graph.old ≤ length graph.new) }
+    ensures drives { OnOk result (DrivesBlocks graph.old driven.old graph.new driven.new (value_of numbers.now) (map block_of blocks.now)) }
+{
+    for block in blocks {
+        drive_block(alloc, graph, driven, numbers, block)?;
+    }
+    Ok(())
+}
+
+/// Drives an input of a child by what is connected to it, unless its driver was met before. A port that is no signal of the
+/// child is passed over.
+fn drive_conn(
+    alloc: Global,
+    graph: &mut Graph,
+    driven: &mut [bool],
+    child: &NumberMap,
+    parent: &NumberMap,
+    conn: &Conn,
+) -> Result<(), NoMemory>
+    requires graph { IsGraph graph.old }
+    requires parent { AreSignals (length graph.old) (value_of parent.now) }
+    requires child { AreSignals (length graph.old) (value_of child.now) }
+    requires marked { AreSignals (length driven.old) (value_of child.now) }
+    ensures graph { OnOk result (IsGraph graph.new) }
+    ensures count { length graph.new ≡ length graph.old }
+    ensures drives { OnOk result (DrivesConn graph.old driven.old graph.new driven.new (value_of child.now) (value_of parent.now) (conn_of conn.now)) }
+{
+    match child.get(conn.port.bytes()) {
+        Some(vertex) => drive_by(alloc, graph, driven, vertex, parent, &conn.value),
+        None => Ok(()),
+    }
+}
+
+/// The same of a child's connections in order.
+pub(crate) fn drive_conns(
+    alloc: Global,
+    graph: &mut Graph,
+    driven: &mut [bool],
+    child: &NumberMap,
+    parent: &NumberMap,
+    conns: &[Conn],
+) -> Result<(), NoMemory>
+    requires graph { IsGraph graph.old }
+    requires parent { AreSignals (length graph.old) (value_of parent.now) }
+    requires child { AreSignals (length graph.old) (value_of child.now) }
+    requires marked { AreSignals (length driven.old) (value_of child.now) }
+    ensures graph { OnOk result (IsGraph graph.new) }
+    ensures count { length graph.new ≡ length graph.old }
+    ensures drives { OnOk result (DrivesConns graph.old driven.old graph.new driven.new (value_of child.now) (value_of parent.now) (map conn_of conns.now)) }
+{
+    for conn in conns {
+        drive_conn(alloc, graph, driven, child, parent, conn)?;
+    }
+    Ok(())
+}
+
+/// Drives a signal that is an output of a child by that output, unless its driver was met before.
+pub(crate) fn drive_output(
+    graph: &mut Graph,
+    driven: &mut [bool],
+    child: &NumberMap,
+    parent: &NumberMap,
+    name: &[u8],
+    output: &[u8],
+) -> Result<(), NoMemory>
+    requires graph { IsGraph graph.old }
+    requires parent { AreSignals (length graph.old) (value_of parent.now) }
+    requires child { AreSignals (length graph.old) (value_of child.now) }
+    requires marked { AreSignals (length driven.old) (value_of parent.now) }
+    ensures graph { OnOk result (IsGraph graph.new) }
+    ensures count { length graph.new ≡ length graph.old }
+    ensures drives { OnOk result (DrivesOutput graph.old driven.old graph.new driven.new (value_of child.now) (value_of parent.now) name.now output.now) }
+{
+    let Some(vertex) = parent.get(name) else {
+        return Ok(());
+    };
+    match child.get(output) {
+        Some(source) => drive(graph, driven, vertex, &[source])?,
+        None => drive(graph, driven, vertex, &[])?,
+    }
+    Ok(())
+}

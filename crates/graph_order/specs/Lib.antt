@@ -1,0 +1,8 @@
+pub mod Lists
+pub mod Graphs
+pub mod Orders
+pub mod Cycles
+pub mod Samples
+pub mod Search
+pub mod Faults
+pub mod Flat
