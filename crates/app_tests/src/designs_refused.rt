@@ -1,6 +1,6 @@
 //! Sources that are refused, and the line of each refusal.
 
-use crate::outcome::trail;
+use crate::outcome::{trail, trail_with};
 use crate::worked_example::{SOURCE, STIMULUS, padded};
 use std::alloc::Global;
 use std::test::Fail;
@@ -282,6 +282,32 @@ static NOT_YET: [(&str, &[u8]); 11] = [
     ("an empty module", b"module P { }"),
 ];
 
+/// A loop whose bound is a parameter.
+const LOOP: &[u8] =
+    b"module P(N = 3) {\n  input a : 4;\n  output s : 4;\n  comb { s = 4'h0; for i in 0..N {\n    s = (s + a);\n  } }\n}\n";
+
+/// Arguments of the top of that source, and the line of its refusal.
+static ARGUMENTS: [(&[&str], &str); 9] = [
+    (&["N=4097"], "design fault 7 ElabRange line 4\n"),
+    (&["N=4096"], "design fault 0 NotYet\n"),
+    (&["N=0004097"], "design fault 7 ElabRange line 4\n"),
+    (&["N=-5"], "design fault 0 NotYet\n"),
+    (&["N=-0"], "design fault 0 NotYet\n"),
+    (
+        &["N=4611686018427387904"],
+        "design fault 7 ElabRange line 4\n",
+    ),
+    (&["M=1"], "design fault 6 UnknownParameter line 0 name M\n"),
+    (
+        &["N=1", "N=2"],
+        "design fault 6 UnknownParameter line 0 name N\n",
+    ),
+    (
+        &["M=1", "N=4097"],
+        "design fault 6 UnknownParameter line 0 name M\n",
+    ),
+];
+
 /// Whether a source is refused with the top module `P` by this line, before the stimulus is asked for.
 fn is_refused(alloc: Global, source: &[u8], line: &str) -> Result<bool, NoMemory> {
     let outcome = trail(alloc, source, STIMULUS.as_bytes(), "P")?;
@@ -316,6 +342,16 @@ fn sources_that_are_not_accepted_are_refused_before_the_stimulus_is_asked_for(
     for (why, source) in &NOT_YET {
         let refused = is_refused(rt.alloc(), source, "design fault 0 NotYet\n")?;
         assert!(rt; refused, "{why}");
+    }
+    Ok(())
+}
+
+#[test]
+fn arguments_of_the_top_are_its_parameters(rt: HostRuntime) -> Result<(), Fail> {
+    for (i, (arguments, line)) in ARGUMENTS.iter().enumerate() {
+        let outcome = trail_with(rt.alloc(), LOOP, STIMULUS.as_bytes(), "P", arguments)?;
+        let refused = outcome.is(3, line, &["P.hg"])?;
+        assert!(rt; refused, "case {i}");
     }
     Ok(())
 }

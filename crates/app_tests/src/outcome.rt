@@ -84,7 +84,21 @@ pub(crate) fn trail(
     stimulus: &[u8],
     top: &str,
 ) -> Result<Outcome, NoMemory> {
-    let words = command_of(alloc, top)?;
+    trail_with(alloc, source, stimulus, top, &[])
+}
+
+/// The same with these arguments of the top behind it.
+pub(crate) fn trail_with(
+    alloc: Global,
+    source: &[u8],
+    stimulus: &[u8],
+    top: &str,
+    arguments: &[&str],
+) -> Result<Outcome, NoMemory> {
+    let mut words = command_of(alloc, top)?;
+    for argument in arguments {
+        words.add(argument)?;
+    }
     let source = file_of(alloc, "P.hg", source)?;
     let stimulus = file_of(alloc, "P.stim", stimulus)?;
     let files = files_of(alloc, source, stimulus, &[])?;

@@ -7,7 +7,7 @@ use std::test::Fail;
 use text_core::NoMemory;
 
 /// Words that are no command.
-static NO_COMMANDS: [&[&str]; 12] = [
+static NO_COMMANDS: [&[&str]; 22] = [
     &["trail", "keep"],
     &[],
     &["trail", "keep", "P.hg", "P.stim"],
@@ -20,6 +20,23 @@ static NO_COMMANDS: [&[&str]; 12] = [
     &["trail", "keep", "P.hg", "P.stim", "module"],
     &["trail", "keep", "", "P.stim", "P"],
     &["trail", "keep", "P.hg", "", "P"],
+    &["trail", "keep", "P.hg", "P.stim", "P", "N"],
+    &["trail", "keep", "P.hg", "P.stim", "P", "N="],
+    &["trail", "keep", "P.hg", "P.stim", "P", "N=-"],
+    &["trail", "keep", "P.hg", "P.stim", "P", "N=+1"],
+    &["trail", "keep", "P.hg", "P.stim", "P", "N=1 "],
+    &["trail", "keep", "P.hg", "P.stim", "P", "N=0x1"],
+    &["trail", "keep", "P.hg", "P.stim", "P", "=1"],
+    &["trail", "keep", "P.hg", "P.stim", "P", "for=1"],
+    &[
+        "trail",
+        "keep",
+        "P.hg",
+        "P.stim",
+        "P",
+        "N=4611686018427387905",
+    ],
+    &["trail", "keep", "P.hg", "P.stim", "P", "N=1", "N#0=1"],
 ];
 
 /// Whether words are refused as no command, and no file is asked for.

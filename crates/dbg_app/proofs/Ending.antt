@@ -20,7 +20,7 @@ use Rattle.stim_text.specs.declared.StimFault.TheVariants.{TooLong}
 use Rattle.first_form.specs.Runs.{GivesRows}
 use Rattle.first_form.proofs.RunLemmas.{is_trail}
 use Rattle.first_form.proofs.Fitting.{read_fits}
-use Rattle.dbg_app.specs.Command.{Row}
+use Rattle.dbg_app.specs.Command.{Top, Row}
 use Rattle.dbg_app.specs.declared.design_fault.DesignFault.{DesignFault}
 use Rattle.dbg_app.specs.declared.design_fault.DesignFault.TheVariants.{Text, Elaboration, Check, NotYet}
 use Rattle.dbg_app.specs.Refusals.{refusal_of}
@@ -138,18 +138,18 @@ is_not_yet NotYet = true
 some_one : {A : Type 0} (o : Option A) (x y : A) → o ≡ Some x → o ≡ Some y → x ≡ y
 some_one o x y p q = let both : Some x ≡ Some y = sym p ∙ q in cc
 
-one_design : (top source : List ℕ) (a b : Module) → IsDesign top source a → IsDesign top source b → a ≡ b
+one_design : (top : Top) (source : List ℕ) (a b : Module) → IsDesign top source a → IsDesign top source b → a ≡ b
 one_design top source a b p q = same_form a b (one_reading source _ _ p.reads q.reads)
 
-form_of : (top source : List ℕ) (tree : Module) → IsDesign top source tree → is_form tree ≡ true
-form_of top source tree d = second (bytes_eq tree.name top) (is_form tree) d.form
+form_of : (top : Top) (source : List ℕ) (tree : Module) → IsDesign top source tree → is_form tree ≡ true
+form_of top source tree d = second (bytes_eq tree.name top.name) (is_form tree) d.form
   where
     second : (a b : Bool) → (a && b) ≡ true → b ≡ true
     second true b e = e
     second false b e = absurd cc
 
 -- a text that is a design is refused for no cause
-no_cause : (top source : List ℕ) (tree : Module) (fault : DesignFault) → IsDesign top source tree → IsDesignCause top source fault → ⊥
+no_cause : (top : Top) (source : List ℕ) (tree : Module) (fault : DesignFault) → IsDesign top source tree → IsDesignCause top source fault → ⊥
 no_cause top source tree (Text fault) design c = c.1 (no_fault source (wide_module tree ∷ []) fault design.reads c.0)
 no_cause top source tree (Elaboration fault) design c =
     let none : refusal_of c.modules top ≡ None = subst (λ ms. refusal_of ms top ≡ None) (one_reading source _ _ design.reads c.reads) design.accepted in
@@ -160,7 +160,7 @@ no_cause top source tree (Check fault) design c =
 no_cause top source tree NotYet design c = c.refuses.1 tree (one_reading source _ _ c.reads design.reads) design.form
 
 -- modules are refused for one thing
-the_refusal : (top : List ℕ) (modules : List wide.Module) (fault : DesignFault) → Refuses top modules fault → refusal_of modules top ≡ (if is_not_yet fault then None else Some fault)
+the_refusal : (top : Top) (modules : List wide.Module) (fault : DesignFault) → Refuses top modules fault → refusal_of modules top ≡ (if is_not_yet fault then None else Some fault)
 the_refusal top modules (Text fault) r = absurd r
 the_refusal top modules (Elaboration fault) r = r
 the_refusal top modules (Check fault) r = r
@@ -184,13 +184,13 @@ same_refusal (Check a) (Text b) e = cc
 same_refusal (Check a) (Elaboration b) e = cc
 same_refusal (Check a) (Check b) e = cc
 
-one_refused : (top source : List ℕ) (a b : DesignFault) → ReadsRefused top source a → ReadsRefused top source b → a ≡ b
+one_refused : (top : Top) (source : List ℕ) (a b : DesignFault) → ReadsRefused top source a → ReadsRefused top source b → a ≡ b
 one_refused top source a b p q =
     let modules : p.modules ≡ q.modules = one_reading source _ _ p.reads q.reads in
     same_refusal a b (sym (the_refusal top p.modules a p.refuses) ∙ ap (λ ms. refusal_of ms top) modules ∙ the_refusal top q.modules b q.refuses)
 
 -- a text is refused for one cause
-one_cause : (top source : List ℕ) (a b : DesignFault) → IsDesignCause top source a → IsDesignCause top source b → a ≡ b
+one_cause : (top : Top) (source : List ℕ) (a b : DesignFault) → IsDesignCause top source a → IsDesignCause top source b → a ≡ b
 one_cause top source (Text a) (Text b) p q = ap Text (one_fault source a b p.0 q.0 p.1 q.1)
 one_cause top source (Text a) (Elaboration b) p q = absurd (p.1 (no_fault source q.modules a q.reads p.0))
 one_cause top source (Text a) (Check b) p q = absurd (p.1 (no_fault source q.modules a q.reads p.0))

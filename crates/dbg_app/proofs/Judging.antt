@@ -14,7 +14,7 @@ use Rattle.stim_text.specs.Rows.{Gives}
 use Rattle.stim_text.specs.Stimulus.{Stimulus}
 use Rattle.stim_text.specs.declared.StimFault.{StimFault}
 use Rattle.stim_text.specs.declared.StimFault.TheVariants.{HeaderMismatch, BadRow, DoesNotFit, TooLong, NoMemory}
-use Rattle.dbg_app.specs.Command.{Row}
+use Rattle.dbg_app.specs.Command.{Top, Row}
 use Rattle.exec_core.specs.Whole.{Place}
 use Rattle.design_core.specs.TrailText.{trail_text}
 use Rattle.first_form.specs.Elaborated.{design_of}
@@ -51,13 +51,13 @@ accepted top modules tree (Ok o) are e = accepted_by (is_first_form top tree) to
 accepted top modules tree (Err fault) are e = tt
 
 -- modules that are refused for nothing else were judged by their form
-pub formed_so : (top : List ℕ) (modules : List wide.Module) (found : Option Module) → refusal_of modules top ≡ None → IsOneOrNone top modules found → IsAcceptedOrNot top modules (ok_or found NotYet)
+pub formed_so : (top : Top) (modules : List wide.Module) (found : Option Module) → refusal_of modules top ≡ None → IsOneOrNone top.name modules found → IsAcceptedOrNot top modules (ok_or found NotYet)
 formed_so top modules (Some tree) clean one = record { accepted = clean; one = one }
 formed_so top modules None clean none = (clean, λ tree are form. none tree (record { are = are; form = form }))
 
 -- modules that are refused were judged so
-pub refused_so : (top : List ℕ) (modules : List wide.Module) (fault : DesignFault) → refusal_of modules top ≡ Some fault → Refuses top modules fault
-refused_so top modules fault is = by_result (elaborated modules top []) fault is is
+pub refused_so : (top : Top) (modules : List wide.Module) (fault : DesignFault) → refusal_of modules top ≡ Some fault → Refuses top modules fault
+refused_so top modules fault is = by_result (elaborated modules top.name top.given) fault is is
   where
     by_verdict : (found : Option CheckFault) (fault : DesignFault) → option_map (λ f. Check f) found ≡ Some fault → refusal_of modules top ≡ Some fault → Refuses top modules fault
     by_verdict None fault e is = absurd (let no : None ≡ Some fault = e in cc)
@@ -74,7 +74,7 @@ refused_so top modules fault is = by_result (elaborated modules top []) fault is
     by_result (Err f) NotYet e is = absurd (let no : Some (Elaboration (told_fault f)) ≡ Some NotYet = e in cc)
 
 -- a text that is read as these modules was judged as they are
-pub read_so : (top source : List ℕ) (modules : List wide.Module) (found : Result Module DesignFault) → Reads source modules → IsAcceptedOrNot top modules found → IsDesignOrNot top source found
+pub read_so : (top : Top) (source : List ℕ) (modules : List wide.Module) (found : Result Module DesignFault) → Reads source modules → IsAcceptedOrNot top modules found → IsDesignOrNot top source found
 read_so top source modules (Ok tree) reads is = record {
   reads = subst (λ (ms : List wide.Module). Reads source ms) is.one.are reads;
   accepted = subst (λ (ms : List wide.Module). refusal_of ms top ≡ None) is.one.are is.accepted;

@@ -21,7 +21,7 @@ use Rattle.first_form.specs.Runs.{GivesRows}
 use Rattle.dbg_app.specs.declared.design_fault.DesignFault.{DesignFault}
 use Rattle.dbg_app.specs.declared.design_fault.DesignFault.TheVariants.{Text, Elaboration, Check, NotYet}
 use Rattle.dbg_app.specs.Refusals.{elab_fault, check_fault, refusal_of}
-use Rattle.dbg_app.specs.Command.{Row}
+use Rattle.dbg_app.specs.Command.{Top, Row}
 
 -- a status, and the text that goes with it
 pub record Answer : Type 0 where
@@ -60,27 +60,27 @@ abbrev pub Contents : Type 0
 Contents = List ℕ → Option (List ℕ)
 
 -- the text is a source of the first form, whose module this is, and its design is accepted
-pub record IsDesign (top source : List ℕ) (tree : Module) : Type 0 where
+pub record IsDesign (top : Top) (source : List ℕ) (tree : Module) : Type 0 where
   pub reads : Reads source (wide_module tree ∷ [])
   pub accepted : refusal_of (wide_module tree ∷ []) top ≡ None
-  pub form : is_first_form top tree ≡ true
+  pub form : is_first_form top.name tree ≡ true
 
 -- why modules that were read are no design: their top is not elaborated, or its design is not accepted, for this cause; or it is
 -- accepted, and they are no module of the first form with this name
-abbrev pub Refuses : List ℕ → List wide.Module → DesignFault → Type 0
+abbrev pub Refuses : Top → List wide.Module → DesignFault → Type 0
 Refuses top modules (Text fault) = ⊥
 Refuses top modules (Elaboration fault) = refusal_of modules top ≡ Some (Elaboration fault)
 Refuses top modules (Check fault) = refusal_of modules top ≡ Some (Check fault)
-Refuses top modules NotYet = (refusal_of modules top ≡ None) × ((tree : Module) → modules ≡ wide_module tree ∷ [] → is_first_form top tree ≡ true → ⊥)
+Refuses top modules NotYet = (refusal_of modules top ≡ None) × ((tree : Module) → modules ≡ wide_module tree ∷ [] → is_first_form top.name tree ≡ true → ⊥)
 
 -- a text is read as modules that are refused so
-pub record ReadsRefused (top source : List ℕ) (fault : DesignFault) : Type 0 where
+pub record ReadsRefused (top : Top) (source : List ℕ) (fault : DesignFault) : Type 0 where
   pub modules : List wide.Module
   pub reads : Reads source modules
   pub refuses : Refuses top modules fault
 
 -- why a text is no design: it is not read for this cause; or it is read, and refused so
-abbrev pub IsDesignCause : List ℕ → List ℕ → DesignFault → Type 0
+abbrev pub IsDesignCause : Top → List ℕ → DesignFault → Type 0
 IsDesignCause top source (Text fault) = IsCause source fault × (fault ≢ text_faults.NoMemory)
 IsDesignCause top source (Elaboration fault) = ReadsRefused top source (Elaboration fault)
 IsDesignCause top source (Check fault) = ReadsRefused top source (Check fault)

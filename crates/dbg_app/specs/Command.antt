@@ -1,23 +1,69 @@
 -- The words of the program.
-use Rattle.std.specs.Prelude.{ℕ, not, List, [], ◌∷◌, Option, Some, None, codes, if◌then◌else◌, ◌&&◌}
+use Rattle.std.specs.Prelude.{ℕ, ◌+◌, ◌==◌, ℤ, pos, ◌-ℤ◌, Bool, false, not, List, [], ◌∷◌, length, take, drop, map, Option, Some, None, option_map, is_some, codes, if◌then◌else◌, ◌&&◌, nat_le, nat_lt}
+use Rattle.std.specs.List.{list_all, prefix_len, filter_map}
 use Rattle.std.specs.Str.{bytes_eq}
+use Rattle.text_core.specs.Digits.{is_digit_of, number_of}
 use Rattle.gen_token.specs.Spelling.{is_name}
+use Rattle.design_core.specs.Design.{Gens}
+use Rattle.exec_core.specs.Block.{Name}
 
--- a command `trail keep SRC STIM TOP`
+-- ---- an argument NAME=N of the top
+
+-- decimal digits, at least one, of a number up to 2^62
+abbrev pub natural_of : List ℕ → Option ℕ
+natural_of digits =
+    if not (bytes_eq digits []) && prefix_len (is_digit_of 10) digits == length digits && nat_le (number_of 10 digits) 4611686018427387904 then Some (number_of 10 digits) else None
+
+abbrev pub negative : ℕ → ℤ
+negative n = pos 0 -ℤ pos n
+
+abbrev pub has_minus : List ℕ → Bool
+has_minus [] = false
+has_minus (byte ∷ digits) = byte == 45
+
+-- digits, with a minus or without
+abbrev pub whole_of : List ℕ → Option ℤ
+whole_of digits = if has_minus digits then option_map negative (natural_of (drop 1 digits)) else option_map pos (natural_of digits)
+
+-- how many bytes stand before the first equals sign
+abbrev pub no_equals : ℕ → Bool
+no_equals byte = not (byte == 61)
+
+abbrev pub name_len : List ℕ → ℕ
+name_len word = prefix_len no_equals word
+
+-- a name of the language, an equals sign and a number
+abbrev pub argument_of : List ℕ → Option (Name × ℤ)
+argument_of word =
+    if nat_lt (name_len word) (length word) && is_name (take (name_len word) word) then
+    option_map (λ number. (take (name_len word) word, number)) (whole_of (drop (name_len word + 1) word)) else None
+
+abbrev pub is_argument : List ℕ → Bool
+is_argument word = is_some (argument_of word)
+
+-- ---- commands
+
+-- a module and what it is given
+pub record Top : Type 0 where
+  pub name : List ℕ
+  pub given : Gens
+
+-- a command `trail keep SRC STIM TOP [NAME=N]..`
 pub record Row : Type 0 where
   pub source : List ℕ
   pub stimulus : List ℕ
-  pub top : List ℕ
+  pub top : Top
 
--- the files are any words that are not empty, and TOP is a name of the language
-abbrev pub trail_row : List ℕ → List ℕ → List ℕ → Option Row
-trail_row source stimulus top =
-    if not (bytes_eq source []) && not (bytes_eq stimulus []) && is_name top then Some (record { source = source; stimulus = stimulus; top = top }) else None
+-- the files are any words that are not empty, TOP is a name of the language, and the rest are at most 64 arguments
+abbrev pub trail_row : List ℕ → List ℕ → List ℕ → List (List ℕ) → Option Row
+trail_row source stimulus top rest =
+    if not (bytes_eq source []) && not (bytes_eq stimulus []) && is_name top && nat_le (length rest) 64 && list_all is_argument rest then
+    Some (record { source = source; stimulus = stimulus; top = record { name = top; given = filter_map argument_of rest } }) else None
 
 -- the command that the words are, if they are one
 abbrev pub row_of : List (List ℕ) → Option Row
-row_of (command ∷ mode ∷ source ∷ stimulus ∷ top ∷ []) =
-    if bytes_eq command (codes "trail") && bytes_eq mode (codes "keep") then trail_row source stimulus top else None
+row_of (command ∷ mode ∷ source ∷ stimulus ∷ top ∷ rest) =
+    if bytes_eq command (codes "trail") && bytes_eq mode (codes "keep") then trail_row source stimulus top rest else None
 row_of words = None
 
 -- the names of the files, in the order of the words

@@ -17,7 +17,7 @@ use Rattle.stim_text.specs.Rows.{rows_of}
 use Rattle.stim_text.specs.Stimulus.{Stimulus, IsStimulus}
 use Rattle.stim_text.specs.declared.StimFault.{StimFault}
 use Rattle.stim_text.specs.declared.StimFault.TheVariants.{NoMemory}
-use Rattle.dbg_app.specs.Command.{Row}
+use Rattle.dbg_app.specs.Command.{Top, Row}
 use Rattle.dbg_app.specs.Refusals.{is_no_memory, refusal_of}
 use Rattle.dbg_app.specs.declared.design_fault.DesignFault.{DesignFault}
 use Rattle.dbg_app.specs.Answers.{Contents, Asks, IsDesign, IsDesignCause, Refuses, usage_fault, design_fault, stimulus_fault}
@@ -40,16 +40,16 @@ IsOneOrNone top modules (Some tree) = IsOne top modules tree
 IsOneOrNone top modules None = (tree : Module) → IsOne top modules tree → ⊥
 
 -- these modules are a design that is accepted, and this module of the first form; or they are refused
-pub record IsAccepted (top : List ℕ) (modules : List wide.Module) (tree : Module) : Type 0 where
+pub record IsAccepted (top : Top) (modules : List wide.Module) (tree : Module) : Type 0 where
   pub accepted : refusal_of modules top ≡ None
-  pub one : IsOne top modules tree
+  pub one : IsOne top.name modules tree
 
-abbrev pub IsAcceptedOrNot : List ℕ → List wide.Module → Result Module DesignFault → Type 0
+abbrev pub IsAcceptedOrNot : Top → List wide.Module → Result Module DesignFault → Type 0
 IsAcceptedOrNot top modules (Ok tree) = IsAccepted top modules tree
 IsAcceptedOrNot top modules (Err fault) = Refuses top modules fault
 
 -- the text is this design, or it is refused
-abbrev pub IsDesignOrNot : List ℕ → List ℕ → Result Module DesignFault → Type 0
+abbrev pub IsDesignOrNot : Top → List ℕ → Result Module DesignFault → Type 0
 IsDesignOrNot top source (Ok tree) = IsDesign top source tree
 IsDesignOrNot top source (Err fault) = IsDesignCause top source fault
 
@@ -59,7 +59,7 @@ HasLine (Ok tree) = Unit {0}
 HasLine (Err fault) = is_no_memory fault ≡ false
 
 -- a source was judged
-abbrev pub JudgesSource : Option (List ℕ) → List ℕ → Result Module DesignFault → Type 0
+abbrev pub JudgesSource : Option (List ℕ) → Top → Result Module DesignFault → Type 0
 JudgesSource file top found = (source : List ℕ) × (file ≡ Some source) × IsDesignOrNot top source found
 
 -- a text was judged: it has these rows, or it is refused

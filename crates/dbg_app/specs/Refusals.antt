@@ -16,6 +16,7 @@ use Rattle.check_core.specs.declared.fault.CheckFault.{CheckFault}
 use Rattle.check_core.specs.declared.fault.CheckFault.TheVariants as check_faults
 use Rattle.check_core.specs.Faults as check_results
 use Rattle.check_core.specs.Verdict.{verdict}
+use Rattle.dbg_app.specs.Command.{Top}
 use Rattle.dbg_app.specs.declared.design_fault.DesignFault.{DesignFault}
 use Rattle.dbg_app.specs.declared.design_fault.DesignFault.TheVariants.{Text, Elaboration, Check, NotYet}
 
@@ -34,9 +35,9 @@ abbrev pub refusal_after : Result Design walk.Fault → Option DesignFault
 refusal_after (Ok d) = option_map (λ fault. Check fault) (verdict d)
 refusal_after (Err fault) = Some (Elaboration (told_fault fault))
 
--- the first refusal of the design of these modules from their top, without parameters
-abbrev pub refusal_of : List wide.Module → List ℕ → Option DesignFault
-refusal_of modules top = refusal_after (elaborated modules top [])
+-- the first refusal of the design of these modules from their top with what it is given
+abbrev pub refusal_of : List wide.Module → Top → Option DesignFault
+refusal_of modules top = refusal_after (elaborated modules top.name top.given)
 
 -- all but want of memory
 abbrev pub is_no_memory : DesignFault → Bool

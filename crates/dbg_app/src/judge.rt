@@ -15,6 +15,7 @@ ghost use Rattle.dbg_app.specs.declared.design_fault.DesignFault.TheVariants.{Ch
 ghost use Rattle.dbg_app.specs.Judged.{IsOneOrNone, IsAcceptedOrNot, IsDesignOrNot, HasLine, Finds, JudgesSource, JudgesText, IsWhole, JudgesStimulus, HasRows, JudgesRow, judged_status};
 ghost use Rattle.dbg_app.specs.Outcome.{is_status};
 
+use crate::arguments::given_in;
 use crate::row::{Row, read_row};
 use crate::{DesignFault, Stop};
 use check_core::CheckFault;
@@ -108,13 +109,17 @@ fn check_refusal(alloc: Global, design: &Design) -> Result<Option<DesignFault>, 
 }
 
 /// Why the design of a source that was read is refused, if it is: elaboration goes before the checks.
-fn refusal_of(alloc: Global, source: &Source, top: &[u8]) -> Result<Option<DesignFault>, NoMemory>
+fn refusal_of(
+    alloc: Global,
+    source: &Source,
+    top: &[u8],
+    given: &Given,
+) -> Result<Option<DesignFault>, NoMemory>
     requires { IsReadFromText (source_of source.now) }
-    ensures refusal { IfOk result (λ refusal. refusal ≡ the_refusal_of (source_of source.now) top.now) }
+    ensures refusal { IfOk result (λ refusal. refusal ≡ the_refusal_of (source_of source.now) (record { name = top.now; given = given.now })) }
     ensures line { IfOk result (λ refusal. IfSome refusal (λ fault. is_no_memory fault ≡ false)) }
 {
-    let given = Given::new(alloc);
-    match elaborate(alloc, source, top, &given) {
+    match elaborate(alloc, source, top, given) {
         Ok(design) => check_refusal(alloc, &design),
         Err(ElabFault::NoMemory) => Err(NoMemory),
         Err(fault) => Ok(Some(DesignFault::Elaboration(fault))),
@@ -126,12 +131,13 @@ fn accepted_of(
     alloc: Global,
     source: &Source,
     top: &[u8],
+    given: &Given,
 ) -> Result<Result<FirstForm, DesignFault>, NoMemory>
     requires { IsReadFromText (source_of source.now) }
-    ensures design { IfOk result (IsAcceptedOrNot top.now (source_of source.now)) }
+    ensures design { IfOk result (IsAcceptedOrNot (record { name = top.now; given = given.now }) (source_of source.now)) }
     ensures line { IfOk result HasLine }
 {
-    match refusal_of(alloc, source, top)? {
+    match refusal_of(alloc, source, top, given)? {
         Some(fault) => Ok(Err(fault)),
         None => Ok(form_of(alloc, source, top)?.ok_or(DesignFault::NotYet)),
     }
@@ -142,14 +148,15 @@ fn design_of(
     alloc: Global,
     source: &[u8],
     top: &[u8],
+    given: &Given,
 ) -> Result<Result<FirstForm, DesignFault>, Stop>
-    ensures design { IfOk result (IsDesignOrNot top.now source.now) }
+    ensures design { IfOk result (IsDesignOrNot (record { name = top.now; given = given.now }) source.now) }
     ensures line { IfOk result HasLine }
     ensures no_read { IsErrOf result Stop.ReadFault → ⊥ }
     ensures no_write { IsErrOf result Stop.WriteFault → ⊥ }
 {
     match read_source(alloc, source) {
-        Ok(tree) => Ok(accepted_of(alloc, &tree, top)?),
+        Ok(tree) => Ok(accepted_of(alloc, &tree, top, given)?),
         Err(TextFault::NoMemory) => Err(Stop::NoMemory),
         Err(fault) => Ok(Err(DesignFault::Text(fault))),
     }
@@ -161,7 +168,7 @@ fn judge_source<F: Files>(
     row: &Row<'_>,
     files: &mut F,
 ) -> Result<Result<FirstForm, DesignFault>, Stop>
-    ensures judged { IfOk result (λ found. IfSome (F.told files.old) (λ told. JudgesSource (told row.now.source.now) row.now.top.now found)) }
+    ensures judged { IfOk result (λ found. IfSome (F.told files.old) (λ told. JudgesSource (told row.now.source.now) (row_as row.now).top found)) }
     ensures line { IfOk result HasLine }
     ensures same { F.told files.new ≡ F.told files.old }
     ensures asked { OnOk result (Appends (F.asked files.old) (F.asked files.new) (row.now.source.now ∷ [])) }
@@ -170,8 +177,9 @@ fn judge_source<F: Files>(
     ensures no_write { IsErrOf result Stop.WriteFault → ⊥ }
     ensures later { F.fault_count files.old ≤ F.fault_count files.new }
 {
+    let given = given_in(alloc, row.words)?;
     match read(alloc, files, row.source, MOST_SOURCE)? {
-        Some(source) => design_of(alloc, &source, row.top.as_bytes()),
+        Some(source) => design_of(alloc, &source, row.top.as_bytes(), &given),
         None => Ok(Err(DesignFault::Text(TextFault::TooLong))),
     }
 }

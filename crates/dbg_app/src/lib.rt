@@ -1,6 +1,7 @@
 //! The program: its words, and what it writes for them.
 #![tactic(auto)]
 
+mod arguments;
 mod design_fault;
 mod judge;
 mod lines;

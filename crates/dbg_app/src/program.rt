@@ -20,7 +20,7 @@ pub struct Ended {
 
 /// Does what the words say.
 ///
-/// The one command is `trail keep SRC STIM TOP`. The files are read in the order of the words, and each is judged before
+/// The one command is `trail keep SRC STIM TOP [NAME=N]..`. The files are read in the order of the words, and each is judged before
 /// the next is read. Nothing is written before all of them were judged.
 ///
 /// | Status | Where | Output |

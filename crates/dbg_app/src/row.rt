@@ -1,43 +1,63 @@
-ghost use Rattle.std.specs.Prelude.{◌≡◌};
+ghost use Rattle.std.specs.Prelude.{◌≡◌, ◌<◌, ◌≤◌, length, drop};
 ghost use Rattle.std.specs.Option.{option_map};
-ghost use Rattle.dbg_app.specs.Command.{trail_row, row_of};
+ghost use Rattle.std.specs.List.{list_all};
+ghost use Rattle.dbg_app.specs.Command.{is_argument, row_of, trail_row};
 ghost use Rattle.dbg_app.specs.Rows.{row_as};
 
+use crate::arguments::argument_of;
 use gen_token::is_name;
 use io_edge::Words;
 
-/// The files and the top module that a command names.
-#[derive(Clone, Copy, Debug)]
+/// The files and the top module that a command names, and its words, whose last ones are the arguments of the top.
+#[derive(Clone, Copy)]
 pub(crate) struct Row<'a> {
     pub(crate) source: &'a str,
     pub(crate) stimulus: &'a str,
     pub(crate) top: &'a str,
+    pub(crate) words: &'a Words,
 }
 
-/// The command of these files and this top module, if they may stand in one.
-fn trail_row<'a>(source: &'a str, stimulus: &'a str, top: &'a str) -> Option<Row<'a>>
-    ensures { option_map row_as result ≡ trail_row source.now stimulus.now top.now }
+/// Whether all words behind the first five are arguments of the top.
+fn are_arguments(words: &Words) -> bool
+    ensures { result ≡ list_all is_argument (drop 5 words.now) }
 {
-    if source.is_empty() || stimulus.is_empty() {
+    for i in 5..words.count() {
+        if argument_of(words.word(i)).is_none() {
+            return false;
+        }
+    }
+    true
+}
+
+/// The command of these words, if its files, its top module and the arguments of it may stand in one.
+fn trail_row<'a>(
+    source: &'a str,
+    stimulus: &'a str,
+    top: &'a str,
+    words: &'a Words,
+) -> Option<Row<'a>>
+    ensures { option_map row_as result ≡ trail_row source.now stimulus.now top.now (drop 5 words.now) }
+{
+    if source.is_empty() || stimulus.is_empty() || !is_name(top.as_bytes()) {
         return None;
     }
-    if is_name(top.as_bytes()) {
-        Some(Row {
-            source,
-            stimulus,
-            top,
-        })
-    } else {
-        None
+    if words.count() > 69 || !are_arguments(words) {
+        return None;
     }
+    Some(Row {
+        source,
+        stimulus,
+        top,
+        words,
+    })
 }
 
 /// The command that the words are, if they are one.
 pub(crate) fn read_row<'a>(words: &'a Words) -> Option<Row<'a>>
     ensures { option_map row_as result ≡ row_of words.now }
 {
-    if words.count() != 5 || words.word(0) != "trail" || words.word(1) != "keep" {
+    if words.count() < 5 || words.word(0) != "trail" || words.word(1) != "keep" {
         return None;
     }
-    trail_row(words.word(2), words.word(3), words.word(4))
+    trail_row(words.word(2), words.word(3), words.word(4), words)
 }

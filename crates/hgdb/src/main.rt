@@ -18,11 +18,12 @@ const HELP: &str = "\
 hgdb shows what a hardware design does, statement by statement of its source.
 
 Usage:
-  hgdb trail keep SRC STIM TOP   print each executed statement with the variables before it
-  hgdb --help                    print this text
-  hgdb --version                 print the version
+  hgdb trail keep SRC STIM TOP [NAME=N]..
+                    print each executed statement with the variables before it
+  hgdb --help       print this text
+  hgdb --version    print the version
 
-SRC is a source file, STIM a stimulus file, TOP the module to run.
+SRC is a source file, STIM a stimulus file, TOP the module to run. NAME=N gives its parameter NAME the number N.
 
 Exit status: 0 all was printed; 2 the words are no command; 3 the source is refused; 4 the stimulus is refused;
 7 a file was not read; 8 the output failed; 9 memory ran out.
