@@ -1,5 +1,5 @@
 -- Arguments among the words, one after another.
-use Rattle.std.proofs.Common.{◌≡◌, ℕ, zero, suc, ◌+◌, ◌<◌, ◌≤◌, ℤ, pos, ◌-ℤ◌, to_z, of_z, negsuc, ◌-◌, take, w64, SFits, int_le, arith, subst, Bool, true, false, not, ◌&&◌, List, [], ◌∷◌, ◌++◌, length, drop, get_or, Option, Some, None, Bor, refl, sym, ap, ◌∙◌, append_assoc, append-nil}
+use Rattle.std.proofs.Common.{◌≡◌, ℕ, zero, suc, ◌+◌, ◌≤◌, ℤ, pos, ◌-ℤ◌, to_z, of_z, negsuc, ◌-◌, take, w64, SFits, int_le, arith, subst, true, false, ◌&&◌, List, [], ◌∷◌, ◌++◌, length, drop, Option, Some, None, refl, sym, ap, ◌∙◌, append_assoc, append-nil}
 use Rattle.std.specs.Prelude.{option_map, is_some}
 use Rattle.std.specs.List.{list_all, filter_map, cons_option, slice_get}
 use Rattle.std.proofs.lemmas.Int.{to_z-of_z, ints}

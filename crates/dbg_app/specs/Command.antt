@@ -1,5 +1,5 @@
 -- The words of the program.
-use Rattle.std.specs.Prelude.{ℕ, ◌+◌, ◌==◌, ℤ, pos, ◌-ℤ◌, Bool, false, not, List, [], ◌∷◌, length, take, drop, map, Option, Some, None, option_map, is_some, codes, if◌then◌else◌, ◌&&◌, nat_le, nat_lt}
+use Rattle.std.specs.Prelude.{ℕ, ◌+◌, ◌==◌, ℤ, pos, ◌-ℤ◌, Bool, false, not, List, [], ◌∷◌, length, take, drop, Option, Some, None, option_map, is_some, codes, if◌then◌else◌, ◌&&◌, nat_le, nat_lt}
 use Rattle.std.specs.List.{list_all, prefix_len, filter_map}
 use Rattle.std.specs.Str.{bytes_eq}
 use Rattle.text_core.specs.Digits.{is_digit_of, number_of}

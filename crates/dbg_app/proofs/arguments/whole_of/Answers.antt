@@ -1,4 +1,4 @@
-use Rattle.std.proofs.Common.{◌≡◌, ◌∙◌, sym, ap, drop, pos, if◌then◌else◌}
+use Rattle.std.proofs.Common.{◌∙◌, sym, ap, drop, pos, if◌then◌else◌}
 use Rattle.std.specs.Option.{option_map}
 use Rattle.dbg_app.specs.Command.{natural_of, negative}
 use Rattle.dbg_app.proofs.Given.{minus_told, behind_first}

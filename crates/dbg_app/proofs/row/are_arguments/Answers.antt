@@ -1,5 +1,5 @@
 use Rattle.std.proofs.Common.{◌∙◌, sym}
-use Rattle.dbg_app.proofs.Given.{all_next, all_not, all_end}
+use Rattle.dbg_app.proofs.Given.{all_next, all_not}
 use Rattle.dbg_app.proofs.row.are_arguments.Goals as goal
 
 pub returns-then-is_none : goal.returns-then-is_none
