@@ -14,3 +14,4 @@ mod Outputs
 mod Joining
 mod Sampled
 mod Contracted
+pub mod Counted

@@ -6,4 +6,5 @@ pub mod Signals
 pub mod Wiring
 pub mod Results
 pub mod Joined
+pub mod Numbering
 pub mod Samples

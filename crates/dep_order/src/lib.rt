@@ -7,6 +7,7 @@ mod block;
 mod branch;
 mod laws;
 mod maps;
+mod numbering;
 mod reading;
 mod signals;
 mod version;
