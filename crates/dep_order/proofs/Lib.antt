@@ -15,3 +15,4 @@ mod Joining
 mod Sampled
 mod Contracted
 pub mod Counted
+pub mod Numbers

@@ -1,4 +1,5 @@
 ghost use Rattle.dep_order.specs.Joined.{CyclesJoin, OrdersJoin};
+ghost use Rattle.dep_order.specs.Numbering.{Numbered};
 ghost use Rattle.dep_order.specs.Samples.{depend_in_a_loop, depends_through_its_test, reaches_through_two_versions, ring_is_a_cycle};
 ghost use Rattle.dep_order.specs.Wiring.{BlockIsProcess, LinkIsMet};
 
@@ -13,6 +14,12 @@ pub fn vertices_are_signals()
 pub fn drivers_in_order()
     ensures links { LinkIsMet }
     ensures blocks { BlockIsProcess }
+{}
+
+/// Counting the signals of all instances gives each signal a number and each number its place, in the order of the design.
+/// Computes nothing.
+pub fn signals_are_numbered()
+    ensures { Numbered }
 {}
 
 /// Small graphs and drivers, worked by hand. Computes nothing.

@@ -13,5 +13,5 @@ mod signals;
 mod version;
 mod wiring;
 
-pub use laws::{drivers_in_order, loops_of_the_samples, vertices_are_signals};
+pub use laws::{drivers_in_order, loops_of_the_samples, signals_are_numbered, vertices_are_signals};
 pub use signals::order_signals;
