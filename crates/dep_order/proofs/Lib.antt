@@ -16,3 +16,4 @@ mod Sampled
 mod Contracted
 pub mod Counted
 pub mod Numbers
+pub mod Linked

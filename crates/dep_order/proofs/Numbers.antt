@@ -36,7 +36,7 @@ get_last (x ∷ xs) y ys = get_last xs y ys
 get_at : {A : Type 0} (xs : List A) (y : A) (ys : List A) (n : ℕ) → n ≡ length xs → slice_get (xs ++ y ∷ ys) n ≡ Some y
 get_at xs y ys n e = ap (slice_get (xs ++ y ∷ ys)) e ∙ get_last xs y ys
 
-each_get : {A : Type 0} (P : A → Type 0) (xs : List A) (n : ℕ) (x : A) → EachOf P xs → slice_get xs n ≡ Some x → P x
+pub each_get : {A : Type 0} (P : A → Type 0) (xs : List A) (n : ℕ) (x : A) → EachOf P xs → slice_get xs n ≡ Some x → P x
 each_get P [] n x e g = absurd (none-some x g)
 each_get P (y ∷ ys) zero x e g = subst P (some_same y x g) e.0
 each_get P (y ∷ ys) (suc n) x e g = each_get P ys n x e.1 g

@@ -7,4 +7,5 @@ pub mod Wiring
 pub mod Results
 pub mod Joined
 pub mod Numbering
+pub mod Linking
 pub mod Samples

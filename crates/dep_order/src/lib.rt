@@ -5,6 +5,7 @@
 mod assigned;
 mod block;
 mod branch;
+mod instances;
 mod laws;
 mod maps;
 mod numbering;

@@ -11,7 +11,7 @@ use std::alloc::Global;
 use text_core::NoMemory;
 
 /// A number of 32 bits; at 2^32 it answers that memory ran out.
-fn in_32_bits(number: usize) -> Result<u32, NoMemory>
+pub(crate) fn in_32_bits(number: usize) -> Result<u32, NoMemory>
     ensures { IfOk result (λ found. found ≡ number) }
 {
     u32::try_from(number).map_err(|_| NoMemory)
