@@ -17,3 +17,4 @@ mod Contracted
 pub mod Counted
 pub mod Numbers
 pub mod Linked
+pub mod Layers

@@ -9,6 +9,7 @@ use Rattle.design_core.specs.Design as design
 use Rattle.design_exec.specs.Processes.{conn_link, none_or}
 use Rattle.graph_order.specs.Lists.{EachOf}
 use Rattle.graph_order.specs.Graphs.{Graph}
+use Rattle.dep_order.specs.Reaching.{IsLayered}
 use Rattle.dep_order.specs.Standing.{Numbers}
 use Rattle.dep_order.specs.Blocks.{AreSignals}
 use Rattle.dep_order.specs.Wiring.{Link, driver_in, is_met, AreNumbers, IsWired}
@@ -17,6 +18,10 @@ use Rattle.dep_order.specs.Numbering.{number_in}
 -- all numbers are below n
 abbrev pub AreBelow : ℕ → List Numbers → Type 0
 AreBelow n all = EachOf (AreSignals n) all
+
+-- versions read what was there before them, also in the larger graph
+abbrev pub AllLayered : Graph → Graph → List Numbers → Type 0
+AllLayered g h all = (signals : ℕ) → AreBelow signals all → signals ≤ length g → IsLayered signals g → IsLayered signals h
 
 -- what a call does that drives signals by these links, behind links that were met before
 abbrev pub DrivesLinks : Graph → List Bool → Graph → List Bool → List Numbers → List Link → Type 0

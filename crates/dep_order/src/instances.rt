@@ -10,7 +10,7 @@ ghost use Rattle.design_core.specs.DesignView.{design_of};
 ghost use Rattle.design_core.specs.WellFormed.{children_at};
 ghost use Rattle.design_exec.specs.Processes.{conn_link, instances_of, links_at, none_or, numbers_below, processes_at, stands_in};
 ghost use Rattle.dep_order.specs.Numbering.{numbers_of};
-ghost use Rattle.dep_order.specs.Linking.{AreBelow, blocks_at, DrivesLinks, DrivesProcesses, links_of_child, link_of_output};
+ghost use Rattle.dep_order.specs.Linking.{AllLayered, AreBelow, blocks_at, DrivesLinks, DrivesProcesses, links_of_child, link_of_output};
 
 use crate::maps::NumberMap;
 use crate::numbering::{in_32_bits, signals_of};
@@ -90,6 +90,7 @@ fn drive_child(
     ensures graph { OnOk result (IsGraph graph.new) }
     ensures count { length graph.new ≡ length graph.old }
     ensures drives { OnOk result (DrivesLinks graph.old driven.old graph.new driven.new (numbers_of maps.now) (none_or (λ j. map (conn_link instance j) (child_of child.now).conns) number)) }
+    ensures layers { OnOk result (AllLayered graph.old graph.new (numbers_of maps.now)) }
 {
     match number {
         Some(number) => drive_conns(
@@ -123,6 +124,7 @@ fn drive_children(
     ensures graph { OnOk result (IsGraph graph.new) }
     ensures count { length graph.new ≡ length graph.old }
     ensures drives { OnOk result (DrivesLinks graph.old driven.old graph.new driven.new (numbers_of maps.now) (flat_map (links_of_child instance below.now) (enumerate_from 0 (map child_of children.now)))) }
+    ensures layers { OnOk result (AllLayered graph.old graph.new (numbers_of maps.now)) }
 {
     for (place, child) in children.iter().enumerate() {
         let number = number_at(below, place);
@@ -150,6 +152,7 @@ fn drive_child_output(
     ensures graph { OnOk result (IsGraph graph.new) }
     ensures count { length graph.new ≡ length graph.old }
     ensures drives { OnOk result (DrivesLinks graph.old driven.old graph.new driven.new (numbers_of maps.now) (none_or (λ j. (place instance name.now, Leaf (place j output.now)) ∷ []) number)) }
+    ensures layers { OnOk result (AllLayered graph.old graph.new (numbers_of maps.now)) }
 {
     match number {
         Some(number) => drive_output(
@@ -182,6 +185,7 @@ fn drive_child_out(
     ensures graph { OnOk result (IsGraph graph.new) }
     ensures count { length graph.new ≡ length graph.old }
     ensures drives { OnOk result (DrivesLinks graph.old driven.old graph.new driven.new (numbers_of maps.now) (link_of_output instance below.now signal.now.name signal.now.kind)) }
+    ensures layers { OnOk result (AllLayered graph.old graph.new (numbers_of maps.now)) }
 {
     match &signal.kind {
         Kind::ChildOut(child, output) => drive_child_output(
@@ -214,6 +218,7 @@ fn drive_child_outs(
     ensures graph { OnOk result (IsGraph graph.new) }
     ensures count { length graph.new ≡ length graph.old }
     ensures drives { OnOk result (DrivesLinks graph.old driven.old graph.new driven.new (numbers_of maps.now) (flat_map (λ (s : Signal). link_of_output instance below.now s.name s.kind) signals.now)) }
+    ensures layers { OnOk result (AllLayered graph.old graph.new (numbers_of maps.now)) }
 {
     for signal in signals {
         drive_child_out(graph, driven, maps, instance, below, signal)?;
@@ -240,6 +245,7 @@ fn drive_instance(
     ensures graph { OnOk result (IsGraph graph.new) }
     ensures count { length graph.new ≡ length graph.old }
     ensures drives { OnOk result (DrivesLinks graph.old driven.old graph.new driven.new (numbers_of maps.now) (links_at (design_of design.now) (number, instance.now))) }
+    ensures layers { OnOk result (AllLayered graph.old graph.new (numbers_of maps.now)) }
 {
     let below = numbers_below(alloc, design, number)?;
     let children = children_of(&design.variants, instance.variant);
@@ -264,6 +270,7 @@ pub(crate) fn drive_links(
     ensures graph { OnOk result (IsGraph graph.new) }
     ensures count { length graph.new ≡ length graph.old }
     ensures drives { OnOk result (DrivesLinks graph.old driven.old graph.new driven.new (numbers_of maps.now) (flat_map (links_at (design_of design.now)) (instances_of (design_of design.now)))) }
+    ensures layers { OnOk result (AllLayered graph.old graph.new (numbers_of maps.now)) }
 {
     for (number, instance) in design.instances.items().iter().enumerate() {
         let number = in_32_bits(number)?;
@@ -287,6 +294,7 @@ pub(crate) fn drive_processes(
     ensures graph { OnOk result (IsGraph graph.new) }
     ensures longer { OnOk result (length graph.old ≤ length graph.new) }
     ensures drives { OnOk result (DrivesProcesses graph.old driven.old graph.new driven.new (numbers_of maps.now) (flat_map (processes_at (design_of design.now)) (instances_of (design_of design.now)))) }
+    ensures layers { OnOk result (AllLayered graph.old graph.new (numbers_of maps.now)) }
 {
     for (number, instance) in design.instances.items().iter().enumerate() {
         let blocks = blocks_of(&design.variants, instance.variant);

@@ -6,6 +6,7 @@ use Rattle.check_core.specs.Maps.{value_of}
 use Rattle.dep_order.specs.Wiring.{DrivesConns}
 use Rattle.dep_order.specs.Numbering.{numbers_of}
 use Rattle.dep_order.specs.Linking.{DrivesLinks}
+use Rattle.dep_order.proofs.Layers.{all_one}
 use Rattle.dep_order.proofs.Linked.{below_at, conns_links, links_none, map_at}
 use Rattle.dep_order.proofs.instances.drive_child.Goals as goal
 
@@ -36,3 +37,7 @@ pub returns-in-None-clause-drives : goal.returns-in-None-clause-drives
 returns-in-None-clause-drives c =
     subst (λ o. DrivesLinks c.args.graph.now c.args.driven.now c.args.graph.now c.args.driven.now (numbers_of c.args.maps.now) (none_or (λ j. map (conn_link c.args.instance j) (child_of c.args.child.now).conns) o)) (sym c.in-None.is)
     (links_none c.args.graph.now c.args.driven.now (numbers_of c.args.maps.now))
+
+pub returns-in-Some-clause-layers : goal.returns-in-Some-clause-layers
+returns-in-Some-clause-layers c =
+    on_ok_weaker c.drive_conns.result (λ l. all_one c.args.graph.now c.drive_conns.new.graph (numbers_of c.args.maps.now) c.in-Some.number (value_of c.index-maps-number.result) (map_at c.args.maps.now c.in-Some.number c.index-maps-number.result (c.requires.number c.in-Some.number c.in-Some.is) c.index-maps-number.is) l) c.drive_conns.ensures.layers

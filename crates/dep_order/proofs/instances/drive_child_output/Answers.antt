@@ -6,6 +6,7 @@ use Rattle.design_exec.specs.Processes.{none_or}
 use Rattle.check_core.specs.Maps.{value_of}
 use Rattle.dep_order.specs.Numbering.{numbers_of}
 use Rattle.dep_order.specs.Linking.{DrivesLinks}
+use Rattle.dep_order.proofs.Layers.{all_one}
 use Rattle.dep_order.proofs.Linked.{below_at, output_links, links_none, map_at}
 use Rattle.dep_order.proofs.instances.drive_child_output.Goals as goal
 
@@ -34,3 +35,7 @@ pub returns-in-None-clause-drives : goal.returns-in-None-clause-drives
 returns-in-None-clause-drives c =
     subst (λ o. DrivesLinks c.args.graph.now c.args.driven.now c.args.graph.now c.args.driven.now (numbers_of c.args.maps.now) (none_or (λ j. (place c.args.instance c.args.name.now, Leaf (place j c.args.output.now)) ∷ []) o)) (sym c.in-None.is)
     (links_none c.args.graph.now c.args.driven.now (numbers_of c.args.maps.now))
+
+pub returns-in-Some-clause-layers : goal.returns-in-Some-clause-layers
+returns-in-Some-clause-layers c =
+    on_ok_weaker c.drive_output.result (λ l. all_one c.args.graph.now c.drive_output.new.graph (numbers_of c.args.maps.now) c.args.instance (value_of c.index-maps-instance.result) (map_at c.args.maps.now c.args.instance c.index-maps-instance.result c.requires.instance c.index-maps-instance.is) l) c.drive_output.ensures.layers

@@ -5,6 +5,7 @@ use Rattle.design_core.specs.declared.variant.Signal.{Signal}
 use Rattle.dep_order.specs.Wiring.{Link}
 use Rattle.dep_order.specs.Numbering.{numbers_of}
 use Rattle.dep_order.specs.Linking.{DrivesLinks, link_of_output}
+use Rattle.dep_order.proofs.Layers.{all_both}
 use Rattle.dep_order.proofs.Linked.{links_both, signals_more}
 use Rattle.dep_order.proofs.instances.drive_child_outs.Goals as goal
 
@@ -15,6 +16,7 @@ loop-signal-preserved c =
     record {
       graph = c.in_ok-drive_child_out.ensures.graph;
       count = c.drive_child_out.ensures.count ∙ c.loop-signal.invariant.count;
+      layers = all_both c.args.graph.now c.loop-signal.graph c.drive_child_out.new.graph (numbers_of c.args.maps.now) (omega (arith, c.loop-signal.invariant.count)) c.loop-signal.invariant.layers c.in_ok-drive_child_out.ensures.layers;
       drives =
           subst (λ (ls : List Link). DrivesLinks c.args.graph.now c.args.driven.now c.drive_child_out.new.graph c.drive_child_out.new.driven (numbers_of c.args.maps.now) ls)
           (sym (signals_more f c.args.signals.now i c.signal-item.result c.loop-signal-test.true c.signal-item.is))

@@ -8,6 +8,7 @@ use Rattle.design_exec.specs.Processes.{conn_link, none_or}
 use Rattle.dep_order.specs.Wiring.{Link}
 use Rattle.dep_order.specs.Numbering.{numbers_of}
 use Rattle.dep_order.specs.Linking.{DrivesLinks, links_of_child}
+use Rattle.dep_order.proofs.Layers.{all_both}
 use Rattle.dep_order.proofs.Linked.{links_both, children_more}
 use Rattle.dep_order.proofs.instances.drive_children.Goals as goal
 
@@ -19,6 +20,7 @@ loop-place-preserved c =
     record {
       graph = c.in_ok-drive_child.ensures.graph;
       count = c.drive_child.ensures.count ∙ c.loop-place.invariant.count;
+      layers = all_both c.args.graph.now c.loop-place.graph c.drive_child.new.graph (numbers_of c.args.maps.now) (omega (arith, c.loop-place.invariant.count)) c.loop-place.invariant.layers c.in_ok-drive_child.ensures.layers;
       drives =
           subst (λ (ls : List Link). DrivesLinks c.args.graph.now c.args.driven.now c.drive_child.new.graph c.drive_child.new.driven (numbers_of c.args.maps.now) ls)
           (sym (children_more f c.args.children.now i child c.loop-place-test.true c.index-children-place.is))

@@ -7,6 +7,7 @@ use Rattle.design_exec.specs.Processes.{links_at}
 use Rattle.dep_order.specs.Wiring.{Link}
 use Rattle.dep_order.specs.Numbering.{numbers_of}
 use Rattle.dep_order.specs.Linking.{DrivesLinks}
+use Rattle.dep_order.proofs.Layers.{all_both}
 use Rattle.dep_order.proofs.Linked.{links_both, numbered_more}
 use Rattle.dep_order.proofs.instances.drive_links.Goals as goal
 
@@ -18,6 +19,7 @@ loop-number-preserved c =
     record {
       graph = c.in_ok-drive_instance.ensures.graph;
       count = c.drive_instance.ensures.count ∙ c.loop-number.invariant.count;
+      layers = all_both c.args.graph.now c.loop-number.graph c.drive_instance.new.graph (numbers_of c.args.maps.now) (omega (arith, c.loop-number.invariant.count)) c.loop-number.invariant.layers c.in_ok-drive_instance.ensures.layers;
       drives =
           subst (λ (ls : List Link). DrivesLinks c.args.graph.now c.args.driven.now c.drive_instance.new.graph c.drive_instance.new.driven (numbers_of c.args.maps.now) ls)
           (sym (numbered_more (links_at d) c.args.design.now.instances i r (omega (arith, ap length c.items-instance-items.ensures, c.loop-number-test.true)) (c.instance-item.is ∙ ap (λ rs. get_or rs i r) c.items-instance-items.ensures)))

@@ -9,6 +9,7 @@ use Rattle.design_core.specs.DesignView.{design_of}
 use Rattle.design_exec.specs.Processes.{process, processes_at, signals_in}
 use Rattle.dep_order.specs.Numbering.{numbers_of}
 use Rattle.dep_order.specs.Linking.{DrivesProcesses, blocks_at}
+use Rattle.dep_order.proofs.Layers.{all_both, all_one}
 use Rattle.dep_order.proofs.Linked.{below_at, below_more, block_processes, map_at, processes_both, numbered_more}
 use Rattle.dep_order.proofs.instances.drive_processes.Goals as goal
 
@@ -30,6 +31,8 @@ loop-number-preserved c =
     record {
       graph = c.in_ok-drive_blocks.ensures.graph;
       longer = omega (arith, c.loop-number.invariant.longer, c.in_ok-drive_blocks.ensures.longer);
+      layers = all_both c.args.graph.now c.loop-number.graph c.drive_blocks.new.graph (numbers_of c.args.maps.now) c.loop-number.invariant.longer c.loop-number.invariant.layers (all_one c.loop-number.graph c.drive_blocks.new.graph (numbers_of c.args.maps.now) i (value_of c.index-maps-number.result)
+          (map_at c.args.maps.now i c.index-maps-number.result (omega (arith, ap length c.items-instance-items.ensures, c.loop-number-test.true, c.requires.maps)) c.index-maps-number.is) c.in_ok-drive_blocks.ensures.layers);
       drives =
           subst (λ (ps : List Process). DrivesProcesses c.args.graph.now c.args.driven.now c.drive_blocks.new.graph c.drive_blocks.new.driven (numbers_of c.args.maps.now) ps)
           (sym (numbered_more (processes_at d) c.args.design.now.instances i r (omega (arith, ap length c.items-instance-items.ensures, c.loop-number-test.true)) (c.instance-item.is ∙ ap (λ rs. get_or rs i r) c.items-instance-items.ensures)))
