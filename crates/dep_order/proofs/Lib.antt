@@ -18,3 +18,4 @@ pub mod Counted
 pub mod Numbers
 pub mod Linked
 pub mod Layers
+pub mod Answered

@@ -76,7 +76,7 @@ at_left d pairs q n h = ap (option_and_then (signal_at d)) (get_left pairs (q �
 at_last : (d : design.Design) (pairs : List Pair) (q : Pair) (p : Place) → signal_at d q ≡ Some p → place_at d (pairs ++ q ∷ []) (length pairs) ≡ Some p
 at_last d pairs q p e = ap (option_and_then (signal_at d)) (get_last pairs q []) ∙ e
 
-at_within : (d : design.Design) (pairs : List Pair) (n : ℕ) (p : Place) → place_at d pairs n ≡ Some p → n < length pairs
+pub at_within : (d : design.Design) (pairs : List Pair) (n : ℕ) (p : Place) → place_at d pairs n ≡ Some p → n < length pairs
 at_within d pairs n p e =
     elim (cases_lt n (length pairs)) [
       | inl low ↦ low

@@ -8,4 +8,5 @@ pub mod Results
 pub mod Joined
 pub mod Numbering
 pub mod Linking
+pub mod Ordering
 pub mod Samples

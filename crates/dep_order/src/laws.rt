@@ -1,5 +1,6 @@
 ghost use Rattle.dep_order.specs.Joined.{CyclesJoin, OrdersJoin};
 ghost use Rattle.dep_order.specs.Numbering.{Numbered};
+ghost use Rattle.dep_order.specs.Ordering.{CyclesAnswer, OrdersAnswer};
 ghost use Rattle.dep_order.specs.Samples.{depend_in_a_loop, depends_through_its_test, reaches_through_two_versions, ring_is_a_cycle};
 ghost use Rattle.dep_order.specs.Wiring.{BlockIsProcess, LinkIsMet};
 
@@ -20,6 +21,13 @@ pub fn drivers_in_order()
 /// Computes nothing.
 pub fn signals_are_numbered()
     ensures { Numbered }
+{}
+
+/// In a graph in which each signal of a design has edges to what drives it, an order of the signals' numbers is an order of the
+/// driven signals, and a cycle of them is a loop. Computes nothing.
+pub fn numbers_answer()
+    ensures orders { OrdersAnswer }
+    ensures cycles { CyclesAnswer }
 {}
 
 /// Small graphs and drivers, worked by hand. Computes nothing.

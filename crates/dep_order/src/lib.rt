@@ -2,9 +2,11 @@
 //! another.
 #![tactic(auto)]
 
+mod answer;
 mod assigned;
 mod block;
 mod branch;
+mod driven;
 mod instances;
 mod laws;
 mod maps;
@@ -14,5 +16,7 @@ mod signals;
 mod version;
 mod wiring;
 
-pub use laws::{drivers_in_order, loops_of_the_samples, signals_are_numbered, vertices_are_signals};
+pub use answer::{Order, OrderFault};
+pub use driven::order;
+pub use laws::{drivers_in_order, loops_of_the_samples, numbers_answer, signals_are_numbered, vertices_are_signals};
 pub use signals::order_signals;
