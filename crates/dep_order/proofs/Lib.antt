@@ -19,3 +19,4 @@ pub mod Numbers
 pub mod Linked
 pub mod Layers
 pub mod Answered
+pub mod Started

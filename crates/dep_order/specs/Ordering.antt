@@ -1,5 +1,5 @@
 -- From signals as numbers to signals as pairs of an instance and a place.
-use Rattle.std.specs.Prelude.{◌≡◌, ℕ, Bool, true, false, List, [], map, filter, length, is_some, slice_index_or, Option, Some}
+use Rattle.std.specs.Prelude.{◌≡◌, ℕ, ◌≤◌, Bool, true, false, List, [], map, filter, length, is_some, slice_index_or, Option, Some}
 use Rattle.tree_core.specs.Tree.{Tree}
 use Rattle.exec_core.specs.Whole.{Place, OverSignals}
 use Rattle.exec_core.specs.Design.{driver_of}
@@ -8,8 +8,9 @@ use Rattle.design_exec.specs.Processes.{processes_of, is_signal_of}
 use Rattle.graph_order.specs.Graphs.{Graph}
 use Rattle.dep_order.specs.declared.answer.OrderFault.{OrderFault}
 use Rattle.dep_order.specs.declared.answer.OrderFault.TheVariants.{CombLoop, NoMemory}
+use Rattle.dep_order.specs.Standing.{Numbers}
 use Rattle.dep_order.specs.Signals.{IsSignalOrder, IsSignalCycle}
-use Rattle.dep_order.specs.Wiring.{driver_in, is_met, IsWired}
+use Rattle.dep_order.specs.Wiring.{AreNumbers, driver_in, is_met, IsWired}
 use Rattle.dep_order.specs.Results.{Pair, TellsOrder, TellsLoop}
 use Rattle.dep_order.specs.Numbering.{AllCounted, count_instances, number_in}
 
@@ -37,6 +38,14 @@ marked_in marks vs = filter (λ v. slice_index_or marks v false) vs
 abbrev pub IsWiredDesign : design.Design → AllCounted → Graph → List Bool → Type 0
 IsWiredDesign d all g driven = IsWired (length all.1) (number_in all.0) g driven (is_met_in d) (driver_of (processes_of d))
 
+-- what a call does that drives all signals, which nothing drives yet, by the links and processes of a design
+abbrev pub DrivesDesign : Graph → List Bool → Graph → List Bool → List Numbers → design.Design → Type 0
+DrivesDesign g driven h marked all d =
+    (signals : ℕ) → signals ≤ length g → AreNumbers signals (number_in all) →
+    IsWired signals (number_in all) g driven (is_met [] []) (driver_in [] []) →
+    IsWired signals (number_in all) h marked (is_met_in d) (driver_of (processes_of d))
+
+-- the numbers and pairs of a design's signals
 abbrev pub AreCounted : design.Design → AllCounted → Type 0
 AreCounted d all = all ≡ count_instances d 0 d.instances ([], [])
 

@@ -1,9 +1,10 @@
-ghost use Rattle.std.specs.Prelude.{◌≡◌, ◌≤◌, ℕ, [], length, IfOk, IfErr};
+ghost use Rattle.std.specs.Prelude.{◌≡◌, ◌≤◌, ℕ, false, [], length, slice_index_or, IfOk, IfErr, OnOk};
 ghost use Rattle.dep_order.specs.Reaching.{IsLayered};
-ghost use Rattle.graph_order.specs.Graphs.{next_of};
+ghost use Rattle.graph_order.specs.Graphs.{IsGraph, next_of};
 ghost use Rattle.design_core.specs.DesignView.{design_of};
 ghost use Rattle.dep_order.specs.Numbering.{numbers_of};
-ghost use Rattle.dep_order.specs.Ordering.{AreCounted, DriversAreTrees, IsWiredDesign, TellsFault, marked_in, pairs_of};
+ghost use Rattle.dep_order.specs.Linking.{AllLayered, AreBelow};
+ghost use Rattle.dep_order.specs.Ordering.{AreCounted, DriversAreTrees, DrivesDesign, IsWiredDesign, TellsFault, marked_in, pairs_of};
 ghost use Rattle.dep_order.specs.Results.{TellsOrder};
 
 use crate::answer::{Order, OrderFault};
@@ -53,27 +54,80 @@ fn pairs_of(
         .collect(alloc)
 }
 
-/// A graph of a design's signals, which have the lowest numbers, and versions: each signal has edges to what drives it. And
-/// whether a link goes to each signal or a block assigns it.
+/// Drives the signals of a design by its links and blocks, in a graph in which nothing drives them yet.
 fn wire(
     alloc: Global,
+    graph: &mut Graph,
+    driven: &mut [bool],
+    design: &Design,
+    maps: &[NumberMap],
+) -> Result<(), NoMemory>
+    requires graph { IsGraph graph.old }
+    requires below { AreBelow (length graph.old) (numbers_of maps.now) }
+    requires marked { AreBelow (length driven.old) (numbers_of maps.now) }
+    requires maps { length maps.now ≡ length design.now.instances }
+    ensures longer { OnOk result (length graph.old ≤ length graph.new) }
+    ensures layers { OnOk result (AllLayered graph.old graph.new (numbers_of maps.now)) }
+    ensures drives { OnOk result (DrivesDesign graph.old driven.old graph.new driven.new (numbers_of maps.now) (design_of design.now)) }
+{
+    drive_links(alloc, graph, driven, design, maps)?;
+    drive_processes(alloc, graph, driven, design, maps)?;
+    Ok(())
+}
+
+/// An order of a design's driven signals, or a loop, by a graph in which each signal has edges to what drives it.
+fn order_wired(
+    alloc: Global,
+    graph: &Graph,
+    driven: &[bool],
     design: &Design,
     maps: &[NumberMap],
     pairs: &[(u32, u32)],
-) -> Result<(Graph, Vec<bool>), NoMemory>
-    requires { AreCounted (design_of design.now) (numbers_of maps.now, pairs.now) }
-    ensures wired { IfOk result (λ r. IsWiredDesign (design_of design.now) (numbers_of maps.now, pairs.now) r.0 r.1.items) }
-    ensures signals { IfOk result (λ r. length pairs.now ≤ length r.0) }
-    ensures layered { IfOk result (λ r. IsLayered (length pairs.now) r.0) }
+) -> Result<Order, OrderFault>
+    requires counted { AreCounted (design_of design.now) (numbers_of maps.now, pairs.now) }
+    requires wired { IsWiredDesign (design_of design.now) (numbers_of maps.now, pairs.now) graph.now driven.now }
+    requires signals { length pairs.now ≤ length graph.now }
+    requires layered { IsLayered (length pairs.now) graph.now }
+    ensures order { IfOk result (λ order. DriversAreTrees (design_of design.now) → TellsOrder (design_of design.now) order) }
+    ensures cycle { IfErr result (λ fault. DriversAreTrees (design_of design.now) → TellsFault (design_of design.now) fault) }
 {
-    let mut graph = vertices(alloc, pairs.len())?;
-    let mut driven = vec![in alloc; false; pairs.len()]?;
-    drive_links(alloc, &mut graph, &mut driven, design, maps)?;
-    drive_processes(alloc, &mut graph, &mut driven, design, maps)?;
-    Ok((graph, driven))
+    let signals = in_32_bits(pairs.len())?;
+    match order_signals(alloc, graph, signals) {
+        Ok(all) => {
+            let marked = marked_in(alloc, driven, &all)?;
+            let pairs = pairs_of(alloc, pairs, &marked)?;
+            Ok(Order { pairs })
+        }
+        Err(GraphFault::Cycle(cycle)) => {
+            let cycle = pairs_of(alloc, pairs, &cycle)?;
+            Err(OrderFault::CombLoop { cycle })
+        }
+        Err(GraphFault::NoMemory) => Err(OrderFault::NoMemory),
+    }
 }
 
-/// An order of a design's driven signals, or a loop, where these are the numbers of its signals.
+/// The same by a graph without edges, in which no signal is driven.
+fn wire_and_order(
+    alloc: Global,
+    graph: &mut Graph,
+    driven: &mut [bool],
+    design: &Design,
+    maps: &[NumberMap],
+    pairs: &[(u32, u32)],
+) -> Result<Order, OrderFault>
+    requires counted { AreCounted (design_of design.now) (numbers_of maps.now, pairs.now) }
+    requires count { length graph.old ≡ length pairs.now }
+    requires none { (v : ℕ) → next_of graph.old v ≡ [] }
+    requires marks { length driven.old ≡ length pairs.now }
+    requires unmarked { (v : ℕ) → slice_index_or driven.old v false ≡ false }
+    ensures order { IfOk result (λ order. DriversAreTrees (design_of design.now) → TellsOrder (design_of design.now) order) }
+    ensures cycle { IfErr result (λ fault. DriversAreTrees (design_of design.now) → TellsFault (design_of design.now) fault) }
+{
+    wire(alloc, graph, driven, design, maps)?;
+    order_wired(alloc, graph, driven, design, maps, pairs)
+}
+
+/// The same, where these are the numbers of the design's signals.
 fn order_counted(
     alloc: Global,
     design: &Design,
@@ -84,20 +138,9 @@ fn order_counted(
     ensures order { IfOk result (λ order. DriversAreTrees (design_of design.now) → TellsOrder (design_of design.now) order) }
     ensures cycle { IfErr result (λ fault. DriversAreTrees (design_of design.now) → TellsFault (design_of design.now) fault) }
 {
-    let signals = in_32_bits(pairs.len())?;
-    let (graph, driven) = wire(alloc, design, maps, pairs)?;
-    match order_signals(alloc, &graph, signals) {
-        Ok(all) => {
-            let marked = marked_in(alloc, &driven, &all)?;
-            let pairs = pairs_of(alloc, pairs, &marked)?;
-            Ok(Order { pairs })
-        }
-        Err(GraphFault::Cycle(cycle)) => {
-            let cycle = pairs_of(alloc, pairs, &cycle)?;
-            Err(OrderFault::CombLoop { cycle })
-        }
-        Err(GraphFault::NoMemory) => Err(OrderFault::NoMemory),
-    }
+    let mut graph = vertices(alloc, pairs.len())?;
+    let mut driven = vec![in alloc; false; pairs.len()]?;
+    wire_and_order(alloc, &mut graph, &mut driven, design, maps, pairs)
 }
 
 /// An order of a design's driven signals, all but registers and inputs of the top, each after those that it depends on; or
