@@ -1,0 +1,6 @@
+pub mod Facts
+pub mod Instances
+pub mod Names
+pub mod Statements
+pub mod Slots
+pub mod Latches

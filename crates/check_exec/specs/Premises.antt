@@ -1,0 +1,24 @@
+-- What the checks give for the execution of a design: each premise of the theorem on runs as a law of its own.
+use Rattle.std.specs.Prelude.{◌≡◌, ℕ, Option, None}
+use Rattle.exec_core.specs.Block.{Name, Now}
+use Rattle.exec_core.specs.Lists.{EachOf, AreApart}
+use Rattle.exec_core.specs.Paths.{BodySkips}
+use Rattle.exec_core.specs.Run.{IsTarget, slots_in}
+use Rattle.design_core.specs.Design.{Design}
+use Rattle.design_core.specs.WellFormed.{IsDesign}
+use Rattle.design_exec.specs.Processes.{processes_of}
+use Rattle.check_core.specs.Verdict.{verdict}
+
+-- a well-formed design that no check refuses
+pub record IsSound (d : Design) : Type 0 where
+  pub kept : IsDesign d
+  pub accepted : verdict d ≡ None
+
+-- no two statements of an instance have one slot
+abbrev pub SlotsAreApart : Type 0
+SlotsAreApart = (d : Design) → IsDesign d → (i : ℕ) → AreApart (slots_in (processes_of d) i)
+
+-- no path of a block leaves a target unassigned
+abbrev pub NoLatchIsLeft : Type 0
+NoLatchIsLeft =
+    (d : Design) → IsSound d → EachOf (λ b. (x : Name) → IsTarget (processes_of d) b x → BodySkips b.body (Now x) → ⊥) (processes_of d).processes

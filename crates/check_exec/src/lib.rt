@@ -1,0 +1,7 @@
+//! What the checks of an elaborated design give for its execution: the premises of the theorem on runs. This crate has laws alone.
+//! It computes nothing.
+#![tactic(auto)]
+
+mod laws;
+
+pub use laws::{no_latch_is_left, slots_are_apart};
