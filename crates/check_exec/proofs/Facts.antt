@@ -58,6 +58,15 @@ in_at [] i a e = absurd (none-some a e)
 in_at (b ∷ list) zero a e = inl (sym (same_Some b a e))
 in_at (b ∷ list) (suc i) a e = inr (in_at list i a e)
 
+pub in_index : {A : Type 0} (list : List A) (a : A) → IsIn a list → (i : ℕ) × (slice_get list i ≡ Some a)
+in_index [] a i = absurd i
+in_index (b ∷ list) a (inl e) = (zero, ap (λ x. Some x) (sym e))
+in_index (b ∷ list) a (inr i) = let found = in_index list a i in (suc found.0, found.1)
+
+pub each_index : {A : Type 0} (P : A → Type 0) (list : List A) → ((i : ℕ) (a : A) → slice_get list i ≡ Some a → P a) → EachOf P list
+each_index P [] h = tt
+each_index P (a ∷ list) h = (h zero a refl, each_index P list (λ i b e. h (suc i) b e))
+
 -- elements with their numbers
 pub each_numbered : {A : Type 0} (P : ℕ × A → Type 0) (n : ℕ) (list : List A) → ((j : ℕ) (a : A) → slice_get list j ≡ Some a → P (n + j, a)) → EachOf P (enumerate_from n list)
 each_numbered P n [] h = tt

@@ -4,3 +4,5 @@ pub mod Names
 pub mod Statements
 pub mod Slots
 pub mod Latches
+pub mod Widths
+pub mod Givens

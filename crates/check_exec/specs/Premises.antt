@@ -4,6 +4,7 @@ use Rattle.exec_core.specs.Block.{Name, Now}
 use Rattle.exec_core.specs.Lists.{EachOf, AreApart}
 use Rattle.exec_core.specs.Paths.{BodySkips}
 use Rattle.exec_core.specs.Run.{IsTarget, slots_in}
+use Rattle.exec_core.specs.Accepted.{GivenFits, OriginsApart}
 use Rattle.design_core.specs.Design.{Design}
 use Rattle.design_core.specs.WellFormed.{IsDesign}
 use Rattle.design_exec.specs.Processes.{processes_of}
@@ -22,3 +23,11 @@ SlotsAreApart = (d : Design) → IsDesign d → (i : ℕ) → AreApart (slots_in
 abbrev pub NoLatchIsLeft : Type 0
 NoLatchIsLeft =
     (d : Design) → IsSound d → EachOf (λ b. (x : Name) → IsTarget (processes_of d) b x → BodySkips b.body (Now x) → ⊥) (processes_of d).processes
+
+-- declared widths are 1 to 128, and start values have them
+abbrev pub GivensFit : Type 0
+GivensFit = (d : Design) → IsSound d → EachOf (GivenFits (processes_of d)) (processes_of d).givens
+
+-- no two signals have one name, and no two instances one path
+abbrev pub GivensAreApart : Type 0
+GivensAreApart = (d : Design) → IsSound d → OriginsApart (processes_of d).givens

@@ -1,4 +1,4 @@
-ghost use Rattle.check_exec.specs.Premises.{NoLatchIsLeft, SlotsAreApart};
+ghost use Rattle.check_exec.specs.Premises.{GivensAreApart, GivensFit, NoLatchIsLeft, SlotsAreApart};
 
 /// In a well-formed design no two statements of an instance have one slot. Computes nothing.
 pub fn slots_are_apart()
@@ -8,4 +8,15 @@ pub fn slots_are_apart()
 /// In an accepted design no path of a block leaves a target unassigned. Computes nothing.
 pub fn no_latch_is_left()
     ensures { NoLatchIsLeft }
+{}
+
+/// In an accepted design the inputs of the top and the registers have widths from 1 to 128, and each register starts with a value
+/// of its width. Computes nothing.
+pub fn givens_fit()
+    ensures { GivensFit }
+{}
+
+/// In an accepted design no two inputs of the top and registers are the same. Computes nothing.
+pub fn givens_are_apart()
+    ensures { GivensAreApart }
 {}
