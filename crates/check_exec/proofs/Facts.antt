@@ -112,3 +112,8 @@ none_found find (x ∷ list) e = (earlier_left (find x) (first_of find list) e, 
 pub map_none : {A B : Type 0} (f : A → B) (o : Option A) → option_map f o ≡ None → o ≡ None
 map_none f (Some a) e = absurd (none-some (f a) (sym e))
 map_none f None e = refl
+
+pub in_parts : {A : Type 0} (x : A) (a b : List A) → IsIn x (a ++ b) → IsIn x a ⊎ IsIn x b
+in_parts x [] b i = inr i
+in_parts x (y ∷ a) b (inl e) = inl (inl e)
+in_parts x (y ∷ a) b (inr i) = elim (in_parts x a b i) [ inl j ↦ inl (inr j) | inr j ↦ inr j ]

@@ -6,3 +6,7 @@ pub mod Slots
 pub mod Latches
 pub mod Widths
 pub mod Givens
+pub mod Targets
+pub mod Reading
+pub mod Fitting
+pub mod SignalWidths
