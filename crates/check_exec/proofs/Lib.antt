@@ -10,3 +10,5 @@ pub mod Targets
 pub mod Reading
 pub mod Fitting
 pub mod SignalWidths
+pub mod LetWidths
+pub mod Checks

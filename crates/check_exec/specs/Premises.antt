@@ -2,7 +2,8 @@
 use Rattle.std.specs.Prelude.{◌≡◌, ℕ, Option, None}
 use Rattle.exec_core.specs.Block.{Name, Now}
 use Rattle.exec_core.specs.Lists.{EachOf, AreApart}
-use Rattle.exec_core.specs.Paths.{BodySkips}
+use Rattle.exec_core.specs.Design.{signals_of, width_in}
+use Rattle.exec_core.specs.Paths.{BodySkips, Checked}
 use Rattle.exec_core.specs.Run.{IsTarget, slots_in}
 use Rattle.exec_core.specs.Accepted.{GivenFits, OriginsApart}
 use Rattle.design_core.specs.Design.{Design}
@@ -31,3 +32,9 @@ GivensFit = (d : Design) → IsSound d → EachOf (GivenFits (processes_of d)) (
 -- no two signals have one name, and no two instances one path
 abbrev pub GivensAreApart : Type 0
 GivensAreApart = (d : Design) → IsSound d → OriginsApart (processes_of d).givens
+
+-- names that are read are known, widths agree, and no own name of a block is read before it is written
+abbrev pub BlocksAreChecked : Type 0
+BlocksAreChecked =
+    (d : Design) → IsSound d
+    → EachOf (λ b. Checked (signals_of (processes_of d) b) (width_in (processes_of d) b) b.body) (processes_of d).processes

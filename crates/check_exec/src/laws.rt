@@ -1,4 +1,4 @@
-ghost use Rattle.check_exec.specs.Premises.{GivensAreApart, GivensFit, NoLatchIsLeft, SlotsAreApart};
+ghost use Rattle.check_exec.specs.Premises.{BlocksAreChecked, GivensAreApart, GivensFit, NoLatchIsLeft, SlotsAreApart};
 
 /// In a well-formed design no two statements of an instance have one slot. Computes nothing.
 pub fn slots_are_apart()
@@ -19,4 +19,10 @@ pub fn givens_fit()
 /// In an accepted design no two inputs of the top and registers are the same. Computes nothing.
 pub fn givens_are_apart()
     ensures { GivensAreApart }
+{}
+
+/// In an accepted design a block reads names that are known, and none of its own before it is written; and widths agree.
+/// Computes nothing.
+pub fn blocks_are_checked()
+    ensures { BlocksAreChecked }
 {}
