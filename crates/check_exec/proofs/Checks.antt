@@ -15,7 +15,7 @@ use Rattle.check_core.specs.Known.{Known, none}
 use Rattle.check_core.specs.Statements.{inside, statements, else_statements}
 use Rattle.check_core.specs.Faults.{earlier, first_of}
 use Rattle.check_core.specs.Names.{scope_of, targets, named, any_kind, is_child_output, child_named, signal_thing, taken_in}
-use Rattle.check_core.specs.Widths.{widths_of, no_width, bad_signal, bad_in_child, bad_in_block, bad_stmt, signal_mismatch, mismatch_in_child, mismatch_in_block, mismatch_among}
+use Rattle.check_core.specs.Widths.{widths_of, bad_signal, bad_in_child, bad_in_block, bad_stmt, signal_mismatch, mismatch_in_child, mismatch_in_block, mismatch_among}
 use Rattle.check_exec.specs.Premises.{IsSound, BlocksAreChecked}
 use Rattle.check_exec.proofs.Facts.{each_left, each_right, none_found, earlier_left, earlier_right}
 use Rattle.check_exec.proofs.Instances.{IsClean, Stands, clean, signals_are, each_process}
@@ -93,7 +93,7 @@ module _ (d : Design) (i : ℕ) (r : Instance) (v : Variant) (b : Block) (stands
 
   is_at : IsAt (scope_of v) (targets (scope_of v) b.clocked) none (taken_in v) (named is_child_output v.signals) (widths_of any_kind v.signals) (signal_width v.signals) F (λ x. known x ≡ true) (statements b.body)
   is_at = record {
-    widths = λ x e. put_known none v.signals no_width x (signals_differ v c.apart) e;
+    widths = λ x e. put_known any_kind v.signals x (signals_differ v c.apart) e;
     ends = ends;
     takes = λ x e. or_left (named any_kind v.signals x) (child_named v.children x) e;
     fine = λ x e. or_right (own its.body x) (signals_of (processes_of d) its x) (signals_named d i r v stands x ∙ e);

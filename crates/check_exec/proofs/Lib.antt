@@ -12,3 +12,5 @@ pub mod Fitting
 pub mod SignalWidths
 pub mod LetWidths
 pub mod Checks
+pub mod Children
+pub mod Links

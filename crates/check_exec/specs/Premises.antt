@@ -5,7 +5,7 @@ use Rattle.exec_core.specs.Lists.{EachOf, AreApart}
 use Rattle.exec_core.specs.Design.{signals_of, width_in}
 use Rattle.exec_core.specs.Paths.{BodySkips, Checked}
 use Rattle.exec_core.specs.Run.{IsTarget, slots_in}
-use Rattle.exec_core.specs.Accepted.{GivenFits, OriginsApart}
+use Rattle.exec_core.specs.Accepted.{LinkFits, GivenFits, OriginsApart}
 use Rattle.design_core.specs.Design.{Design}
 use Rattle.design_core.specs.WellFormed.{IsDesign}
 use Rattle.design_exec.specs.Processes.{processes_of}
@@ -38,3 +38,7 @@ abbrev pub BlocksAreChecked : Type 0
 BlocksAreChecked =
     (d : Design) → IsSound d
     → EachOf (λ b. Checked (signals_of (processes_of d) b) (width_in (processes_of d) b) b.body) (processes_of d).processes
+
+-- connections name inputs of children, and signals `u.q` outputs of children; and they have their widths
+abbrev pub LinksFit : Type 0
+LinksFit = (d : Design) → IsSound d → EachOf (LinkFits (processes_of d)) (processes_of d).links

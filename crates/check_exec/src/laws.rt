@@ -1,4 +1,4 @@
-ghost use Rattle.check_exec.specs.Premises.{BlocksAreChecked, GivensAreApart, GivensFit, NoLatchIsLeft, SlotsAreApart};
+ghost use Rattle.check_exec.specs.Premises.{BlocksAreChecked, GivensAreApart, GivensFit, LinksFit, NoLatchIsLeft, SlotsAreApart};
 
 /// In a well-formed design no two statements of an instance have one slot. Computes nothing.
 pub fn slots_are_apart()
@@ -25,4 +25,10 @@ pub fn givens_are_apart()
 /// Computes nothing.
 pub fn blocks_are_checked()
     ensures { BlocksAreChecked }
+{}
+
+/// In an accepted design a connection is to an input of the child, and has its width; and a signal that is an output of a child has
+/// the width of that output. Computes nothing.
+pub fn links_fit()
+    ensures { LinksFit }
 {}
