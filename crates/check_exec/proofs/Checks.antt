@@ -20,7 +20,8 @@ use Rattle.check_exec.specs.Premises.{IsSound, BlocksAreChecked}
 use Rattle.check_exec.proofs.Facts.{each_left, each_right, none_found, earlier_left, earlier_right}
 use Rattle.check_exec.proofs.Instances.{IsClean, Stands, clean, signals_are, each_process}
 use Rattle.check_exec.proofs.Names.{signals_named, signals_differ, lets_differ}
-use Rattle.check_exec.proofs.Targets.{block_known, let_assigned, named_any, target_signal}
+use Rattle.check_exec.proofs.Targets.{block_known, named_any, target_signal}
+use Rattle.check_exec.proofs.Statements.{sets}
 use Rattle.check_exec.proofs.Reading.{ports_known, block_reads}
 use Rattle.check_exec.proofs.SignalWidths.{put_known}
 use Rattle.check_exec.proofs.LetWidths.{list_widths, body_listed, stays, FitsStmt, LetIsGood, IsAt, list_fits}
@@ -88,7 +89,7 @@ module _ (d : Design) (i : ℕ) (r : Instance) (v : Variant) (b : Block) (stands
     where
       by_kind : (s : Stmt) → IsIn s (statements b.body) → LetIsGood (λ x. known x ≡ true) s
       by_kind (Assign slot line gens x e) j = tt
-      by_kind (Let slot line gens x e) j = or_left (own its.body x) (signals_of (processes_of d) its x) (let_assigned b.clocked slot line gens x e b.body j)
+      by_kind (Let slot line gens x e) j = or_left (own its.body x) (signals_of (processes_of d) its x) (sets b.clocked x (Let slot line gens x e) refl b.body j)
       by_kind (If slot line gens t first second) j = tt
 
   is_at : IsAt (scope_of v) (targets (scope_of v) b.clocked) none (taken_in v) (named is_child_output v.signals) (widths_of any_kind v.signals) (signal_width v.signals) F (λ x. known x ≡ true) (statements b.body)

@@ -14,3 +14,8 @@ pub mod LetWidths
 pub mod Checks
 pub mod Children
 pub mod Links
+pub mod Counting
+pub mod Drives
+pub mod Parents
+pub mod Connections
+pub mod Sources

@@ -1,15 +1,15 @@
 -- The statements of a body, and those of the block that it is translated to.
 use Rattle.std.proofs.Common.{◌≡◌, ℕ, Bool, true, false, true≢false, ◌||◌, ◌&&◌, not, bytes_eq, List, [], ◌∷◌, ◌++◌, ◌⊎◌, inl, inr, refl, sym, ap, ◌∙◌, subst}
 use Rattle.std.proofs.lemmas.Bool.{or_cases, or_left, or_right, and_from, not_from_false}
-use Rattle.exec_core.specs.Block.{Name, Now, assigns, body_assigns}
+use Rattle.exec_core.specs.Block.{Name, Now, same_key, assigns, body_assigns}
 use Rattle.exec_core.specs.Lists.{EachOf, IsIn}
 use Rattle.exec_core.specs.Paths.{Skips, BodySkips}
 use Rattle.exec_core.proofs.Lists.{in_left, in_right}
 use Rattle.design_core.specs.Design.{Stmt, Assign, Let, If, Body, Done, Then, Else, NoElse, Otherwise}
-use Rattle.design_exec.specs.Processes.{stmt_of, body_of, else_of}
+use Rattle.design_exec.specs.Processes.{target, stmt_of, body_of, else_of}
 use Rattle.check_core.specs.Statements.{inside, statements, else_statements}
 use Rattle.check_core.specs.Paths.{skips, body_skips, else_skips}
-use Rattle.check_exec.proofs.Facts.{eq_turned, same_name, name_same, each_left, each_right}
+use Rattle.check_exec.proofs.Facts.{eq_turned, in_parts, same_name, name_same, each_left, each_right}
 
 -- ---- what a statement sets, without those inside it
 
@@ -56,6 +56,35 @@ mutual
   set_by_else : (clocked : Bool) (x : Name) (b : Else) → body_assigns (else_of clocked b) (Now x) ≡ true → SetIn clocked x (else_statements b)
   set_by_else clocked x NoElse h = absurd (true≢false (sym h))
   set_by_else clocked x (Otherwise body) h = set_by clocked x body h
+
+-- and what a statement sets is one
+set_self : (clocked : Bool) (x : Name) (s : Stmt) → Sets clocked x s → assigns (stmt_of clocked s) (Now x) ≡ true
+set_self clocked x (Assign slot line gens y e) h = ap (λ c. same_key (target c y) (Now x)) h.0 ∙ name_same y x h.1
+set_self clocked x (Let slot line gens y e) h = name_same y x h
+set_self clocked x (If slot line gens c first second) h = absurd h
+
+mutual
+  sets_stmt : (clocked : Bool) (x : Name) (t : Stmt) → Sets clocked x t → (s : Stmt) → IsIn t (s ∷ inside s) → assigns (stmt_of clocked s) (Now x) ≡ true
+  sets_stmt clocked x t h s (inl same) = set_self clocked x s (subst (Sets clocked x) same h)
+  sets_stmt clocked x t h (Assign slot line gens y e) (inr i) = absurd i
+  sets_stmt clocked x t h (Let slot line gens y e) (inr i) = absurd i
+  sets_stmt clocked x t h (If slot line gens c first second) (inr i) =
+      elim (in_parts t (statements first) (else_statements second) i) [
+        | inl j ↦ or_left (body_assigns (body_of clocked first) (Now x)) (body_assigns (else_of clocked second) (Now x)) (sets clocked x t h first j)
+        | inr j ↦ or_right (body_assigns (body_of clocked first) (Now x)) (body_assigns (else_of clocked second) (Now x)) (sets_else clocked x t h second j)
+      ]
+
+  pub sets : (clocked : Bool) (x : Name) (t : Stmt) → Sets clocked x t → (b : Body) → IsIn t (statements b) → body_assigns (body_of clocked b) (Now x) ≡ true
+  sets clocked x t h Done i = absurd i
+  sets clocked x t h (Then s rest) i =
+      elim (in_parts t (s ∷ inside s) (statements rest) i) [
+        | inl j ↦ or_left (assigns (stmt_of clocked s) (Now x)) (body_assigns (body_of clocked rest) (Now x)) (sets_stmt clocked x t h s j)
+        | inr j ↦ or_right (assigns (stmt_of clocked s) (Now x)) (body_assigns (body_of clocked rest) (Now x)) (sets clocked x t h rest j)
+      ]
+
+  sets_else : (clocked : Bool) (x : Name) (t : Stmt) → Sets clocked x t → (b : Else) → IsIn t (else_statements b) → body_assigns (else_of clocked b) (Now x) ≡ true
+  sets_else clocked x t h NoElse i = absurd i
+  sets_else clocked x t h (Otherwise body) i = sets clocked x t h body i
 
 -- ---- paths
 

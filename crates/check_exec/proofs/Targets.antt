@@ -28,7 +28,7 @@ use Rattle.check_exec.proofs.Latches.{assignment_in}
 
 -- ---- lets
 
--- a let is listed, and assigned by the translated block
+-- a let is listed
 mutual
   let_listed_stmt : (slot line : ℕ) (gens : _) (x : Name) (e : _) (s : Stmt) → IsIn (Let slot line gens x e) (s ∷ inside s) → IsIn x (let_of s)
   let_listed_stmt slot line gens x e s (inl same) = subst (λ t. IsIn x (let_of t)) same (inl refl)
@@ -51,29 +51,6 @@ mutual
   let_listed_else : (slot line : ℕ) (gens : _) (x : Name) (e : _) (b : Else) → IsIn (Let slot line gens x e) (else_statements b) → IsIn x (else_lets b)
   let_listed_else slot line gens x e NoElse i = absurd i
   let_listed_else slot line gens x e (Otherwise body) i = let_listed slot line gens x e body i
-
-mutual
-  let_assigned_stmt : (clocked : Bool) (slot line : ℕ) (gens : _) (x : Name) (e : _) (s : Stmt) → IsIn (Let slot line gens x e) (s ∷ inside s) → assigns (stmt_of clocked s) (Now x) ≡ true
-  let_assigned_stmt clocked slot line gens x e s (inl same) = subst (λ t. assigns (stmt_of clocked t) (Now x) ≡ true) same (name_same x x refl)
-  let_assigned_stmt clocked slot line gens x e (Assign n l g y f) (inr i) = absurd i
-  let_assigned_stmt clocked slot line gens x e (Let n l g y f) (inr i) = absurd i
-  let_assigned_stmt clocked slot line gens x e (If n l g c first second) (inr i) =
-      elim (in_parts (Let slot line gens x e) (statements first) (else_statements second) i) [
-        | inl j ↦ or_left (body_assigns (body_of clocked first) (Now x)) (body_assigns (else_of clocked second) (Now x)) (let_assigned clocked slot line gens x e first j)
-        | inr j ↦ or_right (body_assigns (body_of clocked first) (Now x)) (body_assigns (else_of clocked second) (Now x)) (let_assigned_else clocked slot line gens x e second j)
-      ]
-
-  pub let_assigned : (clocked : Bool) (slot line : ℕ) (gens : _) (x : Name) (e : _) (b : Body) → IsIn (Let slot line gens x e) (statements b) → body_assigns (body_of clocked b) (Now x) ≡ true
-  let_assigned clocked slot line gens x e Done i = absurd i
-  let_assigned clocked slot line gens x e (Then s rest) i =
-      elim (in_parts (Let slot line gens x e) (s ∷ inside s) (statements rest) i) [
-        | inl j ↦ or_left (assigns (stmt_of clocked s) (Now x)) (body_assigns (body_of clocked rest) (Now x)) (let_assigned_stmt clocked slot line gens x e s j)
-        | inr j ↦ or_right (assigns (stmt_of clocked s) (Now x)) (body_assigns (body_of clocked rest) (Now x)) (let_assigned clocked slot line gens x e rest j)
-      ]
-
-  let_assigned_else : (clocked : Bool) (slot line : ℕ) (gens : _) (x : Name) (e : _) (b : Else) → IsIn (Let slot line gens x e) (else_statements b) → body_assigns (else_of clocked b) (Now x) ≡ true
-  let_assigned_else clocked slot line gens x e NoElse i = absurd i
-  let_assigned_else clocked slot line gens x e (Otherwise body) i = let_assigned clocked slot line gens x e body i
 
 -- ---- targets
 

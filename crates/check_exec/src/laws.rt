@@ -1,4 +1,4 @@
-ghost use Rattle.check_exec.specs.Premises.{BlocksAreChecked, GivensAreApart, GivensFit, LinksFit, NoLatchIsLeft, SlotsAreApart};
+ghost use Rattle.check_exec.specs.Premises.{BlocksAreChecked, GivensAreApart, GivensFit, LinksFit, NoLatchIsLeft, OneSource, SlotsAreApart};
 
 /// In a well-formed design no two statements of an instance have one slot. Computes nothing.
 pub fn slots_are_apart()
@@ -31,4 +31,10 @@ pub fn blocks_are_checked()
 /// the width of that output. Computes nothing.
 pub fn links_fit()
     ensures { LinksFit }
+{}
+
+/// In an accepted design each signal of each instance has one source: a connection or the output of a child, a block that assigns
+/// it, or what it is given. Computes nothing.
+pub fn one_source_each()
+    ensures { OneSource }
 {}
