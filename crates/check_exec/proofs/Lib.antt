@@ -19,3 +19,4 @@ pub mod Drives
 pub mod Parents
 pub mod Connections
 pub mod Sources
+pub mod Ready

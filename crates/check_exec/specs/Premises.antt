@@ -1,12 +1,12 @@
 -- What the checks give for the execution of a design: each premise of the theorem on runs as a law of its own.
-use Rattle.std.specs.Prelude.{◌≡◌, ℕ, true, Option, None}
+use Rattle.std.specs.Prelude.{◌≡◌, ℕ, true, List, Option, None}
 use Rattle.exec_core.specs.Block.{Name, Now}
 use Rattle.exec_core.specs.Lists.{EachOf, AreApart}
-use Rattle.exec_core.specs.Design.{signals_of, width_in}
+use Rattle.exec_core.specs.Design.{driver_of, signals_of, width_in}
 use Rattle.exec_core.specs.Paths.{BodySkips, Checked}
-use Rattle.exec_core.specs.Whole.{Place}
+use Rattle.exec_core.specs.Whole.{Place, IsOrder}
 use Rattle.exec_core.specs.Run.{IsTarget, slots_in}
-use Rattle.exec_core.specs.Accepted.{source_count, LinkFits, GivenFits, OriginsApart}
+use Rattle.exec_core.specs.Accepted.{Accepted, source_count, LinkFits, GivenFits, OriginsApart}
 use Rattle.design_core.specs.Design.{Design}
 use Rattle.design_core.specs.WellFormed.{IsDesign}
 use Rattle.design_exec.specs.Processes.{processes_of}
@@ -47,3 +47,8 @@ LinksFit = (d : Design) → IsSound d → EachOf (LinkFits (processes_of d)) (pr
 -- no signal is undriven, no input unbound, and none has two drivers: each has one link, block or given value for a source
 abbrev pub OneSource : Type 0
 OneSource = (d : Design) → IsSound d → (p : Place) → (processes_of d).is_signal p ≡ true → source_count (processes_of d) p ≡ 1
+
+-- an accepted design, with an order of its driven signals, meets the premises of the theorem on runs
+abbrev pub AcceptedIsReady : Type 0
+AcceptedIsReady =
+    (d : Design) → IsSound d → (order : List Place) → IsOrder (processes_of d).is_signal (driver_of (processes_of d)) order → Accepted (processes_of d) order

@@ -1,4 +1,4 @@
-ghost use Rattle.check_exec.specs.Premises.{BlocksAreChecked, GivensAreApart, GivensFit, LinksFit, NoLatchIsLeft, OneSource, SlotsAreApart};
+ghost use Rattle.check_exec.specs.Premises.{AcceptedIsReady, BlocksAreChecked, GivensAreApart, GivensFit, LinksFit, NoLatchIsLeft, OneSource, SlotsAreApart};
 
 /// In a well-formed design no two statements of an instance have one slot. Computes nothing.
 pub fn slots_are_apart()
@@ -37,4 +37,9 @@ pub fn links_fit()
 /// it, or what it is given. Computes nothing.
 pub fn one_source_each()
     ensures { OneSource }
+{}
+
+/// An accepted design meets the premises of the theorem on runs, for each order of its driven signals. Computes nothing.
+pub fn accepted_is_ready()
+    ensures { AcceptedIsReady }
 {}
