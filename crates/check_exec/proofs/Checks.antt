@@ -1,8 +1,7 @@
 -- The blocks of an accepted design are checked.
-use Rattle.std.proofs.Common.{◌≡◌, ℕ, Bool, true, false, true≢false, ◌||◌, bytes_eq, List, [], ◌∷◌, ◌++◌, map, Option, Some, None, ◌⊎◌, inl, inr, refl, sym, ap, ◌∙◌, subst, if◌then◌else◌}
+use Rattle.std.proofs.Common.{◌≡◌, ℕ, Bool, true, false, ◌∷◌, None, refl, sym, ap, ◌∙◌, subst, if◌then◌else◌}
 use Rattle.std.proofs.lemmas.Bool.{or_left, or_right}
-use Rattle.tree_core.specs.Width.{width_of, WellFormed}
-use Rattle.exec_core.specs.Block.{Name, Now, own, key_name}
+use Rattle.exec_core.specs.Block.{Name, own, key_name}
 use Rattle.exec_core.specs.Lists.{EachOf, IsIn}
 use Rattle.exec_core.specs.Paths as exec
 use Rattle.exec_core.specs.Paths.{HasWidth, BodyWidths, Checked, known_in}
@@ -11,13 +10,13 @@ use Rattle.exec_core.proofs.Lists.{each_member, each_from}
 use Rattle.design_core.specs.declared.design.Instance.{Instance}
 use Rattle.design_core.specs.Design.{Stmt, Assign, Let, If, Body, Done, Then, Else, NoElse, Otherwise, Block, Variant, Design}
 use Rattle.design_exec.specs.Processes.{tree_of, target, stmt_of, body_of, else_of, body_widths, signal_width, signals_at, is_signal_of, process, processes_of}
-use Rattle.check_core.specs.Known.{Known, none}
+use Rattle.check_core.specs.Known.{none}
 use Rattle.check_core.specs.Statements.{inside, statements, else_statements}
-use Rattle.check_core.specs.Faults.{earlier, first_of}
-use Rattle.check_core.specs.Names.{scope_of, targets, named, any_kind, is_child_output, child_named, signal_thing, taken_in}
-use Rattle.check_core.specs.Widths.{widths_of, bad_signal, bad_in_child, bad_in_block, bad_stmt, signal_mismatch, mismatch_in_child, mismatch_in_block, mismatch_among}
-use Rattle.check_exec.specs.Premises.{IsSound, BlocksAreChecked}
-use Rattle.check_exec.proofs.Facts.{each_left, each_right, none_found, earlier_left, earlier_right}
+use Rattle.check_core.specs.Faults.{first_of}
+use Rattle.check_core.specs.Names.{scope_of, targets, named, any_kind, is_child_output, child_named, taken_in}
+use Rattle.check_core.specs.Widths.{widths_of, bad_signal, bad_in_child, bad_in_block, bad_stmt, signal_mismatch, mismatch_in_child, mismatch_in_block}
+use Rattle.check_exec.specs.Premises.{BlocksAreChecked}
+use Rattle.check_exec.proofs.Facts.{each_left, each_right, none_found, earlier_right}
 use Rattle.check_exec.proofs.Instances.{IsClean, Stands, clean, signals_are, each_process}
 use Rattle.check_exec.proofs.Names.{signals_named, signals_differ, lets_differ}
 use Rattle.check_exec.proofs.Targets.{block_known, named_any, target_signal}
@@ -78,6 +77,7 @@ module _ (d : Design) (i : ℕ) (r : Instance) (v : Variant) (b : Block) (stands
     where
       listed : body_widths b.body (signal_width v.signals) x ≡ list_widths (statements b.body) (signal_width v.signals) x
       listed = ap (λ (w : Name → ℕ). w x) (body_listed b.body (signal_width v.signals))
+
       by_signal : (s : Bool) → is_signal_of d (place i x) ≡ s → (if s then signal_width (signals_at d i) x else body_widths b.body (signal_width v.signals) x) ≡ list_widths (statements b.body) (signal_width v.signals) x
       by_signal true e =
           ap (λ l. signal_width l x) (signals_are d i r v stands)

@@ -1,8 +1,7 @@
 -- The children of an instance, and their instances.
-use Rattle.std.proofs.Common.{◌≡◌, ℕ, zero, suc, ◌+◌, ◌<◌, List, [], ◌∷◌, length, Option, Some, None, option_map, unwrap_or, refl, sym, ap, ◌∙◌, subst, arith}
+use Rattle.std.proofs.Common.{◌≡◌, ℕ, zero, suc, ◌<◌, List, [], ◌∷◌, length, Some, option_map, unwrap_or, refl, sym, ap, ◌∙◌, arith}
 use Rattle.std.specs.Prelude.{slice_get}
 use Rattle.design_core.specs.declared.design.Instance.{Instance}
-use Rattle.design_core.specs.declared.variant.Signal.{Signal}
 use Rattle.design_core.specs.Design.{Child, Variant, Design}
 use Rattle.design_core.specs.WellFormed.{IsDesign}
 use Rattle.design_exec.specs.Processes.{children_in, child_at}

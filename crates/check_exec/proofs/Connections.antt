@@ -1,33 +1,32 @@
 -- How often the input of a child is connected.
-use Rattle.std.proofs.Common.{◌≡◌, ℕ, zero, suc, ◌+◌, ◌<◌, ◌==◌, Bool, true, false, true≢false, ◌||◌, ◌&&◌, not, bytes_eq, List, [], ◌∷◌, map, Option, Some, None, is_some, option_map, unwrap_or, ◌⊎◌, inl, inr, refl, sym, ap, ◌∙◌, subst, arith, eqb-true, eq-eqb}
+use Rattle.std.proofs.Common.{◌≡◌, ℕ, ◌+◌, ◌==◌, Bool, true, false, true≢false, ◌||◌, ◌&&◌, not, bytes_eq, List, [], ◌∷◌, map, Option, Some, None, is_some, option_map, unwrap_or, ◌⊎◌, inl, inr, refl, sym, ap, ◌∙◌, subst, arith, eqb-true, eq-eqb}
 use Rattle.std.specs.Prelude.{slice_get, count_by}
-use Rattle.std.specs.List.{enumerate_from, flat_map, list_any}
-use Rattle.std.proofs.lemmas.Bool.{cases_Bool, or_left, false_from_ne_true}
-use Rattle.std.proofs.lemmas.Option.{none-some, same_Some}
+use Rattle.std.specs.List.{enumerate_from, flat_map}
+use Rattle.std.proofs.lemmas.Bool.{cases_Bool, false_from_ne_true}
+use Rattle.std.proofs.lemmas.Option.{same_Some}
 use Rattle.tree_core.proofs.Same.{both_true}
 use Rattle.exec_core.specs.Block.{Name}
 use Rattle.exec_core.specs.Lists.{EachOf, IsIn}
-use Rattle.exec_core.specs.Design.{place, same_place, links_to}
+use Rattle.exec_core.specs.Design.{place, links_to}
 use Rattle.exec_core.proofs.Lists.{each_member, each_from}
 use Rattle.design_core.specs.declared.design.Instance.{Instance}
 use Rattle.design_core.specs.declared.variant.Signal.{Signal}
 use Rattle.design_core.specs.Design.{Conn, Child, Variant, Design}
-use Rattle.design_core.specs.WellFormed.{IsDesign}
-use Rattle.design_exec.specs.Processes.{Numbered, Link, children_in, child_at, none_or, conn_link, child_links, instances_of}
+use Rattle.design_exec.specs.Processes.{Numbered, Link, children_in, none_or, conn_link, child_links, instances_of}
 use Rattle.check_core.specs.Known.{none}
-use Rattle.check_core.specs.Faults.{earlier, first_of}
-use Rattle.check_core.specs.Names.{named, any_kind, is_input}
+use Rattle.check_core.specs.Faults.{first_of}
+use Rattle.check_core.specs.Names.{named, is_input}
 use Rattle.check_core.specs.Ports as ports
 use Rattle.check_core.specs.Ports.{connected, unbound_at, unbound_in_child}
-use Rattle.check_core.specs.Drivers.{Lines, undriven_yet, driven_also, second_drive, conn_drive, connected_twice, twice_in_child, driven_twice}
+use Rattle.check_core.specs.Drivers.{Lines, undriven_yet, driven_also, second_drive, conn_drive, connected_twice, twice_in_child}
 use Rattle.check_exec.specs.Premises.{IsSound}
-use Rattle.check_exec.proofs.Facts.{eq_turned, same_name, name_same, in_at, from_zero, each_index, none_found, earlier_left, earlier_right}
+use Rattle.check_exec.proofs.Facts.{eq_turned, same_name, in_at, from_zero, none_found, earlier_left, earlier_right}
 use Rattle.check_exec.proofs.Instances.{IsClean, Stands, clean}
 use Rattle.check_exec.proofs.Names.{signals_differ}
 use Rattle.check_exec.proofs.Widths.{is_known}
 use Rattle.check_exec.proofs.Targets.{named_in, one_signal}
 use Rattle.check_exec.proofs.Children.{HasInstance, child_stands, children_are}
-use Rattle.check_exec.proofs.Links.{IsConn, conn_passes}
+use Rattle.check_exec.proofs.Links.{conn_passes}
 use Rattle.check_exec.proofs.Counting.{count_skip, count_take, count_none, count_same, count_map, flat_none, only_at}
 use Rattle.check_exec.proofs.Drives.{stays_driven, now_driven, not_driven}
 use Rattle.check_exec.proofs.Parents.{once, IsBelow}
@@ -138,8 +137,8 @@ module _ (d : Design) (sound : IsSound d) (i : ℕ) (r : Instance) (v : Variant)
 
   other_parents : (j : ℕ) (q : Instance) → slice_get d.instances j ≡ Some q → (j ≡ p.parent → ⊥) → count_by To_it (conns_at d (j, q)) ≡ 0
   other_parents j q there n = none_at d sound i s.name j q there (λ w its k c here h y inside number port.
-    let same : h.instance ≡ r = same_instance d h.number h.instance h.variant i r v h.stands stands number in
-    n (same_Some j p.parent (sym h.parent ∙ ap (λ (z : Instance). z.parent) same ∙ p.up)))
+      let same : h.instance ≡ r = same_instance d h.number h.instance h.variant i r v h.stands stands number in
+      n (same_Some j p.parent (sym h.parent ∙ ap (λ (z : Instance). z.parent) same ∙ p.up)))
 
   other_children : (k : ℕ) (c : Child) → slice_get p.variant.children k ≡ Some c → (k ≡ p.place → ⊥) → count_by To_it (child_links d p.parent (k, c)) ≡ 0
   other_children k c here n =

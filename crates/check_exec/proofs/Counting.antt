@@ -6,11 +6,11 @@ use Rattle.std.proofs.lemmas.List.Sums.{sum_by-cons, sum_by-append}
 use Rattle.std.proofs.lemmas.Bool.{or_parts}
 use Rattle.std.proofs.lemmas.Option.{none-some, same_Some}
 use Rattle.exec_core.specs.Lists.{EachOf, IsIn}
-use Rattle.exec_core.proofs.Lists.{each_member, each_from}
+use Rattle.exec_core.proofs.Lists.{each_from}
 use Rattle.design_core.specs.declared.variant.Signal.{Signal}
 use Rattle.check_core.specs.Known.{Known, with}
 use Rattle.check_core.specs.Names.{signal_thing}
-use Rattle.check_exec.proofs.Facts.{each_index, each_numbered, name_same}
+use Rattle.check_exec.proofs.Facts.{each_numbered, name_same}
 use Rattle.check_exec.proofs.Names.{Differ, none_taken}
 use Rattle.check_exec.proofs.Targets.{not_named}
 use Rattle.std.specs.Prelude.{bytes_eq}

@@ -1,10 +1,8 @@
 -- A signal that blocks drive is assigned by one of them; no block assigns another.
-use Rattle.std.proofs.Common.{◌≡◌, ℕ, ◌+◌, ◌==◌, Bool, true, false, true≢false, ◌||◌, ◌&&◌, not, bytes_eq, List, [], ◌∷◌, Option, Some, None, is_some, ◌⊎◌, inl, inr, refl, sym, ap, ◌∙◌, subst, if◌then◌else◌}
+use Rattle.std.proofs.Common.{◌≡◌, ℕ, ◌+◌, Bool, true, false, true≢false, ◌||◌, not, bytes_eq, List, [], ◌∷◌, Option, Some, None, is_some, ◌⊎◌, inl, inr, refl, sym, ap, ◌∙◌, subst, if◌then◌else◌}
 use Rattle.std.specs.Prelude.{count_by}
-use Rattle.std.specs.List.{list_any}
-use Rattle.std.proofs.lemmas.Bool.{or_cases, or_left, or_right, cases_Bool, false_from_ne_true, true_from_ne_false}
-use Rattle.std.proofs.lemmas.Option.{none-some}
-use Rattle.exec_core.specs.Block.{Name, Now, own}
+use Rattle.std.proofs.lemmas.Bool.{or_cases, cases_Bool, false_from_ne_true}
+use Rattle.exec_core.specs.Block.{Name, own}
 use Rattle.exec_core.specs.Lists.{EachOf, IsIn}
 use Rattle.exec_core.proofs.Lists.{each_member, each_from}
 use Rattle.design_core.specs.declared.variant.Signal.{Signal}
@@ -12,7 +10,7 @@ use Rattle.design_core.specs.declared.variant.Kind.{Kind}
 use Rattle.design_core.specs.declared.variant.Kind.TheVariants as kind
 use Rattle.design_core.specs.Design.{Expr, Stmt, Assign, Let, If, Block, Variant}
 use Rattle.design_exec.specs.Processes.{body_of}
-use Rattle.check_core.specs.Known.{Known, none}
+use Rattle.check_core.specs.Known.{none}
 use Rattle.check_core.specs.Statements.{statements}
 use Rattle.check_core.specs.Faults.{earlier, first_of, spot}
 use Rattle.check_core.specs.declared.fault.CheckFault.TheVariants.{TwoDrivers}
@@ -23,7 +21,7 @@ use Rattle.check_exec.proofs.Instances.{IsClean}
 use Rattle.check_exec.proofs.Names.{signals_differ, let_no_signal}
 use Rattle.check_exec.proofs.Widths.{is_known}
 use Rattle.check_exec.proofs.Statements.{sets}
-use Rattle.check_exec.proofs.Targets.{MayAssign, targets_known, named_in, in_named, named_any, one_signal, OwnName, by_let, by_target, own_name}
+use Rattle.check_exec.proofs.Targets.{MayAssign, targets_known, named_in, in_named, one_signal, OwnName, by_let, by_target, own_name}
 use Rattle.check_exec.proofs.Counting.{count_skip, count_take, count_none, count_same}
 
 -- ---- lines
@@ -71,9 +69,9 @@ no_more : (before : Lines) (blocks : List Block) (x : Name) → is_some (before 
 no_more before [] x s e = tt
 no_more before (b ∷ blocks) x s e = (
   false_from_ne_true (Of x b) (λ h.
-  let found = any_in (λ (d : Drive). bytes_eq x d.1) (driven_in b) h in
-  let free = each_member (λ d. second_drive before d ≡ None) (driven_in b) (none_found (second_drive before) (driven_in b) (earlier_left (first_of (second_drive before) (driven_in b)) _ e)) found.0 found.1.0 in
-  true≢false (sym found.1.1 ∙ not_driven before found.0 free x s)),
+      let found = any_in (λ (d : Drive). bytes_eq x d.1) (driven_in b) h in
+      let free = each_member (λ d. second_drive before d ≡ None) (driven_in b) (none_found (second_drive before) (driven_in b) (earlier_left (first_of (second_drive before) (driven_in b)) _ e)) found.0 found.1.0 in
+      true≢false (sym found.1.1 ∙ not_driven before found.0 free x s)),
   no_more (all_driven before (driven_in b)) blocks x (all_stay before (driven_in b) x s) (earlier_right (first_of (second_drive before) (driven_in b)) _ e),
 )
 
@@ -135,10 +133,13 @@ module _ (variants : List Variant) (v : Variant) (c : IsClean variants v) (s : S
     where
       found : (d : Drive) × (IsIn d (driven_in b) × (bytes_eq s.name d.1 ≡ true))
       found = any_in (λ (d : Drive). bytes_eq s.name d.1) (driven_in b) e
+
       one : IsAssigned (statements b.body) found.0.0 found.0.1
       one = assigned_at (statements b.body) found.0 found.1.0
+
       may : targets (scope_of v) b.clocked found.0.1 ≡ true
       may = each_member (MayAssign (targets (scope_of v) b.clocked)) (statements b.body) (targets_known variants v b c here) (Assign one.slot found.0.0 one.gens found.0.1 one.value) one.stands
+
       by_clock : (b.clocked ≡ true) ⊎ (b.clocked ≡ false) → Owns s.name b ≡ true
       by_clock (inl clocked) =
           let register : named is_register v.signals s.name ≡ true = subst (λ y. named is_register v.signals y ≡ true) (sym (same_name s.name found.0.1 found.1.1)) (ap (λ k. targets (scope_of v) k found.0.1) (sym clocked) ∙ may) in
@@ -159,6 +160,7 @@ module _ (variants : List Variant) (v : Variant) (c : IsClean variants v) (s : S
           same_test true q f g = sym (f refl)
           same_test false true f g = g refl
           same_test false false f g = refl
+
       assigned : is_assigned v.blocks s.name ≡ true
       assigned =
           let known = is_known (not (is_driven s.kind) || is_assigned v.blocks s.name) _ (each_member (λ t. undriven_at (is_assigned v.blocks) t ≡ None) v.signals (none_found (undriven_at (is_assigned v.blocks)) v.signals c.driven) s at) in

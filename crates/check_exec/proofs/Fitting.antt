@@ -1,5 +1,5 @@
 -- An expression that the checks pass is a tree whose widths fit.
-use Rattle.std.proofs.Common.{◌≡◌, ℕ, ◌+◌, ◌-◌, ◌<◌, ◌≤◌, ◌==◌, Bool, true, false, ◌||◌, ◌&&◌, Option, Some, None, unwrap_or, Result, Ok, Err, if◌then◌else◌, true≢false, inl, inr, refl, sym, ap, ap₂, ◌∙◌, subst, arith, leb-true, ltb-true, eqb-true}
+use Rattle.std.proofs.Common.{◌≡◌, ℕ, ◌+◌, ◌-◌, ◌<◌, ◌≤◌, ◌==◌, Bool, true, false, ◌||◌, ◌&&◌, Some, None, unwrap_or, Result, Ok, Err, if◌then◌else◌, true≢false, refl, sym, ap, ap₂, ◌∙◌, subst, arith, leb-true, ltb-true, eqb-true}
 use Rattle.std.specs.Prelude.{ℤ, pos, negsuc, nat_le, nat_lt, int_le}
 use Rattle.bv_core.specs.Operators.{Fits1, Fits2, FitsMux, width1_of, width2_of}
 use Rattle.tree_core.specs.Width.{width_of, WellFormed}
@@ -14,7 +14,6 @@ use Rattle.design_exec.specs.Processes as processes
 use Rattle.design_exec.specs.Processes.{tree_of}
 use Rattle.check_core.specs.declared.fault.Clash.{Clash}
 use Rattle.check_core.specs.Known.{Known}
-use Rattle.check_core.specs.Faults.{earlier}
 use Rattle.check_core.specs.Names.{Scope, unknown_read, below}
 use Rattle.check_core.specs.Ports.{unknown_output}
 use Rattle.check_core.specs.Widths as checked
@@ -134,16 +133,26 @@ module _ (scope : Scope) (lets outputs : Known) (W : Widths) (good : Name → Ty
   zext_tree : (e : Expr) (to : ℤ) (u w : ℕ) → is_width to ≡ true → zext_width u (bits to) ≡ Ok w → HasTree good F e u → HasTree good F (Zext e to) w
   zext_tree e to u w s h t =
       let k = if_ok (nat_le u (bits to)) (bits to) w _ h in (
-        (t.0, (subst (λ p. width_of F (tree_of e) ≤ p) (sym (same_bits to)) (subst (λ p. p ≤ bits to) (sym t.1) (leb-true u (bits to) k.0)),
-        subst (λ p. p ≤ 128) (sym (same_bits to)) (width_from to s).1)),
+        (
+          t.0,
+          (
+            subst (λ p. width_of F (tree_of e) ≤ p) (sym (same_bits to)) (subst (λ p. p ≤ bits to) (sym t.1) (leb-true u (bits to) k.0)),
+            subst (λ p. p ≤ 128) (sym (same_bits to)) (width_from to s).1,
+          ),
+        ),
         same_bits to ∙ k.1,
       )
 
   slice_tree : (e : Expr) (h l : ℤ) (u w : ℕ) → is_slice h l ≡ true → slice_width u (bits h) (bits l) ≡ Ok w → HasTree good F e u → HasTree good F (Slice e h l) w
   slice_tree e h l u w s f t =
       let k = slice_fits (bits h) (bits l) u w (slice_from h l s) f in (
-        (t.0, (subst (λ p. p ≤ processes.bits h) (sym (same_bits l)) (subst (λ p. bits l ≤ p) (sym (same_bits h)) (k.0).0),
-        subst (λ p. p < width_of F (tree_of e)) (sym (same_bits h)) (subst (λ p. bits h < p) (sym t.1) (k.0).1))),
+        (
+          t.0,
+          (
+            subst (λ p. p ≤ processes.bits h) (sym (same_bits l)) (subst (λ p. bits l ≤ p) (sym (same_bits h)) (k.0).0),
+            subst (λ p. p < width_of F (tree_of e)) (sym (same_bits h)) (subst (λ p. bits h < p) (sym t.1) (k.0).1),
+          ),
+        ),
         ap₂ (λ p q. p - q + 1) (same_bits h) (same_bits l) ∙ k.1,
       )
 

@@ -1,15 +1,13 @@
 -- What is given in a cycle: the inputs of the top, and the registers.
-use Rattle.std.proofs.Common.{◌≡◌, ℕ, zero, suc, ◌+◌, ◌≤◌, ◌==◌, Bool, true, false, ◌||◌, bytes_eq, List, [], ◌∷◌, ◌++◌, map, Option, Some, None, option_map, unwrap_or, Ok, inl, inr, refl, sym, ap, ◌∙◌, subst, if◌then◌else◌, arith, eqb-true, true≢false}
+use Rattle.std.proofs.Common.{◌≡◌, ℕ, zero, suc, ◌+◌, ◌≤◌, ◌==◌, Bool, true, false, bytes_eq, List, [], ◌∷◌, ◌++◌, map, Option, Some, None, option_map, unwrap_or, Ok, inl, inr, refl, sym, ap, ◌∙◌, subst, if◌then◌else◌, arith, eqb-true, true≢false}
 use Rattle.std.specs.Prelude.{slice_get}
 use Rattle.std.specs.List.{enumerate_from, flat_map, list_any}
 use Rattle.std.proofs.lemmas.Bool.{or_parts}
 use Rattle.std.proofs.lemmas.Option.{none-some, same_Some, slice_get_within}
 use Rattle.tree_core.specs.Tree.{Origin, Input, Register}
-use Rattle.tree_core.specs.Width.{IsOrigin, origin_width}
 use Rattle.tree_core.proofs.Same.{both_true}
 use Rattle.exec_core.specs.Block.{Name}
 use Rattle.exec_core.specs.Lists.{EachOf, IsIn, IsNotIn, AreApart}
-use Rattle.exec_core.specs.Whole.{Place}
 use Rattle.exec_core.specs.Design.{place}
 use Rattle.exec_core.specs.Accepted.{GivenFits, OriginsApart}
 use Rattle.exec_core.proofs.Lists.{each_member, each_from}
@@ -23,10 +21,10 @@ use Rattle.design_exec.specs.Processes as processes
 use Rattle.design_exec.specs.Processes.{Numbered, Given, is_top, is_signal_of, signals_at, signals_in, signal_width, processes_of, given_by, givens_at, instances_of, value_of}
 use Rattle.check_core.specs.Known.{Known, none, with}
 use Rattle.check_core.specs.Faults.{first_of}
-use Rattle.check_core.specs.Names.{signal_thing, child_thing, named, any_kind}
+use Rattle.check_core.specs.Names.{signal_thing, child_thing}
 use Rattle.check_core.specs.Widths.{bits, is_declared, is_width, is_literal, bad_signal, signal_mismatch, start_width}
 use Rattle.check_exec.specs.Premises.{IsSound, GivensFit, GivensAreApart}
-use Rattle.check_exec.proofs.Facts.{each_joined, each_map, each_flat, each_numbered, in_any, any_in, in_index, each_index, from_zero, name_same, same_name, none_found, earlier_left}
+use Rattle.check_exec.proofs.Facts.{each_joined, each_flat, each_numbered, in_any, any_in, in_index, each_index, from_zero, name_same, none_found, earlier_left}
 use Rattle.check_exec.proofs.Instances.{IsClean, Stands, clean, signals_are, each_instance}
 use Rattle.check_exec.proofs.Names.{Differ, none_taken, signals_differ, children_differ}
 use Rattle.check_exec.proofs.Widths.{same_bits, width_from, literal_bits, sized, matches, needed_there, same_ok, width_is}
@@ -65,8 +63,10 @@ given_fits d i r v stands c s at kind.Input e = by_top (i == 0)
   where
     here : IsSignal d i s
     here = signal_of d i r v stands c s at
+
     declared : (1 ≤ bits s.width) × (bits s.width ≤ 128)
     declared = width_from s.width (subst (λ k. is_declared k s.width ≡ true) e (declared_of d.variants v c s at))
+
     by_top : (b : Bool) → EachOf (GivenFits (processes_of d)) (if b then (place i s.name, Input s.name (processes.bits s.width)) ∷ [] else [])
     by_top true = (
       record {
@@ -163,6 +163,7 @@ own_apart q taken (s ∷ signals) d =
     each_signal [] h t j = absurd j
     each_signal (z ∷ rest) h t (inl e) = subst (λ (y : Signal). with s.name taken y.name ≡ false) (sym e) h.0
     each_signal (z ∷ rest) h t (inr j) = each_signal rest h.1 t j
+
     other_name : (t : Signal) → IsIn t signals → t.name ≡ s.name → ⊥
     other_name t at e =
         let free = each_signal signals (none_taken (with s.name taken) (map signal_thing signals) d.1) t at in

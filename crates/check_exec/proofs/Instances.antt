@@ -1,14 +1,12 @@
 -- What is refused nowhere, instance by instance.
 use Rattle.std.proofs.Common.{◌≡◌, ℕ, List, [], map, Option, Some, None, option_map, unwrap_or, refl, sym, ap, ◌∙◌, subst}
 use Rattle.std.specs.Prelude.{slice_get}
-use Rattle.std.specs.List.{enumerate_from, flat_map}
-use Rattle.std.proofs.lemmas.Option.{none-some}
+use Rattle.std.specs.List.{flat_map}
 use Rattle.exec_core.specs.Lists.{EachOf, IsIn}
 use Rattle.exec_core.specs.Design.{Process}
 use Rattle.design_core.specs.declared.design.Instance.{Instance}
-use Rattle.design_core.specs.declared.variant.Signal.{Signal}
-use Rattle.design_core.specs.Design.{Variant, Child, Block, Design}
-use Rattle.design_exec.specs.Processes.{Numbered, processes_of, processes_at, process, instances_of, signals_in, blocks_in, children_in, signals_at}
+use Rattle.design_core.specs.Design.{Variant, Block, Design}
+use Rattle.design_exec.specs.Processes.{Numbered, processes_of, processes_at, process, instances_of, signals_in, signals_at}
 use Rattle.check_core.specs.declared.fault.Refusal.{Refusal}
 use Rattle.check_core.specs.declared.fault.Refusal.TheVariants as refusal
 use Rattle.check_core.specs.Faults.{fault_in}
@@ -90,6 +88,7 @@ each_process d P h =
   where
     blocks_none : (i : ℕ) (r : Instance) → slice_get d.variants r.variant ≡ None → processes_at d (i, r) ≡ []
     blocks_none i r e = ap (λ o. map (process i (signals_in d r.variant)) (unwrap_or (option_map (λ (w : Variant). w.blocks) o) [])) e
+
     blocks_are : (i : ℕ) (r : Instance) (v : Variant) → Stands d i r v → processes_at d (i, r) ≡ map (process i v.signals) v.blocks
     blocks_are i r v s =
         ap (λ o. map (process i (unwrap_or (option_map (λ (w : Variant). w.signals) o) [])) (unwrap_or (option_map (λ (w : Variant). w.blocks) o) [])) s.variant

@@ -1,7 +1,7 @@
 -- No path of a block leaves a target unassigned.
-use Rattle.std.proofs.Common.{◌≡◌, ℕ, Bool, true, false, true≢false, List, [], ◌∷◌, Option, None, inl, inr, refl, sym, ap, ◌∙◌, subst, if◌then◌else◌}
-use Rattle.exec_core.specs.Block.{Name, Now, own}
-use Rattle.exec_core.specs.Lists.{EachOf, IsIn}
+use Rattle.std.proofs.Common.{◌≡◌, ℕ, Bool, true, false, true≢false, List, [], ◌∷◌, None, inl, inr, refl, sym, ap, ◌∙◌, subst, if◌then◌else◌}
+use Rattle.exec_core.specs.Block.{Name, Now}
+use Rattle.exec_core.specs.Lists.{IsIn}
 use Rattle.exec_core.specs.Paths.{BodySkips}
 use Rattle.exec_core.specs.Run.{IsTarget}
 use Rattle.exec_core.proofs.Lists.{each_member, each_from}
@@ -14,8 +14,8 @@ use Rattle.check_core.specs.Statements.{statements}
 use Rattle.check_core.specs.Faults.{first_of, spot}
 use Rattle.check_core.specs.Names.{named, any_kind}
 use Rattle.check_core.specs.Drivers.{assignments, driven_in}
-use Rattle.check_core.specs.Paths.{body_skips, latch_at, latch_in, latch}
-use Rattle.check_exec.specs.Premises.{IsSound, NoLatchIsLeft}
+use Rattle.check_core.specs.Paths.{body_skips, latch_at, latch_in}
+use Rattle.check_exec.specs.Premises.{NoLatchIsLeft}
 use Rattle.check_exec.proofs.Facts.{none_found}
 use Rattle.check_exec.proofs.Instances.{IsClean, Stands, clean, each_process}
 use Rattle.check_exec.proofs.Names.{signals_named, let_no_signal}
@@ -52,6 +52,7 @@ no_latch d i r v b s c at x target path = by_statement (set_by b.clocked x b.bod
     by_kind (Let slot line gens y e) here sets =
         let_no_signal v b at c.apart slot line gens y e here (subst (λ z. named any_kind v.signals z ≡ true) (sym sets) (sym (signals_named d i r v s x) ∙ target.1))
     by_kind (If slot line gens t first second) here sets = sets
+
     by_statement : SetIn b.clocked x (statements b.body) → ⊥
     by_statement h = by_kind h.statement h.stands h.sets
 

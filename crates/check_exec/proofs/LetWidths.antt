@@ -1,6 +1,6 @@
 -- The widths of lets, statement by statement.
-use Rattle.std.proofs.Common.{◌≡◌, ℕ, Bool, true, false, true≢false, ◌||◌, bytes_eq, List, [], ◌∷◌, ◌++◌, Option, Some, None, ◌⊎◌, inl, inr, refl, sym, ap, ◌∙◌, subst, if◌then◌else◌, Ok}
-use Rattle.std.proofs.lemmas.Bool.{or_cases, or_left, or_right}
+use Rattle.std.proofs.Common.{◌≡◌, ℕ, Bool, true, false, ◌||◌, bytes_eq, List, [], ◌∷◌, ◌++◌, Some, None, refl, sym, ap, ◌∙◌, subst, if◌then◌else◌, Ok}
+use Rattle.std.proofs.lemmas.Bool.{or_left, or_right}
 use Rattle.tree_core.specs.Width.{width_of}
 use Rattle.exec_core.specs.Block.{Name}
 use Rattle.exec_core.specs.Lists.{EachOf}
@@ -9,9 +9,8 @@ use Rattle.design_exec.specs.Processes as processes
 use Rattle.design_exec.specs.Processes.{tree_of, put, stmt_widths, body_widths, else_widths}
 use Rattle.check_core.specs.Known.{Known, with}
 use Rattle.check_core.specs.Statements.{inside, statements, else_statements}
-use Rattle.check_core.specs.Faults.{earlier}
 use Rattle.check_core.specs.Names.{Scope, unknown_read, unknown_in, unknown_among, lets_in}
-use Rattle.check_core.specs.Ports.{unknown_output, unknown_port_in}
+use Rattle.check_core.specs.Ports.{unknown_port_in}
 use Rattle.check_core.specs.Widths as checked
 use Rattle.check_core.specs.Widths.{Widths, is_sized, bad_stmt, needed, width_in, stmt_mismatch, mismatch_among, put_let, put_width, widths_after}
 use Rattle.check_exec.proofs.Facts.{eq_turned, same_name, name_same, earlier_left, earlier_right}
@@ -141,16 +140,20 @@ module _ (scope : Scope) (assigned lets taken outputs : Known) (W : Widths) (E F
     where
       found : (w : ℕ) × (width_in W e ≡ Ok w)
       found = matches line x (width_in W e) m
+
       here : HasTree good E e found.0
       here = fits_expr scope lets outputs W good E line line (now (Let slot line gens x e ∷ rest) h) e found.0 u p (sized (is_sized e) line x s) found.1
+
       by_name : (y : Name) (b : Bool) → bytes_eq y x ≡ b → ((b || lets y) || scope.signal y) ≡ true → put_width x found.0 W y ≡ Some (put x (width_of E (tree_of e)) E y)
       by_name y true t k =
           ap (λ b. if b then Some found.0 else W y) t ∙ ap (λ w. Some w) (sym (ap (λ b. if b then width_of E (tree_of e) else E y) (eq_turned x y ∙ t) ∙ here.1))
       by_name y false t k =
           ap (λ b. if b then Some found.0 else W y) t ∙ h.widths y k ∙ ap (λ w. Some w) (sym (ap (λ b. if b then width_of E (tree_of e) else E y) (eq_turned x y ∙ t)))
+
       taken_by : (y : Name) (b : Bool) → ((b || lets y) || scope.signal y) ≡ true → (b || taken y) ≡ true
       taken_by y true k = refl
       taken_by y false k = h.takes y k
+
       good_by : (y : Name) (b : Bool) → bytes_eq y x ≡ b → ((b || lets y) || scope.signal y) ≡ true → good y
       good_by y true t k = subst good (sym (same_name y x t)) g
       good_by y false t k = h.fine y k

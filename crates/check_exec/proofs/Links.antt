@@ -1,15 +1,14 @@
 -- Connections fit the inputs of children, and signals the outputs of children.
-use Rattle.std.proofs.Common.{◌≡◌, ℕ, Bool, true, false, ◌||◌, List, [], ◌∷◌, ◌++◌, map, Option, Some, None, option_map, unwrap_or, Ok, inl, inr, refl, sym, ap, ◌∙◌, subst, codes}
+use Rattle.std.proofs.Common.{◌≡◌, ℕ, true, List, [], ◌∷◌, ◌++◌, map, Option, Some, None, option_map, unwrap_or, Ok, inl, inr, refl, sym, ap, ◌∙◌, subst}
 use Rattle.std.specs.Prelude.{slice_get}
 use Rattle.std.specs.List.{enumerate_from, flat_map}
-use Rattle.tree_core.specs.Tree.{Tree, Leaf}
-use Rattle.tree_core.specs.Width.{width_of, WellFormed}
+use Rattle.tree_core.specs.Tree.{Leaf}
+use Rattle.tree_core.specs.Width.{width_of}
 use Rattle.exec_core.specs.Block.{Name}
 use Rattle.exec_core.specs.Lists.{EachOf, IsIn}
-use Rattle.exec_core.specs.Whole.{Place}
 use Rattle.exec_core.specs.Design.{place, moved}
 use Rattle.exec_core.specs.Accepted.{LinkFits}
-use Rattle.exec_core.proofs.Lists.{each_member, each_from, in_left, in_right}
+use Rattle.exec_core.proofs.Lists.{each_member, in_left, in_right}
 use Rattle.exec_core.proofs.Moving.{Fits, replace_fits}
 use Rattle.design_core.specs.declared.design.Instance.{Instance}
 use Rattle.design_core.specs.declared.variant.Signal.{Signal}
@@ -20,8 +19,8 @@ use Rattle.design_core.specs.WellFormed as formed
 use Rattle.design_core.specs.WellFormed.{IsDesign, IsVariant, child_outs, if_child_out, outputs_of, output_of}
 use Rattle.design_exec.specs.Processes as processes
 use Rattle.design_exec.specs.Processes.{Link, tree_of, is_signal_of, signals_at, signal_width, child_at, none_or, conn_link, child_links, output_link, links_at, processes_of}
-use Rattle.check_core.specs.Known.{Known, none}
-use Rattle.check_core.specs.Faults.{earlier, first_of}
+use Rattle.check_core.specs.Known.{none}
+use Rattle.check_core.specs.Faults.{first_of}
 use Rattle.check_core.specs.Names.{scope_of, named, any_kind, is_input, is_child_output, unknown_read, unknown_in_conn, unknown_in_child}
 use Rattle.check_core.specs.Ports as ports
 use Rattle.check_core.specs.Ports.{unknown_output, unknown_port_at, unknown_port_in_child}
@@ -32,10 +31,10 @@ use Rattle.check_exec.proofs.Facts.{each_at, each_joined, each_map, each_flat, f
 use Rattle.check_exec.proofs.Instances.{IsClean, Stands, clean, signals_are, each_instance}
 use Rattle.check_exec.proofs.Names.{signals_named, signals_differ}
 use Rattle.check_exec.proofs.Widths.{is_known, sized, matches, needed_there}
-use Rattle.check_exec.proofs.Givens.{IsSignal, signal_of}
-use Rattle.check_exec.proofs.Targets.{named_in, named_any}
+use Rattle.check_exec.proofs.Givens.{signal_of}
+use Rattle.check_exec.proofs.Targets.{named_any}
 use Rattle.check_exec.proofs.SignalWidths.{put_known}
-use Rattle.check_exec.proofs.Fitting.{HasTree, Agree, fits_expr, width_at}
+use Rattle.check_exec.proofs.Fitting.{Agree, fits_expr, width_at}
 use Rattle.check_exec.proofs.Children.{HasInstance, child_stands}
 
 -- ---- connections
@@ -156,6 +155,7 @@ same_child k n q p e = (ap number e, ap name e)
     number kind.Wire = 0
     number (kind.Reg start) = 0
     number (kind.ChildOut m x) = m
+
     name : Kind → Name
     name kind.Input = []
     name kind.Output = []
@@ -226,6 +226,7 @@ links_fit d sound =
         let h = child_stands d sound.kept i r v s k c at in
         subst (λ o. EachOf (LinkFits (processes_of d)) (none_or (λ j. map (conn_link i j) c.conns) o)) (sym h.is)
         (each_map (LinkFits (processes_of d)) (conn_link i h.number) c.conns (λ x here. conn_fits d sound i r v s k c at h x here))
+
     both : (i : ℕ) (r : Instance) (v : Variant) → Stands d i r v → EachOf (LinkFits (processes_of d)) (links_of d i (Some v))
     both i r v s =
         each_joined (LinkFits (processes_of d)) (flat_map (child_links d i) (enumerate_from 0 v.children)) (flat_map (λ (t : Signal). output_link d i t.name t.kind) v.signals)

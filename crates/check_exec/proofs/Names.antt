@@ -1,23 +1,22 @@
 -- Names that are taken once: signals, children and lets.
-use Rattle.std.proofs.Common.{◌≡◌, ℕ, Bool, true, false, true≢false, ◌||◌, bytes_eq, List, [], ◌∷◌, ◌++◌, map, Option, Some, None, unwrap_or, ◌⊎◌, inl, inr, refl, sym, ap, ◌∙◌, subst, if◌then◌else◌}
-use Rattle.std.specs.Prelude.{option_map, find}
+use Rattle.std.proofs.Common.{◌≡◌, ℕ, Bool, true, false, true≢false, ◌||◌, bytes_eq, List, [], ◌∷◌, ◌++◌, map, None, inl, inr, refl, sym, ap, ◌∙◌, subst}
 use Rattle.std.specs.List.{list_any}
-use Rattle.std.proofs.lemmas.Bool.{or_parts, or_left}
+use Rattle.std.proofs.lemmas.Bool.{or_parts}
 use Rattle.exec_core.specs.Block.{Name}
 use Rattle.exec_core.specs.Lists.{EachOf, IsIn}
-use Rattle.exec_core.specs.Design.{place, signals_of}
+use Rattle.exec_core.specs.Design.{place}
 use Rattle.exec_core.proofs.Lists.{each_member}
 use Rattle.exec_core.proofs.Slots.{none_if}
 use Rattle.design_core.specs.declared.design.Instance.{Instance}
 use Rattle.design_core.specs.declared.variant.Signal.{Signal}
-use Rattle.design_core.specs.Design.{Stmt, Assign, Let, If, Block, Child, Variant, Design}
-use Rattle.design_exec.specs.Processes.{is_signal_of, signals_at, process, processes_of}
+use Rattle.design_core.specs.Design.{Stmt, Assign, Let, If, Block, Variant, Design}
+use Rattle.design_exec.specs.Processes.{is_signal_of}
 use Rattle.check_core.specs.declared.fault.CheckFault.TheVariants.{DuplicateName}
-use Rattle.check_core.specs.Known.{Known, none, with, either}
+use Rattle.check_core.specs.Known.{Known, none, with}
 use Rattle.check_core.specs.Statements.{statements}
 use Rattle.check_core.specs.Faults.{spot}
 use Rattle.check_core.specs.Names.{named, any_kind, child_named, taken_twice, signal_thing, child_thing, things, lets_in, duplicate_in_block, taken_in, duplicate_name}
-use Rattle.check_exec.proofs.Facts.{eq_turned, each_left, each_right, earlier_left, earlier_right, none_found}
+use Rattle.check_exec.proofs.Facts.{eq_turned, earlier_left, earlier_right, none_found}
 use Rattle.check_exec.proofs.Instances.{Stands, signals_are}
 
 -- ---- names that are taken one after another

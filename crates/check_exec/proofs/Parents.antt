@@ -1,15 +1,14 @@
 -- The parent of an instance, and its place among the children there.
-use Rattle.std.proofs.Common.{◌≡◌, ℕ, zero, suc, ◌+◌, ◌<◌, ◌≤◌, ◌==◌, Bool, true, false, List, [], ◌∷◌, ◌++◌, map, length, Option, Some, None, ◌⊎◌, inl, inr, refl, sym, ap, ◌∙◌, subst, if◌then◌else◌, arith, eq-eqb}
+use Rattle.std.proofs.Common.{◌≡◌, ℕ, zero, suc, ◌+◌, ◌<◌, ◌≤◌, ◌==◌, Bool, true, false, List, [], ◌∷◌, ◌++◌, length, Option, Some, None, refl, ap, ◌∙◌, subst, if◌then◌else◌, arith, eq-eqb}
 use Rattle.std.specs.Prelude.{slice_get, IsSomeAnd}
 use Rattle.std.specs.List.{enumerate_from, flat_map}
 use Rattle.std.proofs.lemmas.Option.{none-some, same_Some, slice_get_within}
 use Rattle.exec_core.specs.Block.{Name}
-use Rattle.exec_core.specs.Lists.{IsIn}
 use Rattle.design_core.specs.declared.design.Instance.{Instance}
 use Rattle.design_core.specs.Design.{Child, Variant, Design}
 use Rattle.design_core.specs.WellFormed as formed
 use Rattle.design_core.specs.WellFormed.{IsDesign, AreChildren, HasParent, standing}
-use Rattle.design_exec.specs.Processes.{Numbered, stands_in, kept_below, numbers_below, instances_of, children_in, child_at}
+use Rattle.design_exec.specs.Processes.{stands_in, kept_below, numbers_below, children_in, child_at}
 use Rattle.check_exec.proofs.Instances.{Stands}
 use Rattle.check_exec.proofs.Children.{some_at, children_are}
 
@@ -24,6 +23,7 @@ same_length j n (r ∷ list) = by_parent r.parent (same_length j (n + 1) list)
         → length ((if b then n ∷ [] else []) ++ flat_map (kept_below j) (enumerate_from (n + 1) list)) ≡ length (if b then (n, r) ∷ standing j (n + 1) list else standing j (n + 1) list)
     by_test true h = ap (λ m. suc m) h
     by_test false h = h
+
     by_parent : (o : Option ℕ) → length (flat_map (kept_below j) (enumerate_from (n + 1) list)) ≡ length (standing j (n + 1) list)
         → length ((if stands_in j o then n ∷ [] else []) ++ flat_map (kept_below j) (enumerate_from (n + 1) list)) ≡ length (if formed.stands_in j o then (n, r) ∷ standing j (n + 1) list else standing j (n + 1) list)
     by_parent None h = by_test false h
@@ -67,12 +67,14 @@ found_below j n (q ∷ list) zero r e p =
   where
     stands : stands_in j q.parent ≡ true
     stands = ap (λ (z : Instance). stands_in j z.parent) (same_Some q r e) ∙ ap (stands_in j) p ∙ eq-eqb j j refl
+
     last : (n : ℕ) → n ≡ n + 0
     last n = omega arith
 found_below j n (q ∷ list) (suc i) r e p = by_test (stands_in j q.parent) (found_below j (n + 1) list i r e p)
   where
     further : (n i : ℕ) → n + 1 + i ≡ n + suc i
     further n i = omega arith
+
     by_test : (b : Bool) → (k : ℕ) × (slice_get (flat_map (kept_below j) (enumerate_from (n + 1) list)) k ≡ Some (n + 1 + i))
         → (k : ℕ) × (slice_get ((if b then n ∷ [] else []) ++ flat_map (kept_below j) (enumerate_from (n + 1) list)) k ≡ Some (n + suc i))
     by_test true h = (suc h.0, h.1 ∙ ap (λ m. Some m) (further n i))

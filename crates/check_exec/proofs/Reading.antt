@@ -1,19 +1,17 @@
 -- No name of a block is read before it is written.
-use Rattle.std.proofs.Common.{◌≡◌, ℕ, Bool, true, false, true≢false, ◌&&◌, List, [], ◌∷◌, ◌++◌, Option, Some, None, refl, sym, ap, ◌∙◌, subst}
+use Rattle.std.proofs.Common.{◌≡◌, ℕ, Bool, true, true≢false, ◌&&◌, List, [], ◌∷◌, ◌++◌, None, sym, ◌∙◌}
 use Rattle.std.proofs.lemmas.Bool.{and_from}
-use Rattle.exec_core.specs.Block.{Name, Key, Now, Next, own}
+use Rattle.exec_core.specs.Block.{Name, Key, Now}
 use Rattle.exec_core.specs.Lists.{EachOf, IsIn}
-use Rattle.exec_core.specs.Leaves.{EachLeaf}
 use Rattle.exec_core.specs.Paths.{Skips, Reads, BodyReads, ReadsAssigned, own_key}
 use Rattle.exec_core.proofs.Lists.{each_member}
 use Rattle.exec_core.proofs.Slots.{none_if}
-use Rattle.design_core.specs.Design as design
 use Rattle.design_core.specs.Design.{Expr, Read, Out, Value, Unary, Binary, Mux, Zext, Slice, Stmt, Assign, Let, If, Body, Done, Then, Else, NoElse, Otherwise, Block, Variant}
 use Rattle.design_exec.specs.Processes.{tree_of, stmt_of, body_of, else_of}
 use Rattle.check_core.specs.declared.fault.CheckFault.TheVariants.{ReadBeforeWrite}
 use Rattle.check_core.specs.Known.{Known}
 use Rattle.check_core.specs.Statements.{inside, statements, else_statements}
-use Rattle.check_core.specs.Faults.{earlier, first_of, spot}
+use Rattle.check_core.specs.Faults.{first_of, spot}
 use Rattle.check_core.specs.Names.{named, is_child_output, below}
 use Rattle.check_core.specs.Ports.{unknown_output, unknown_port_in, unknown_port_in_child, unknown_port_in_block}
 use Rattle.check_core.specs.Paths as paths
@@ -21,7 +19,7 @@ use Rattle.check_core.specs.Paths.{skips, early_read, early, early_in, early_in_
 use Rattle.check_exec.proofs.Facts.{each_left, each_right, none_found, earlier_left, earlier_right}
 use Rattle.check_exec.proofs.Instances.{IsClean}
 use Rattle.check_exec.proofs.Statements.{IsOff, skip_stmt}
-use Rattle.check_exec.proofs.Targets.{OwnName, own_name, own_checked, own_no_output, own_off}
+use Rattle.check_exec.proofs.Targets.{own_name, own_checked, own_no_output, own_off}
 use Rattle.check_exec.proofs.Widths.{is_known}
 
 -- what some path has not assigned: the checks miss it too, it is no output of a child, and no assignment of a clocked block is to it

@@ -1,5 +1,5 @@
 -- The widths of signals by name: as the checks put them, and as execution finds them.
-use Rattle.std.proofs.Common.{◌≡◌, ℕ, Bool, true, false, true≢false, ◌||◌, bytes_eq, List, [], ◌∷◌, map, Option, Some, None, inl, inr, refl, sym, ap, ◌∙◌, subst, if◌then◌else◌}
+use Rattle.std.proofs.Common.{◌≡◌, ℕ, Bool, true, false, true≢false, bytes_eq, List, [], ◌∷◌, map, Some, inl, inr, refl, sym, ap, ◌∙◌, subst, if◌then◌else◌}
 use Rattle.std.proofs.lemmas.Bool.{or_left, or_right, false_from_ne_true}
 use Rattle.exec_core.specs.Block.{Name}
 use Rattle.exec_core.specs.Lists.{IsIn}
@@ -7,7 +7,7 @@ use Rattle.design_core.specs.declared.variant.Signal.{Signal}
 use Rattle.design_core.specs.declared.variant.Kind.{Kind}
 use Rattle.design_exec.specs.Processes.{signal_width}
 use Rattle.check_core.specs.Known.{Known, none, with}
-use Rattle.check_core.specs.Names.{named, any_kind, signal_thing}
+use Rattle.check_core.specs.Names.{named, signal_thing}
 use Rattle.check_core.specs.Widths.{Widths, bits, no_width, put_width, put_signal, put_signals, widths_of}
 use Rattle.check_exec.proofs.Facts.{same_name, name_same}
 use Rattle.check_exec.proofs.Names.{Differ}

@@ -1,10 +1,10 @@
 -- The slots of an instance differ.
-use Rattle.std.proofs.Common.{ℕ, List, [], ◌∷◌, length, unwrap_or}
+use Rattle.std.proofs.Common.{List, [], ◌∷◌, length, unwrap_or}
 use Rattle.std.specs.Prelude.{slice_get}
-use Rattle.exec_core.specs.Lists.{EachOf, AreApart}
-use Rattle.design_core.specs.Design.{Variant, Design}
+use Rattle.exec_core.specs.Lists.{EachOf}
+use Rattle.design_core.specs.Design.{Variant}
 use Rattle.design_core.specs.Slots.{variant_heads, slots_of, AreNumbered}
-use Rattle.design_core.specs.WellFormed.{IsVariant, IsDesign}
+use Rattle.design_core.specs.WellFormed.{IsVariant}
 use Rattle.design_exec.proofs.Slots.{instances_apart}
 use Rattle.check_exec.specs.Premises.{SlotsAreApart}
 

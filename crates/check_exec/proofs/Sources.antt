@@ -1,15 +1,15 @@
 -- Each signal of an accepted design has one source.
-use Rattle.std.proofs.Common.{◌≡◌, ℕ, zero, suc, ◌+◌, ◌==◌, Bool, true, false, true≢false, ◌&&◌, bytes_eq, List, [], ◌∷◌, map, Option, Some, None, option_map, unwrap_or, ◌⊎◌, inl, inr, refl, sym, ap, ◌∙◌, subst, if◌then◌else◌, arith, eq-eqb, ne_eqb}
+use Rattle.std.proofs.Common.{◌≡◌, ℕ, zero, suc, ◌+◌, ◌==◌, Bool, true, false, true≢false, ◌&&◌, bytes_eq, List, [], ◌∷◌, Option, Some, None, option_map, unwrap_or, ◌⊎◌, inl, inr, refl, sym, ap, ◌∙◌, subst, if◌then◌else◌, arith, eq-eqb, ne_eqb}
 use Rattle.std.specs.Prelude.{slice_get, count_by}
-use Rattle.std.specs.List.{enumerate_from, flat_map, list_any}
+use Rattle.std.specs.List.{flat_map, list_any}
 use Rattle.std.proofs.lemmas.Bool.{and_left, and_right, false_from_ne_true}
 use Rattle.tree_core.specs.Tree.{Leaf, Input, Register}
 use Rattle.exec_core.specs.Block.{Name, own}
-use Rattle.exec_core.specs.Lists.{EachOf, IsIn}
+use Rattle.exec_core.specs.Lists.{IsIn}
 use Rattle.exec_core.specs.Whole.{Place}
 use Rattle.exec_core.specs.Design.{place, same_place, links_to, assigns_to, gives_to}
 use Rattle.exec_core.specs.Accepted.{source_count}
-use Rattle.exec_core.proofs.Lists.{each_member, each_from}
+use Rattle.exec_core.proofs.Lists.{each_from}
 use Rattle.exec_core.proofs.Sources.{same_place-refl}
 use Rattle.design_core.specs.declared.design.Instance.{Instance}
 use Rattle.design_core.specs.declared.variant.Signal.{Signal}
@@ -21,12 +21,12 @@ use Rattle.design_exec.specs.Processes.{Numbered, Link, Given, value_of, is_sign
 use Rattle.check_core.specs.Known.{none}
 use Rattle.check_core.specs.Names.{is_input, is_driven}
 use Rattle.check_exec.specs.Premises.{IsSound, OneSource}
-use Rattle.check_exec.proofs.Facts.{any_in, same_name, name_same}
+use Rattle.check_exec.proofs.Facts.{any_in, same_name}
 use Rattle.check_exec.proofs.Instances.{IsClean, Stands, clean, signals_are}
 use Rattle.check_exec.proofs.Names.{signals_differ}
 use Rattle.check_exec.proofs.Children.{child_stands}
 use Rattle.check_exec.proofs.Links.{output_is}
-use Rattle.check_exec.proofs.Counting.{count_skip, count_take, count_none, count_same, count_map, flat_none, flat_both, only_at, signal_only}
+use Rattle.check_exec.proofs.Counting.{count_take, count_none, count_same, count_map, flat_none, flat_both, only_at, signal_only}
 use Rattle.check_exec.proofs.Drives.{one_owner, no_owner}
 use Rattle.check_exec.proofs.Parents.{IsBelow, is_below}
 use Rattle.check_exec.proofs.Connections.{conns_at, no_input, no_top, one_input}
@@ -214,6 +214,7 @@ is_of d i x e = by_instance (slice_get d.instances i) refl
         let stands : Stands d i r v = record { instance = at; variant = f } in
         let found = any_in (λ (s : Signal). bytes_eq s.name x) v.signals (sym (ap (list_any (λ (s : Signal). bytes_eq s.name x)) (signals_are d i r v stands)) ∙ e) in
         record { instance = r; variant = v; stands = stands; signal = found.0; inside = found.1.0; named = same_name found.0.name x found.1.1 }
+
     by_instance : (o : Option Instance) → slice_get d.instances i ≡ o → IsOf d i x
     by_instance None f =
         absurd (true≢false (sym e ∙ ap (λ o. list_any (λ (s : Signal). bytes_eq s.name x) (unwrap_or (option_map (λ (q : Instance). signals_in d q.variant) o) [])) f))

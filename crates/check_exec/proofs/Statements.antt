@@ -1,5 +1,5 @@
 -- The statements of a body, and those of the block that it is translated to.
-use Rattle.std.proofs.Common.{◌≡◌, ℕ, Bool, true, false, true≢false, ◌||◌, ◌&&◌, not, bytes_eq, List, [], ◌∷◌, ◌++◌, ◌⊎◌, inl, inr, refl, sym, ap, ◌∙◌, subst}
+use Rattle.std.proofs.Common.{◌≡◌, Bool, true, false, true≢false, bytes_eq, List, ◌∷◌, ◌++◌, inl, inr, refl, sym, ap, ◌∙◌, subst}
 use Rattle.std.proofs.lemmas.Bool.{or_cases, or_left, or_right, and_from, not_from_false}
 use Rattle.exec_core.specs.Block.{Name, Now, same_key, assigns, body_assigns}
 use Rattle.exec_core.specs.Lists.{EachOf, IsIn}

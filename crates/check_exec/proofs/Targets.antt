@@ -1,5 +1,5 @@
 -- What a block may assign, and its own names.
-use Rattle.std.proofs.Common.{◌≡◌, ℕ, Bool, true, false, true≢false, ◌||◌, ◌&&◌, not, bytes_eq, List, [], ◌∷◌, ◌++◌, map, Option, None, ◌⊎◌, inl, inr, refl, sym, ap, ◌∙◌, subst, if◌then◌else◌}
+use Rattle.std.proofs.Common.{◌≡◌, ℕ, Bool, true, false, true≢false, ◌&&◌, not, bytes_eq, List, [], ◌∷◌, map, None, inl, inr, refl, sym, ap, ◌∙◌, subst}
 use Rattle.std.specs.List.{list_any}
 use Rattle.std.proofs.lemmas.Bool.{or_parts, or_left, or_right, and_from, not_from_false, false_from_ne_true}
 use Rattle.tree_core.proofs.Same.{both_true}
@@ -12,14 +12,14 @@ use Rattle.design_core.specs.declared.variant.Kind.{Kind}
 use Rattle.design_core.specs.declared.variant.Kind.TheVariants as kind
 use Rattle.design_core.specs.Design.{Stmt, Assign, Let, If, Body, Done, Then, Else, NoElse, Otherwise, Block, Variant}
 use Rattle.design_core.specs.Slots.{let_of, lets_of, else_lets}
-use Rattle.design_exec.specs.Processes.{stmt_of, body_of, else_of}
+use Rattle.design_exec.specs.Processes.{body_of}
 use Rattle.check_core.specs.Known.{Known, none, with, has}
 use Rattle.check_core.specs.Statements.{inside, statements, else_statements}
-use Rattle.check_core.specs.Faults.{first_of, earlier}
-use Rattle.check_core.specs.Names.{Scope, scope_of, named, any_kind, is_driven, is_register, is_child_output, targets, signal_thing, unknown_in, unknown_among, unknown_read, unknown_in_block, unknown_in_child, unknown_name, lets_after, unless_known}
+use Rattle.check_core.specs.Faults.{first_of}
+use Rattle.check_core.specs.Names.{Scope, scope_of, named, any_kind, is_driven, is_register, is_child_output, targets, signal_thing, unknown_in, unknown_among, unknown_read, unknown_in_block, unknown_in_child}
 use Rattle.check_core.specs.Drivers.{Drive, driven_in}
 use Rattle.check_core.specs.Paths as paths
-use Rattle.check_exec.proofs.Facts.{name_same, same_name, each_left, each_right, any_in, in_any, in_parts, none_found, earlier_left, earlier_right}
+use Rattle.check_exec.proofs.Facts.{name_same, same_name, any_in, in_any, in_parts, none_found, earlier_left, earlier_right}
 use Rattle.check_exec.proofs.Instances.{IsClean}
 use Rattle.check_exec.proofs.Names.{Differ, none_taken, signals_differ, let_no_signal}
 use Rattle.check_exec.proofs.Widths.{is_known}
@@ -141,6 +141,7 @@ own_name variants v b c at x own = by_set (set_by b.clocked x b.body own)
         subst (OwnName v b) sets.1 (by_target line sets.0 (assignment_in (statements b.body) slot line gens y e here) (ap (λ k. targets (scope_of v) k y) (sym sets.0) ∙ may))
     by_kind (Let slot line gens y e) here sets = subst (OwnName v b) sets (by_let slot line gens e here)
     by_kind (If slot line gens t first second) here sets = absurd sets
+
     by_set : SetIn b.clocked x (statements b.body) → OwnName v b x
     by_set h = by_kind h.statement h.stands h.sets
 
@@ -169,8 +170,8 @@ own_off variants v b c at x own = each_from (IsOff b.clocked x) (statements b.bo
   where
     by_kind : (s : Stmt) → IsIn s (statements b.body) → OwnName v b x → IsOff b.clocked x s
     by_kind (Assign slot line gens y e) i (by_let n l g f j) = λ clocked. false_from_ne_true (bytes_eq x y) (λ same.
-      let may : targets (scope_of v) b.clocked y ≡ true = each_member (MayAssign (targets (scope_of v) b.clocked)) (statements b.body) (targets_known variants v b c at) (Assign slot line gens y e) i in
-      let_no_signal v b at c.apart n l g x f j (target_signal v b.clocked x (subst (λ z. targets (scope_of v) b.clocked z ≡ true) (sym (same_name x y same)) may)))
+        let may : targets (scope_of v) b.clocked y ≡ true = each_member (MayAssign (targets (scope_of v) b.clocked)) (statements b.body) (targets_known variants v b c at) (Assign slot line gens y e) i in
+        let_no_signal v b at c.apart n l g x f j (target_signal v b.clocked x (subst (λ z. targets (scope_of v) b.clocked z ≡ true) (sym (same_name x y same)) may)))
     by_kind (Assign slot line gens y e) i (by_target l comb j driven) = λ clocked. absurd (true≢false (sym clocked ∙ comb))
     by_kind (Let slot line gens y e) i own = tt
     by_kind (If slot line gens t first second) i own = tt

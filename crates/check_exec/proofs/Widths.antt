@@ -1,13 +1,12 @@
 -- Widths that are widths, and those of signals.
-use Rattle.std.proofs.Common.{◌≡◌, ℕ, ◌<◌, ◌≤◌, ◌==◌, ◌^◌, Bool, true, false, true≢false, ◌||◌, ◌&&◌, not, nat_lt, bytes_eq, List, [], ◌∷◌, map, Option, Some, None, option_map, unwrap_or, Result, Ok, Err, ◌⊎◌, inl, inr, refl, sym, ap, ◌∙◌, subst, if◌then◌else◌, leb-true, ltb-true, eqb-true}
+use Rattle.std.proofs.Common.{◌≡◌, ℕ, ◌<◌, ◌≤◌, ◌==◌, ◌^◌, Bool, true, false, ◌&&◌, not, nat_lt, bytes_eq, List, [], ◌∷◌, map, Some, None, option_map, unwrap_or, Result, Ok, Err, inl, inr, refl, sym, ap, ◌∙◌, subst, if◌then◌else◌, leb-true, ltb-true, eqb-true}
 use Rattle.std.specs.Prelude.{ℤ, pos, negsuc, find}
-use Rattle.std.proofs.lemmas.Bool.{or_parts, cases_Bool}
+use Rattle.std.proofs.lemmas.Bool.{or_parts}
 use Rattle.std.proofs.lemmas.Option.{none-some}
 use Rattle.bv_core.specs.Value.{IsBits}
 use Rattle.tree_core.proofs.Same.{both_true}
 use Rattle.exec_core.specs.Block.{Name}
 use Rattle.exec_core.specs.Lists.{EachOf, IsIn}
-use Rattle.exec_core.proofs.Lists.{each_member}
 use Rattle.design_core.specs.declared.expr.Literal.{Literal}
 use Rattle.design_core.specs.declared.variant.Signal.{Signal}
 use Rattle.design_exec.specs.Processes as processes
@@ -16,8 +15,8 @@ use Rattle.check_core.specs.declared.fault.CheckFault.{CheckFault}
 use Rattle.check_core.specs.declared.fault.Clash.{Clash}
 use Rattle.check_core.specs.Known.{Known, with}
 use Rattle.check_core.specs.Names.{signal_thing, unless_known}
-use Rattle.check_core.specs.Widths.{bits, is_width, is_literal, unless_sized, mismatch, needed, needed_width, clash}
-use Rattle.check_exec.proofs.Facts.{same_name, name_same, eq_turned}
+use Rattle.check_core.specs.Widths.{bits, is_width, is_literal, unless_sized, mismatch, needed}
+use Rattle.check_exec.proofs.Facts.{name_same, eq_turned}
 use Rattle.check_exec.proofs.Names.{Differ, none_taken}
 
 pub same_bits : (n : ℤ) → processes.bits n ≡ bits n

@@ -1,5 +1,5 @@
 -- What the checks give for the execution of a design: each premise of the theorem on runs as a law of its own.
-use Rattle.std.specs.Prelude.{◌≡◌, ℕ, true, List, Option, None}
+use Rattle.std.specs.Prelude.{◌≡◌, ℕ, true, List, None}
 use Rattle.exec_core.specs.Block.{Name, Now}
 use Rattle.exec_core.specs.Lists.{EachOf, AreApart}
 use Rattle.exec_core.specs.Design.{driver_of, signals_of, width_in}
