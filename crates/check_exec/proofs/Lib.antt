@@ -20,3 +20,4 @@ pub mod Parents
 pub mod Connections
 pub mod Sources
 pub mod Ready
+pub mod Sampled

@@ -1,3 +1,4 @@
+ghost use Rattle.check_exec.specs.Sample.{SampleIsSound};
 ghost use Rattle.check_exec.specs.Premises.{AcceptedIsReady, BlocksAreChecked, GivensAreApart, GivensFit, LinksFit, NoLatchIsLeft, OneSource, SlotsAreApart};
 
 /// In a well-formed design no two statements of an instance have one slot. Computes nothing.
@@ -42,4 +43,9 @@ pub fn one_source_each()
 /// An accepted design meets the premises of the theorem on runs, for each order of its driven signals. Computes nothing.
 pub fn accepted_is_ready()
     ensures { AcceptedIsReady }
+{}
+
+/// A design of two instances with a register, worked by hand, is accepted. Computes nothing.
+pub fn sample_is_sound()
+    ensures { SampleIsSound }
 {}
