@@ -20,3 +20,4 @@ pub mod Linked
 pub mod Layers
 pub mod Answered
 pub mod Started
+pub mod Sound

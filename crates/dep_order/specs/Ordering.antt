@@ -6,6 +6,7 @@ use Rattle.exec_core.specs.Design.{driver_of}
 use Rattle.design_core.specs.Design as design
 use Rattle.design_exec.specs.Processes.{processes_of, is_signal_of}
 use Rattle.graph_order.specs.Graphs.{Graph}
+use Rattle.check_exec.specs.Premises.{IsSound}
 use Rattle.dep_order.specs.declared.answer.OrderFault.{OrderFault}
 use Rattle.dep_order.specs.declared.answer.OrderFault.TheVariants.{CombLoop, NoMemory}
 use Rattle.dep_order.specs.Standing.{Numbers}
@@ -64,3 +65,7 @@ CyclesAnswer =
 abbrev pub TellsFault : design.Design → OrderFault → Type 0
 TellsFault d (CombLoop cycle) = TellsLoop d cycle.items
 TellsFault d NoMemory = Unit {0}
+
+-- in a design that the checks accept
+abbrev pub AcceptedAreTrees : Type 0
+AcceptedAreTrees = (d : design.Design) → IsSound d → DriversAreTrees d

@@ -1,6 +1,6 @@
 ghost use Rattle.dep_order.specs.Joined.{CyclesJoin, OrdersJoin};
 ghost use Rattle.dep_order.specs.Numbering.{Numbered};
-ghost use Rattle.dep_order.specs.Ordering.{CyclesAnswer, OrdersAnswer};
+ghost use Rattle.dep_order.specs.Ordering.{AcceptedAreTrees, CyclesAnswer, OrdersAnswer};
 ghost use Rattle.dep_order.specs.Samples.{depend_in_a_loop, depends_through_its_test, reaches_through_two_versions, ring_is_a_cycle};
 ghost use Rattle.dep_order.specs.Wiring.{BlockIsProcess, LinkIsMet};
 
@@ -28,6 +28,12 @@ pub fn signals_are_numbered()
 pub fn numbers_answer()
     ensures orders { OrdersAnswer }
     ensures cycles { CyclesAnswer }
+{}
+
+/// In an accepted design a signal to which a link goes or that a block assigns is driven by a tree, and each such tree is one of
+/// signals. Computes nothing.
+pub fn accepted_drivers()
+    ensures { AcceptedAreTrees }
 {}
 
 /// Small graphs and drivers, worked by hand. Computes nothing.
