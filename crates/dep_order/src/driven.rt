@@ -1,7 +1,8 @@
-ghost use Rattle.std.specs.Prelude.{◌≡◌, ◌≤◌, ℕ, false, [], length, slice_index_or, IfOk, IfErr, OnOk};
+ghost use Rattle.std.specs.Prelude.{◌≡◌, ◌≤◌, ℕ, None, false, [], length, slice_index_or, IfOk, IfErr, OnOk};
 ghost use Rattle.dep_order.specs.Reaching.{IsLayered};
 ghost use Rattle.graph_order.specs.Graphs.{IsGraph, next_of};
 ghost use Rattle.design_core.specs.DesignView.{design_of};
+ghost use Rattle.check_core.specs.Verdict.{verdict};
 ghost use Rattle.dep_order.specs.Numbering.{numbers_of};
 ghost use Rattle.dep_order.specs.Linking.{AllLayered, AreBelow};
 ghost use Rattle.dep_order.specs.Ordering.{AreCounted, DriversAreTrees, DrivesDesign, IsWiredDesign, TellsFault, marked_in, pairs_of};
@@ -88,8 +89,9 @@ fn order_wired(
     requires wired { IsWiredDesign (design_of design.now) (numbers_of maps.now, pairs.now) graph.now driven.now }
     requires signals { length pairs.now ≤ length graph.now }
     requires layered { IsLayered (length pairs.now) graph.now }
-    ensures order { IfOk result (λ order. DriversAreTrees (design_of design.now) → TellsOrder (design_of design.now) order) }
-    ensures cycle { IfErr result (λ fault. DriversAreTrees (design_of design.now) → TellsFault (design_of design.now) fault) }
+    requires trees { DriversAreTrees (design_of design.now) }
+    ensures order { IfOk result (TellsOrder (design_of design.now)) }
+    ensures cycle { IfErr result (TellsFault (design_of design.now)) }
 {
     let signals = in_32_bits(pairs.len())?;
     match order_signals(alloc, graph, signals) {
@@ -120,8 +122,9 @@ fn wire_and_order(
     requires none { (v : ℕ) → next_of graph.old v ≡ [] }
     requires marks { length driven.old ≡ length pairs.now }
     requires unmarked { (v : ℕ) → slice_index_or driven.old v false ≡ false }
-    ensures order { IfOk result (λ order. DriversAreTrees (design_of design.now) → TellsOrder (design_of design.now) order) }
-    ensures cycle { IfErr result (λ fault. DriversAreTrees (design_of design.now) → TellsFault (design_of design.now) fault) }
+    requires trees { DriversAreTrees (design_of design.now) }
+    ensures order { IfOk result (TellsOrder (design_of design.now)) }
+    ensures cycle { IfErr result (TellsFault (design_of design.now)) }
 {
     wire(alloc, graph, driven, design, maps)?;
     order_wired(alloc, graph, driven, design, maps, pairs)
@@ -134,20 +137,22 @@ fn order_counted(
     maps: &[NumberMap],
     pairs: &[(u32, u32)],
 ) -> Result<Order, OrderFault>
-    requires { AreCounted (design_of design.now) (numbers_of maps.now, pairs.now) }
-    ensures order { IfOk result (λ order. DriversAreTrees (design_of design.now) → TellsOrder (design_of design.now) order) }
-    ensures cycle { IfErr result (λ fault. DriversAreTrees (design_of design.now) → TellsFault (design_of design.now) fault) }
+    requires counted { AreCounted (design_of design.now) (numbers_of maps.now, pairs.now) }
+    requires trees { DriversAreTrees (design_of design.now) }
+    ensures order { IfOk result (TellsOrder (design_of design.now)) }
+    ensures cycle { IfErr result (TellsFault (design_of design.now)) }
 {
     let mut graph = vertices(alloc, pairs.len())?;
     let mut driven = vec![in alloc; false; pairs.len()]?;
     wire_and_order(alloc, &mut graph, &mut driven, design, maps, pairs)
 }
 
-/// An order of a design's driven signals, all but registers and inputs of the top, each after those that it depends on; or
-/// signals that depend on one another.
+/// An order of the driven signals of a design that the checks accept, all but registers and inputs of the top, each after those
+/// that it depends on; or signals that depend on one another.
 pub fn order(alloc: Global, design: &Design) -> Result<Order, OrderFault>
-    ensures order { IfOk result (λ order. DriversAreTrees (design_of design.now) → TellsOrder (design_of design.now) order) }
-    ensures cycle { IfErr result (λ fault. DriversAreTrees (design_of design.now) → TellsFault (design_of design.now) fault) }
+    requires accepted { verdict (design_of design.now) ≡ None }
+    ensures order { IfOk result (TellsOrder (design_of design.now)) }
+    ensures cycle { IfErr result (TellsFault (design_of design.now)) }
 {
     let mut maps = Vec::new(alloc);
     let mut pairs = Vec::new(alloc);
