@@ -46,7 +46,7 @@ named_here (y ∷ ys) (suc k) s e = ap (λ (b : Bool). bytes_eq y.name s.name ||
     or_true true = refl
     or_true false = refl
 
-is_signal : (d : design.Design) (q : Pair) (p : Place) → signal_at d q ≡ Some p → is_signal_of d p ≡ true
+pub is_signal : (d : design.Design) (q : Pair) (p : Place) → signal_at d q ≡ Some p → is_signal_of d p ≡ true
 is_signal d q p e = go (slice_get (signals_at d q.0) q.1) refl e
   where
     go : (o : Option Signal) → slice_get (signals_at d q.0) q.1 ≡ o → option_map (λ (s : Signal). place q.0 s.name) o ≡ Some p → is_signal_of d p ≡ true

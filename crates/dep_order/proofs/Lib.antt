@@ -21,3 +21,4 @@ pub mod Layers
 pub mod Answered
 pub mod Started
 pub mod Sound
+pub mod Exclusive

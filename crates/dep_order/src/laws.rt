@@ -1,6 +1,7 @@
 ghost use Rattle.dep_order.specs.Joined.{CyclesJoin, OrdersJoin};
 ghost use Rattle.dep_order.specs.Numbering.{Numbered};
 ghost use Rattle.dep_order.specs.Ordering.{AcceptedAreTrees, CyclesAnswer, OrdersAnswer};
+ghost use Rattle.dep_order.specs.Results.{OrdersHaveNoLoop};
 ghost use Rattle.dep_order.specs.Samples.{depend_in_a_loop, depends_through_its_test, reaches_through_two_versions, ring_is_a_cycle};
 ghost use Rattle.dep_order.specs.Wiring.{BlockIsProcess, LinkIsMet};
 
@@ -34,6 +35,11 @@ pub fn numbers_answer()
 /// signals. Computes nothing.
 pub fn accepted_drivers()
     ensures { AcceptedAreTrees }
+{}
+
+/// A design with an order of its driven signals has no loop. Computes nothing.
+pub fn not_both()
+    ensures { OrdersHaveNoLoop }
 {}
 
 /// Small graphs and drivers, worked by hand. Computes nothing.
