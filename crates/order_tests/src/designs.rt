@@ -1,4 +1,4 @@
-ghost use Rattle.std.specs.Prelude.{◌≤◌};
+ghost use Rattle.std.specs.Prelude.{◌<◌};
 
 use design_core::{Design, Signal};
 use dep_order::{OrderFault, order};
@@ -90,19 +90,19 @@ static CASES: [(&str, &str); 12] = [
         "loop X:a X:b",
     ),
     (
-        "module X { input s : 1; output a : 1; wire b : 1;\n  comb { if (b) { a = s; } else { a = 1'd0; } } comb { b = a; } }",
+        "module X { input s : 1; output a : 1; wire b : 1;\n  comb { if b { a = s; } else { a = 1'h0; } } comb { b = a; } }",
         "loop X:a X:b",
     ),
     (
-        "module X { input s : 1; output a : 1; wire b : 1;\n  comb { let t = b; let u = ~t; a = u; } comb { b = s; } }",
+        "module X { input s : 1; output a : 1; wire b : 1;\n  comb { let t = b; let u = ~(t); a = u; } comb { b = s; } }",
         "order X:b X:a",
     ),
     (
-        "module X { output a : 1; reg r : 1 = 1'd0; comb { a = r; } ff { r <= ~a; } }",
+        "module X { output a : 1; reg r : 1 = 1'h0; comb { a = r; } ff { r <= ~(a); } }",
         "order X:a",
     ),
     (
-        "module Y { input i : 1; output o : 1; comb { o = ~i; } }\nmodule X { output a : 1; inst u : Y { i = v.o; } inst v : Y { i = u.o; } comb { a = u.o; } }",
+        "module Y { input i : 1; output o : 1; comb { o = ~(i); } }\nmodule X { output a : 1; inst u : Y { i = v.o; } inst v : Y { i = u.o; } comb { a = u.o; } }",
         "loop X:u.o X.u:o X.u:i X:v.o X.v:o X.v:i",
     ),
     (
@@ -128,59 +128,77 @@ fn orders_and_loops(rt: HostRuntime) -> Result<(), Fail> {
     Ok(())
 }
 
-/// Wires in a chain, each reading the next one; the last one reads this.
-fn chain(alloc: Global, count: u32, last: &str) -> Result<String, Fail>
-    requires { 1 ≤ count }
-{
-    let mut source = format!(in alloc; "module X {{ input x : 1;\n")?;
-    for i in 0..count {
-        let wire = format!(in alloc; "wire w{i} : 1;\n")?;
+/// A hundred instances in a chain, each with ninety-nine wires in a chain from its input to its output; the last input reads
+/// this.
+fn chain(alloc: Global, last: &str) -> Result<String, Fail> {
+    let mut source = format!(in alloc; "module C {{ input i : 1; output o : 1;\n")?;
+    for k in 0..99 {
+        let wire = format!(in alloc; "wire w{k} : 1;\n")?;
         source.push_str(&wire)?;
     }
-    for i in 1..count {
-        let block = format!(in alloc; "comb {{ w{} = w{i}; }}\n", i - 1)?;
+    source.push_str("comb { o = w0; w98 = i; }\n")?;
+    for k in 0..98 {
+        let block = format!(in alloc; "comb {{ w{k} = w{}; }}\n", k + 1)?;
         source.push_str(&block)?;
     }
-    let end = format!(in alloc; "comb {{ w{} = {last}; }} }}", count - 1)?;
+    source.push_str("}\nmodule X { input x : 1;\n")?;
+    for k in 0..99 {
+        let inst = format!(in alloc; "inst u{k} : C {{ i = u{}.o; }}\n", k + 1)?;
+        source.push_str(&inst)?;
+    }
+    let end = format!(in alloc; "inst u99 : C {{ i = {last}; }} }}")?;
     source.push_str(&end)?;
     Ok(source)
 }
 
-/// The last one stands first: place 0 is the input.
-#[test]
-fn a_long_chain_has_an_order(rt: HostRuntime) -> Result<(), Fail> {
-    let source = chain(rt.alloc(), 10_000, "x")?;
-    let Some(design) = elaborated(rt.alloc(), source.as_bytes())? else {
+/// The design of a chain, which the checks accept.
+fn accepted(alloc: Global, last: &str) -> Result<Design, Fail> {
+    let source = chain(alloc, last)?;
+    let Some(design) = elaborated(alloc, source.as_bytes())? else {
         return Err("the chain is a design")?;
     };
-    if check(rt.alloc(), &design).is_err() {
+    if check(alloc, &design).is_err() {
         return Err("the chain is accepted")?;
     }
+    Ok(design)
+}
+
+/// The nth signal of the chain from the front: the output of a child in the top, then of the child its output, its wires and its
+/// input, and so on.
+fn link(n: usize) -> (u32, u32)
+    requires { n < 20400 }
+{
+    let child = (n / 102) as u32;
+    match (n % 102) as u32 {
+        0 => (0, child + 1),
+        101 => (child + 1, 0),
+        place => (child + 1, place),
+    }
+}
+
+/// The last one of the chain stands first.
+#[test]
+fn a_long_chain_has_an_order(rt: HostRuntime) -> Result<(), Fail> {
+    let design = accepted(rt.alloc(), "x")?;
     let Ok(order) = order(rt.alloc(), &design) else {
         return Err("the chain has an order")?;
     };
-    assert_eq!(rt; order.list().len(), 10_000);
+    assert_eq!(rt; order.list().len(), 10_200);
     for (i, pair) in order.list().iter().enumerate() {
-        assert!(rt; pair.0 == 0 && pair.1 as usize + i == 10_000, "place {i}");
+        assert!(rt; *pair == link(10_199 - i), "place {i}");
     }
     Ok(())
 }
 
 #[test]
 fn a_long_ring_is_a_loop(rt: HostRuntime) -> Result<(), Fail> {
-    let source = chain(rt.alloc(), 10_000, "w0")?;
-    let Some(design) = elaborated(rt.alloc(), source.as_bytes())? else {
-        return Err("the ring is a design")?;
-    };
-    if check(rt.alloc(), &design).is_err() {
-        return Err("the ring is accepted")?;
-    }
+    let design = accepted(rt.alloc(), "u0.o")?;
     let Err(OrderFault::CombLoop { cycle }) = order(rt.alloc(), &design) else {
         return Err("the ring is a loop")?;
     };
-    assert_eq!(rt; cycle.len(), 10_000);
+    assert_eq!(rt; cycle.len(), 10_200);
     for (i, pair) in cycle.iter().enumerate() {
-        assert!(rt; pair.0 == 0 && pair.1 as usize == i + 1, "place {i}");
+        assert!(rt; *pair == link(i), "place {i}");
     }
     Ok(())
 }
