@@ -1,13 +1,11 @@
 -- Orders and cycles of numbers, as those of the signals of a design.
-use Rattle.std.proofs.Common.{◌≡◌, ◌≢◌, ℕ, zero, suc, ◌<◌, ◌≤◌, Bool, true, false, true≢false, List, [], ◌∷◌, ◌++◌, map, cond, length, Option, Some, None, is_some, ◌⊎◌, inl, inr, refl, sym, subst, ap, ap₂, ◌∙◌, arith, get_or, ◌||◌, bytes_eq}
+use Rattle.std.proofs.Common.{◌≡◌, ◌≢◌, ℕ, zero, suc, ◌<◌, ◌≤◌, Bool, true, false, true≢false, List, [], ◌∷◌, ◌++◌, map, cond, length, Option, Some, None, is_some, inl, inr, refl, sym, subst, ap, ap₂, ◌∙◌, get_or, ◌||◌, bytes_eq}
 use Rattle.std.specs.Prelude.{slice_get, option_map, option_and_then, unwrap_or, find, filter}
 use Rattle.std.specs.List.{list_any}
 use Rattle.std.proofs.lemmas.Bool.{cases_Bool}
 use Rattle.std.proofs.lemmas.Option.{slice_get-get_or, none-some}
 use Rattle.std.proofs.lemmas.Slice.Eq.{bytes_eq-Decides}
-use Rattle.tree_core.specs.Tree.{Tree}
 use Rattle.exec_core.specs.Lists as lists
-use Rattle.exec_core.specs.Block.{Name}
 use Rattle.exec_core.specs.Whole.{Place, Drivers}
 use Rattle.exec_core.specs.Design.{Process, place, driver_of, links_to, assigns_to, process_tree, or_else}
 use Rattle.exec_core.proofs.Slots.{some_same}
@@ -18,10 +16,9 @@ use Rattle.graph_order.specs.Lists.{EachOf, IsIn, AreApart}
 use Rattle.graph_order.proofs.Lists.{in_left, in_last}
 use Rattle.graph_order.specs.Graphs.{Graph}
 use Rattle.dep_order.specs.Reaching.{SignalsAfter}
-use Rattle.dep_order.specs.Signals.{IsSignalOrder, IsSignalCycle}
 use Rattle.dep_order.specs.Wiring.{Link, driver_in, is_met}
 use Rattle.dep_order.specs.Joined.{IsJoined, with_drivers}
-use Rattle.dep_order.specs.Results.{Pair, signal_at, StandsFirst, IsFirst, IsLoop, TellsOrder, TellsLoop}
+use Rattle.dep_order.specs.Results.{Pair, signal_at, StandsFirst}
 use Rattle.dep_order.specs.Numbering.{AllCounted, number_in, place_at, IsNumbering}
 use Rattle.dep_order.specs.Ordering.{is_met_in, DriversAreTrees, pair_of, pairs_of, marked_in, IsWiredDesign, AreCounted, OrdersAnswer, CyclesAnswer}
 use Rattle.dep_order.proofs.Joining.{apart_places, cycles_join, orders_join}

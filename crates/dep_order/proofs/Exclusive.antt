@@ -1,16 +1,14 @@
 -- A design with a loop has no order.
-use Rattle.std.proofs.Common.{◌≡◌, ℕ, Bool, true, List, [], ◌∷◌, map, Option, Some, None, ◌⊎◌, inl, inr, refl, sym, subst, ap, ◌∙◌}
+use Rattle.std.proofs.Common.{◌≡◌, Bool, true, List, [], ◌∷◌, map, Option, Some, ◌⊎◌, inl, inr, refl, sym, subst, ap, ◌∙◌}
 use Rattle.std.proofs.lemmas.Option.{none-some}
 use Rattle.tree_core.specs.Tree.{Tree, Const, Leaf, One, Two, Mux}
 use Rattle.exec_core.specs.Lists.{IsIn}
 use Rattle.exec_core.specs.Leaves.{EachLeaf}
 use Rattle.exec_core.specs.Whole.{Place, Drivers, IsGiven, IsOrder, StandsInOrder, or_itself}
 use Rattle.exec_core.specs.Design.{driver_of}
-use Rattle.exec_core.proofs.Slots.{some_same}
-use Rattle.design_core.specs.Design as design
 use Rattle.design_exec.specs.Processes.{processes_of, is_signal_of}
 use Rattle.dep_order.specs.Standing.{SomeLeaf}
-use Rattle.dep_order.specs.Results.{Pair, signal_at, DependsOn, Depend, IsLoop, TellsOrder, TellsLoop, OrdersHaveNoLoop}
+use Rattle.dep_order.specs.Results.{Pair, signal_at, DependsOn, Depend, IsLoop, OrdersHaveNoLoop}
 use Rattle.dep_order.proofs.Answered.{is_signal}
 
 -- a leaf with both facts

@@ -1,15 +1,14 @@
 -- Versions read what was there before them.
-use Rattle.std.proofs.Common.{◌≡◌, ◌≢◌, ℕ, ◌<◌, ◌≤◌, List, [], length, Option, Some, None, sym, subst, ap, ◌∙◌, inl, inr, arith}
+use Rattle.std.proofs.Common.{◌≡◌, ◌≢◌, ℕ, ◌<◌, ◌≤◌, List, length, Some, sym, subst, inl, inr, arith}
 use Rattle.std.specs.Prelude.{slice_get}
 use Rattle.std.proofs.lemmas.Bool.{cases_lt}
 use Rattle.exec_core.specs.Block.{Name}
 use Rattle.graph_order.specs.Lists.{EachOf}
 use Rattle.graph_order.specs.Graphs.{Graph, next_of}
-use Rattle.dep_order.specs.Reaching.{IsLayered}
 use Rattle.dep_order.specs.Standing.{Numbers}
 use Rattle.dep_order.specs.Blocks.{AreSignals, Grown}
 use Rattle.dep_order.specs.Wiring.{KeepsOthers, StaysLayered}
-use Rattle.dep_order.specs.Linking.{AreBelow, AllLayered}
+use Rattle.dep_order.specs.Linking.{AllLayered}
 use Rattle.dep_order.proofs.Numbers.{each_get}
 
 pub layered_same : (g : Graph) (numbers : Numbers) → StaysLayered g g numbers

@@ -1,11 +1,11 @@
 -- Links and processes of all instances, one after another.
-use Rattle.std.proofs.Common.{◌≡◌, ℕ, zero, suc, ◌+◌, ◌<◌, ◌≤◌, Bool, true, false, List, [], ◌∷◌, ◌++◌, length, map, take, drop, get_or, Option, Some, None, ◌⊎◌, inl, inr, refl, sym, subst, ap, ◌∙◌, arith, append_assoc, if◌then◌else◌}
+use Rattle.std.proofs.Common.{◌≡◌, ℕ, zero, suc, ◌+◌, ◌<◌, ◌≤◌, Bool, true, false, List, [], ◌∷◌, ◌++◌, length, map, take, drop, get_or, Some, ◌⊎◌, inl, inr, refl, sym, subst, ap, ◌∙◌, arith, append_assoc, if◌then◌else◌}
 use Rattle.tree_core.specs.Tree.{Leaf}
 use Rattle.std.specs.Prelude.{slice_get, option_map, option_and_then}
 use Rattle.std.specs.List.{enumerate_from, flat_map}
 use Rattle.std.proofs.lemmas.List.{take_more, map_push, append-nil, drop_more, drop_all}
 use Rattle.std.proofs.lemmas.Grind.{flat_map-append}
-use Rattle.std.proofs.lemmas.Option.{slice_get_read, slice_get-map, none-some}
+use Rattle.std.proofs.lemmas.Option.{slice_get_read, slice_get-map}
 use Rattle.exec_core.specs.Block.{Name}
 use Rattle.exec_core.specs.Design.{Process, place}
 use Rattle.design_core.specs.declared.design.Instance.{Instance}
@@ -168,7 +168,7 @@ links_of_instance d i r below children signals e f g =
     ∙ ap (λ (cs : List design.Child). flat_map (links_of_child i (numbers_below d i)) (enumerate_from 0 cs) ++ flat_map (λ (s : Signal). link_of_output i (numbers_below d i) s.name s.kind) signals) f
     ∙ ap (λ (ss : List Signal). flat_map (links_of_child i (numbers_below d i)) (enumerate_from 0 (processes.children_in d r.variant)) ++ flat_map (λ (s : Signal). link_of_output i (numbers_below d i) s.name s.kind) ss) g
     ∙ ap (λ (f : Signal → List Link). flat_map (links_of_child i (numbers_below d i)) (enumerate_from 0 (processes.children_in d r.variant)) ++ flat_map f (processes.signals_in d r.variant))
-        (λ k (s : Signal). same_link d i s.name s.kind k)
+    (λ k (s : Signal). same_link d i s.name s.kind k)
 
 pub instance_drives : (g h k : Graph) (driven now marked : List Bool) (all : List Numbers) (d : design.Design) (i : ℕ) (r : Instance) (below below' : List ℕ) (children : List design.Child) (signals : List Signal) →
     below ≡ numbers_below d i → below' ≡ numbers_below d i → children ≡ processes.children_in d r.variant → signals ≡ processes.signals_in d r.variant →

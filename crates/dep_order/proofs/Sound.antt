@@ -1,11 +1,11 @@
 -- The drivers of an accepted design are trees of signals.
-use Rattle.std.proofs.Common.{◌≡◌, ℕ, Bool, true, false, true≢false, ◌||◌, ◌==◌, List, Option, Some, None, is_some, refl, sym, subst, ap, ◌∙◌, eq-eqb, eqb-true}
+use Rattle.std.proofs.Common.{◌≡◌, ℕ, Bool, true, true≢false, ◌||◌, ◌==◌, Option, Some, None, is_some, refl, sym, subst, ap, ◌∙◌, eq-eqb, eqb-true}
 use Rattle.std.specs.Prelude.{find, option_map, option_and_then}
 use Rattle.std.proofs.lemmas.Option.{none-some}
 use Rattle.tree_core.specs.Tree.{Tree}
 use Rattle.tree_core.specs.Width.{WellFormed}
 use Rattle.tree_core.proofs.Same.{both_true}
-use Rattle.exec_core.specs.Lists.{AreApart, EachOf, IsIn}
+use Rattle.exec_core.specs.Lists.{AreApart, IsIn}
 use Rattle.exec_core.specs.Block.{Name, Now, own, body_slots}
 use Rattle.exec_core.specs.Trees.{block_trees}
 use Rattle.exec_core.specs.Paths.{BodySkips, Checked, TreeFits, TreesChecked}
@@ -25,7 +25,7 @@ use Rattle.check_exec.proofs.Latches.{no_latch_is_left}
 use Rattle.check_exec.proofs.Links.{links_fit}
 use Rattle.check_exec.proofs.Slots.{slots_are_apart}
 use Rattle.dep_order.specs.Wiring.{Link}
-use Rattle.dep_order.specs.Ordering.{is_met_in, DriversAreTrees, AcceptedAreTrees}
+use Rattle.dep_order.specs.Ordering.{is_met_in, AcceptedAreTrees}
 
 module _ (d : design.Design) (sound : IsSound d) where
   apart : (b : Process) → IsIn b (processes_of d).processes → AreApart (body_slots b.body)

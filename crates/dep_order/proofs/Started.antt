@@ -1,11 +1,10 @@
 -- A graph in which nothing drives a signal yet.
-use Rattle.std.proofs.Common.{◌≡◌, ℕ, suc, ◌<◌, ◌≤◌, Bool, false, List, [], ◌∷◌, length, map, Option, Some, refl, sym, subst, ap, ◌∙◌, arith, get_or}
+use Rattle.std.proofs.Common.{◌≡◌, ℕ, suc, ◌<◌, Bool, false, List, [], ◌∷◌, length, Some, refl, sym, subst, ap, ◌∙◌, get_or}
 use Rattle.std.specs.Prelude.{slice_get, option_and_then}
 use Rattle.exec_core.specs.Block.{Name}
 use Rattle.exec_core.specs.Design.{place}
 use Rattle.exec_core.proofs.Slots.{some_same}
 use Rattle.design_core.specs.Design as design
-use Rattle.check_core.specs.Maps.{value_of}
 use Rattle.graph_order.specs.Lists.{EachOf}
 use Rattle.graph_order.specs.Graphs.{Graph, next_of}
 use Rattle.dep_order.specs.Reaching.{IsLayered}

@@ -1,5 +1,5 @@
 -- The signals of all instances, driven by the links and processes of a design.
-use Rattle.std.specs.Prelude.{◌≡◌, ℕ, ◌<◌, ◌≤◌, Bool, List, [], ◌∷◌, ◌++◌, length, map, option_map, unwrap_or, slice_get}
+use Rattle.std.specs.Prelude.{ℕ, ◌≤◌, Bool, List, [], ◌∷◌, ◌++◌, length, map, option_map, unwrap_or, slice_get}
 use Rattle.tree_core.specs.Tree.{Leaf}
 use Rattle.exec_core.specs.Block.{Name}
 use Rattle.exec_core.specs.Design.{Process, place}

@@ -1,9 +1,7 @@
 -- Numbers for the signals of a design: one for the first signal of each name of each instance, in the order of the design.
-use Rattle.std.specs.Prelude.{◌≡◌, ℕ, ◌+◌, ◌<◌, ◌≤◌, Bool, true, List, [], ◌∷◌, ◌++◌, length, map, filter, Option, Some, None, is_some, option_map, option_and_then, unwrap_or, slice_get, slice_index_or, if◌then◌else◌}
-use Rattle.std.specs.List.{enumerate_from, flat_map}
+use Rattle.std.specs.Prelude.{◌≡◌, ℕ, ◌+◌, ◌<◌, ◌≤◌, true, List, [], ◌∷◌, ◌++◌, length, map, Option, Some, is_some, option_and_then, slice_get, if◌then◌else◌}
 use Rattle.exec_core.specs.Block.{Name}
 use Rattle.exec_core.specs.Whole.{Place}
-use Rattle.exec_core.specs.Design.{place}
 use Rattle.design_core.specs.declared.variant.Signal.{Signal}
 use Rattle.design_core.specs.declared.design.Instance.{Instance}
 use Rattle.design_core.specs.Design as design

@@ -18,5 +18,8 @@ mod wiring;
 
 pub use answer::{Order, OrderFault};
 pub use driven::order;
-pub use laws::{accepted_drivers, drivers_in_order, loops_of_the_samples, not_both, numbers_answer, signals_are_numbered, vertices_are_signals};
+pub use laws::{
+    accepted_drivers, drivers_in_order, loops_of_the_samples, not_both, numbers_answer,
+    signals_are_numbered, vertices_are_signals,
+};
 pub use signals::order_signals;

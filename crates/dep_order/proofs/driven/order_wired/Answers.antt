@@ -1,8 +1,8 @@
-use Rattle.std.proofs.Common.{◌≡◌, ◌∙◌, List, length, sym, subst, ap, rules}
+use Rattle.std.proofs.Common.{◌≡◌, ◌∙◌, sym, subst, ap, rules}
 use Rattle.design_core.specs.DesignView.{design_of}
 use Rattle.dep_order.specs.Numbering.{numbers_of}
 use Rattle.dep_order.specs.Ordering.{marked_in, pairs_of}
-use Rattle.dep_order.specs.Results.{Pair, TellsOrder, TellsLoop}
+use Rattle.dep_order.specs.Results.{TellsOrder, TellsLoop}
 use Rattle.dep_order.specs.Signals.{IsSignalOrder, IsSignalCycle, TellsSignalCycle}
 use Rattle.graph_order.specs.declared.fault.GraphFault.TheVariants.{Cycle}
 use Rattle.dep_order.proofs.Answered.{cycles_answer, orders_answer}

@@ -1,4 +1,4 @@
-use Rattle.std.proofs.Common.{◌≡◌, List, Option, Some, None, length, map, sym, subst}
+use Rattle.std.proofs.Common.{length, map, sym, subst}
 use Rattle.std.proofs.lemmas.Result.{on_ok_weaker}
 use Rattle.design_core.specs.View.{child_of, conn_of}
 use Rattle.design_exec.specs.Processes.{conn_link, none_or}

@@ -1,10 +1,9 @@
-use Rattle.std.proofs.Common.{◌≡◌, ◌∙◌, List, [], ◌∷◌, Option, length, sym, subst, ap, ap₂}
+use Rattle.std.proofs.Common.{◌≡◌, ◌∙◌, List, [], ◌∷◌, sym, subst, ap, ap₂}
 use Rattle.std.specs.Prelude.{slice_get}
 use Rattle.std.proofs.lemmas.Result.{on_ok_weaker}
 use Rattle.tree_core.specs.Tree.{Leaf}
 use Rattle.exec_core.specs.Block.{Name}
 use Rattle.exec_core.specs.Design.{place}
-use Rattle.design_core.specs.declared.variant.Kind.{Kind}
 use Rattle.design_exec.specs.Processes.{none_or}
 use Rattle.dep_order.specs.Wiring.{Link}
 use Rattle.dep_order.specs.Numbering.{numbers_of}

@@ -1,4 +1,4 @@
-use Rattle.std.proofs.Common.{◌≡◌, List, [], ◌∷◌, Option, Some, None, length, sym, subst}
+use Rattle.std.proofs.Common.{[], ◌∷◌, length, sym, subst}
 use Rattle.std.proofs.lemmas.Result.{on_ok_weaker}
 use Rattle.tree_core.specs.Tree.{Leaf}
 use Rattle.exec_core.specs.Design.{place}

@@ -1,4 +1,4 @@
-use Rattle.std.proofs.Common.{◌≡◌, ◌≤◌, ◌∙◌, sym, arith, List, length, map, ap}
+use Rattle.std.proofs.Common.{◌∙◌, arith, length, map, ap}
 use Rattle.design_core.specs.View.{child_of, variant_of}
 use Rattle.design_core.specs.DesignView.{design_of}
 use Rattle.design_core.specs.WellFormed.{children_at, signals_at}
