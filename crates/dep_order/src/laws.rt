@@ -2,7 +2,7 @@ ghost use Rattle.dep_order.specs.Joined.{CyclesJoin, OrdersJoin};
 ghost use Rattle.dep_order.specs.Numbering.{Numbered};
 ghost use Rattle.dep_order.specs.Ordering.{AcceptedAreTrees, CyclesAnswer, OrdersAnswer};
 ghost use Rattle.dep_order.specs.Results.{OrdersHaveNoLoop};
-ghost use Rattle.dep_order.specs.Samples.{depend_in_a_loop, depends_through_its_test, reaches_through_two_versions, ring_is_a_cycle};
+ghost use Rattle.dep_order.specs.Samples.{depend_in_a_loop, depends_through_its_test, reaches_through_two_versions, ring_is_a_cycle, output_of_the_child, pairs_of_two_instances};
 ghost use Rattle.dep_order.specs.Wiring.{BlockIsProcess, LinkIsMet};
 
 /// What the vertices of a design's signals tell of the signals: an order of them is an order of the driven signals, and a
@@ -42,10 +42,12 @@ pub fn not_both()
     ensures { OrdersHaveNoLoop }
 {}
 
-/// Small graphs and drivers, worked by hand. Computes nothing.
+/// Small graphs, drivers and a design of two instances, worked by hand. Computes nothing.
 pub fn loops_of_the_samples()
     ensures reached { reaches_through_two_versions }
     ensures cycle { ring_is_a_cycle }
     ensures itself { depends_through_its_test }
     ensures others { depend_in_a_loop }
+    ensures pairs { pairs_of_two_instances }
+    ensures output { output_of_the_child }
 {}
