@@ -142,7 +142,7 @@ not_among signals g number at signal d v [] j low all n = tt
 not_among signals g number at signal d v (w ∷ ws) j low all n =
     ((λ e. n (inl (same_vertex signals g number at signal d v w j low all.0 e))), not_among signals g number at signal d v ws j low all.1 (λ h. n (inr h)))
 
-apart_places : (signals : ℕ) (g : Graph) (number : PlaceNumbers) (at : ℕ → Place) (signal : Place → Bool) (d : Drivers) (vs : List ℕ) → IsJoined signals g number at signal d → EachOf (λ u. u < signals) vs → AreApart vs → lists.AreApart (map at vs)
+pub apart_places : (signals : ℕ) (g : Graph) (number : PlaceNumbers) (at : ℕ → Place) (signal : Place → Bool) (d : Drivers) (vs : List ℕ) → IsJoined signals g number at signal d → EachOf (λ u. u < signals) vs → AreApart vs → lists.AreApart (map at vs)
 apart_places signals g number at signal d [] j all a = tt
 apart_places signals g number at signal d (v ∷ vs) j all a = (not_among signals g number at signal d v vs j all.0 all.1 a.0, apart_places signals g number at signal d vs j all.1 a.1)
 

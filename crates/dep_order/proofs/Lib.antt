@@ -14,3 +14,11 @@ mod Outputs
 mod Joining
 mod Sampled
 mod Contracted
+pub mod Counted
+pub mod Numbers
+pub mod Linked
+pub mod Layers
+pub mod Answered
+pub mod Started
+pub mod Sound
+pub mod Exclusive

@@ -1,7 +1,7 @@
 -- The samples.
 use Rattle.std.proofs.Common.{◌≡◌, ℕ, [], ◌∷◌, inl, inr, get_or, refl, ap, arith}
 use Rattle.exec_core.specs.Whole.{Place}
-use Rattle.dep_order.specs.Samples.{a, b, reaches_through_two_versions, ring_is_a_cycle, depends_through_its_test, depend_in_a_loop}
+use Rattle.dep_order.specs.Samples.{a, b, reaches_through_two_versions, ring_is_a_cycle, depends_through_its_test, depend_in_a_loop, pairs_of_two_instances, output_of_the_child}
 
 pub reaches : reaches_through_two_versions
 reaches = record {
@@ -30,3 +30,9 @@ in_a_loop = (
   (record { driver = _; drives = refl; reads = inr (inl refl) }, record { driver = _; drives = refl; reads = refl }),
   (((λ e. let n : name_number b ≡ name_number a = ap name_number e in omega (arith, n)), tt), (tt, tt)),
 )
+
+pub two_instances : pairs_of_two_instances
+two_instances = refl
+
+pub childs_output : output_of_the_child
+childs_output = refl

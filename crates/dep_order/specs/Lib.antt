@@ -6,4 +6,7 @@ pub mod Signals
 pub mod Wiring
 pub mod Results
 pub mod Joined
+pub mod Numbering
+pub mod Linking
+pub mod Ordering
 pub mod Samples

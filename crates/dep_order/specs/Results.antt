@@ -54,3 +54,7 @@ pub record TellsLoop (d : design.Design) (pairs : List Pair) : Type 0 where
   pub signals : map (signal_at d) pairs ≡ map (λ p. Some p) loop
   pub depend : IsLoop (driver_of (processes_of d)) loop
   pub first : IsFirst pairs
+
+-- a design with an order has no loop
+abbrev pub OrdersHaveNoLoop : Type 0
+OrdersHaveNoLoop = (d : design.Design) (pairs loop : List Pair) → TellsOrder d pairs → TellsLoop d loop → ⊥

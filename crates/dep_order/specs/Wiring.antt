@@ -9,8 +9,9 @@ use Rattle.check_core.specs.Known.{Known}
 use Rattle.design_core.specs.declared.variant.Signal.{Signal}
 use Rattle.design_core.specs.Design as design
 use Rattle.design_exec.specs.Processes as processes
+use Rattle.dep_order.specs.Reaching.{IsLayered}
 use Rattle.dep_order.specs.Standing.{Numbers, Stand, StandFor}
-use Rattle.dep_order.specs.Blocks.{Versions, single, owns, end_trees}
+use Rattle.dep_order.specs.Blocks.{AreSignals, Versions, single, owns, end_trees}
 
 -- the vertex of each place that is a signal
 abbrev pub PlaceNumbers : Type 0
@@ -155,3 +156,7 @@ DrivesOutput g driven h marked of_child of_parent x q =
     AreNumbers signals number → AreOf number i of_parent → AreOf number j of_child →
     IsWired signals number g driven (is_met links []) (driver_in links []) →
     IsWired signals number h marked (is_met (links ++ (place i x, Leaf (place j q)) ∷ []) []) (driver_in (links ++ (place i x, Leaf (place j q)) ∷ []) [])
+
+-- versions read what was there before them, also in the larger graph, where these numbers are those of signals
+abbrev pub StaysLayered : Graph → Graph → Numbers → Type 0
+StaysLayered g h numbers = (signals : ℕ) → AreSignals signals numbers → signals ≤ length g → IsLayered signals g → IsLayered signals h

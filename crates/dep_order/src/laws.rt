@@ -1,5 +1,8 @@
 ghost use Rattle.dep_order.specs.Joined.{CyclesJoin, OrdersJoin};
-ghost use Rattle.dep_order.specs.Samples.{depend_in_a_loop, depends_through_its_test, reaches_through_two_versions, ring_is_a_cycle};
+ghost use Rattle.dep_order.specs.Numbering.{Numbered};
+ghost use Rattle.dep_order.specs.Ordering.{AcceptedAreTrees, CyclesAnswer, OrdersAnswer};
+ghost use Rattle.dep_order.specs.Results.{OrdersHaveNoLoop};
+ghost use Rattle.dep_order.specs.Samples.{depend_in_a_loop, depends_through_its_test, reaches_through_two_versions, ring_is_a_cycle, output_of_the_child, pairs_of_two_instances};
 ghost use Rattle.dep_order.specs.Wiring.{BlockIsProcess, LinkIsMet};
 
 /// What the vertices of a design's signals tell of the signals: an order of them is an order of the driven signals, and a
@@ -15,10 +18,36 @@ pub fn drivers_in_order()
     ensures blocks { BlockIsProcess }
 {}
 
-/// Small graphs and drivers, worked by hand. Computes nothing.
+/// Counting the signals of all instances gives each signal a number and each number its place, in the order of the design.
+/// Computes nothing.
+pub fn signals_are_numbered()
+    ensures { Numbered }
+{}
+
+/// In a graph in which each signal of a design has edges to what drives it, an order of the signals' numbers is an order of the
+/// driven signals, and a cycle of them is a loop. Computes nothing.
+pub fn numbers_answer()
+    ensures orders { OrdersAnswer }
+    ensures cycles { CyclesAnswer }
+{}
+
+/// In an accepted design a signal to which a link goes or that a block assigns is driven by a tree, and each such tree is one of
+/// signals. Computes nothing.
+pub fn accepted_drivers()
+    ensures { AcceptedAreTrees }
+{}
+
+/// A design with an order of its driven signals has no loop. Computes nothing.
+pub fn not_both()
+    ensures { OrdersHaveNoLoop }
+{}
+
+/// Small graphs, drivers and a design of two instances, worked by hand. Computes nothing.
 pub fn loops_of_the_samples()
     ensures reached { reaches_through_two_versions }
     ensures cycle { ring_is_a_cycle }
     ensures itself { depends_through_its_test }
     ensures others { depend_in_a_loop }
+    ensures pairs { pairs_of_two_instances }
+    ensures output { output_of_the_child }
 {}

@@ -2,15 +2,24 @@
 //! another.
 #![tactic(auto)]
 
+mod answer;
 mod assigned;
 mod block;
 mod branch;
+mod driven;
+mod instances;
 mod laws;
 mod maps;
+mod numbering;
 mod reading;
 mod signals;
 mod version;
 mod wiring;
 
-pub use laws::{drivers_in_order, loops_of_the_samples, vertices_are_signals};
+pub use answer::{Order, OrderFault};
+pub use driven::order;
+pub use laws::{
+    accepted_drivers, drivers_in_order, loops_of_the_samples, not_both, numbers_answer,
+    signals_are_numbered, vertices_are_signals,
+};
 pub use signals::order_signals;

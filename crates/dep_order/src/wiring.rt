@@ -1,7 +1,7 @@
 ghost use Rattle.std.specs.Prelude.{◌≡◌, ◌≢◌, ◌<◌, ◌≤◌, ℕ, length, map, true, option_map, OnOk};
 ghost use Rattle.graph_order.specs.Graphs.{IsGraph, next_of};
 ghost use Rattle.graph_order.specs.Lists.{EachOf};
-ghost use Rattle.dep_order.specs.Wiring.{Drives, DrivesBlock, DrivesBlocks, DrivesBy, DrivesConn, DrivesConns, DrivesName, DrivesNames, DrivesOutput, KeepsOthers};
+ghost use Rattle.dep_order.specs.Wiring.{Drives, DrivesBlock, DrivesBlocks, DrivesBy, DrivesConn, DrivesConns, DrivesName, DrivesNames, DrivesOutput, KeepsOthers, StaysLayered};
 ghost use Rattle.dep_order.specs.Blocks.{AreSignals, single, version_of};
 ghost use Rattle.check_core.specs.Maps.{value_of};
 ghost use Rattle.check_core.specs.Known.{has};
@@ -61,6 +61,7 @@ pub(crate) fn drive_by(
     ensures count { length graph.new ≡ length graph.old }
     ensures graph { OnOk result (IsGraph graph.new) }
     ensures drives { OnOk result (DrivesBy graph.old driven.old graph.new driven.new vertex (value_of numbers.now) (tree_of (expr_of expr.now))) }
+    ensures others { OnOk result ((v : ℕ) → v ≢ vertex → next_of graph.new v ≡ next_of graph.old v) }
 {
     let own = NameSet::new(alloc);
     let versions = VersionMap::new(alloc);
@@ -118,6 +119,7 @@ fn drive_names(
 }
 
 /// Drives the signals that a block assigns by the versions that it ends with, unless their drivers were met before.
+#[tactic(auto, using(crate::proofs::Layers::layered_block))]
 pub(crate) fn drive_block(
     alloc: Global,
     graph: &mut Graph,
@@ -131,6 +133,7 @@ pub(crate) fn drive_block(
     ensures graph { OnOk result (IsGraph graph.new) }
     ensures longer { OnOk result (length graph.old ≤ length graph.new) }
     ensures drives { OnOk result (DrivesBlock graph.old driven.old graph.new driven.new (value_of numbers.now) (block_of block.now)) }
+    ensures layers { OnOk result (StaysLayered graph.old graph.new (value_of numbers.now)) }
 {
     let ends = follow_block(alloc, graph, numbers, block)?;
     let names = assigned_in(alloc, block.clocked, &block.body)?;
@@ -152,6 +155,7 @@ pub(crate) fn drive_blocks(
     ensures graph { OnOk result (IsGraph graph.new) }
     ensures longer { OnOk result (length graph.old ≤ length graph.new) }
     ensures drives { OnOk result (DrivesBlocks graph.old driven.old graph.new driven.new (value_of numbers.now) (map block_of blocks.now)) }
+    ensures layers { OnOk result (StaysLayered graph.old graph.new (value_of numbers.now)) }
 {
     for block in blocks {
         drive_block(alloc, graph, driven, numbers, block)?;
@@ -176,6 +180,7 @@ fn drive_conn(
     ensures graph { OnOk result (IsGraph graph.new) }
     ensures count { length graph.new ≡ length graph.old }
     ensures drives { OnOk result (DrivesConn graph.old driven.old graph.new driven.new (value_of child.now) (value_of parent.now) (conn_of conn.now)) }
+    ensures layers { OnOk result (StaysLayered graph.old graph.new (value_of child.now)) }
 {
     match child.get(conn.port.bytes()) {
         Some(vertex) => drive_by(alloc, graph, driven, vertex, parent, &conn.value),
@@ -199,6 +204,7 @@ pub(crate) fn drive_conns(
     ensures graph { OnOk result (IsGraph graph.new) }
     ensures count { length graph.new ≡ length graph.old }
     ensures drives { OnOk result (DrivesConns graph.old driven.old graph.new driven.new (value_of child.now) (value_of parent.now) (map conn_of conns.now)) }
+    ensures layers { OnOk result (StaysLayered graph.old graph.new (value_of child.now)) }
 {
     for conn in conns {
         drive_conn(alloc, graph, driven, child, parent, conn)?;
@@ -222,6 +228,7 @@ pub(crate) fn drive_output(
     ensures graph { OnOk result (IsGraph graph.new) }
     ensures count { length graph.new ≡ length graph.old }
     ensures drives { OnOk result (DrivesOutput graph.old driven.old graph.new driven.new (value_of child.now) (value_of parent.now) name.now output.now) }
+    ensures layers { OnOk result (StaysLayered graph.old graph.new (value_of parent.now)) }
 {
     let Some(vertex) = parent.get(name) else {
         return Ok(());

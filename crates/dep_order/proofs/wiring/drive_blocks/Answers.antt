@@ -6,6 +6,7 @@ use Rattle.design_core.specs.View.{block_of}
 use Rattle.check_core.specs.Maps.{value_of}
 use Rattle.dep_order.specs.Wiring.{DrivesBlocks}
 use Rattle.dep_order.proofs.Rows.{blocks_next, more_blocks}
+use Rattle.dep_order.proofs.Layers.{layered_both}
 use Rattle.dep_order.proofs.wiring.drive_blocks.Goals as goal
 
 pub loop-block-preserved : goal.loop-block-preserved
@@ -14,6 +15,7 @@ loop-block-preserved c =
     record {
       graph = c.in_ok-drive_block.ensures.graph;
       longer = omega (arith, c.loop-block.invariant.longer, c.in_ok-drive_block.ensures.longer);
+      layers = layered_both c.args.graph.now c.loop-block.graph c.drive_block.new.graph (value_of c.args.numbers.now) c.loop-block.invariant.longer c.loop-block.invariant.layers c.in_ok-drive_block.ensures.layers;
       drives =
           subst (λ (bs : List design.Block). DrivesBlocks c.args.graph.now c.args.driven.now c.drive_block.new.graph c.drive_block.new.driven (value_of c.args.numbers.now) bs)
           (sym (more_blocks c.args.blocks.now i c.block-item.result c.loop-block-test.true c.block-item.is))

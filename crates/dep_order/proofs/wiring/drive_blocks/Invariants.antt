@@ -2,12 +2,13 @@ use Rattle.std.proofs.Common.{◌≤◌, length, map, take}
 use Rattle.design_core.specs.View.{block_of}
 use Rattle.graph_order.specs.Graphs.{IsGraph}
 use Rattle.check_core.specs.Maps.{value_of}
-use Rattle.dep_order.specs.Wiring.{DrivesBlocks}
+use Rattle.dep_order.specs.Wiring.{DrivesBlocks, StaysLayered}
 use Rattle.dep_order.proofs.wiring.drive_blocks.Given as goal
 
 abbrev pub invariant-loop-block : goal.invariant-loop-block
 invariant-loop-block l = record {
   graph : IsGraph l.graph;
   longer : length l.initial.graph ≤ length l.graph;
+  layers : StaysLayered l.initial.graph l.graph (value_of l.numbers);
   drives : DrivesBlocks l.initial.graph l.initial.driven l.graph l.driven (value_of l.numbers) (map block_of (take l.block-index l.blocks));
 }

@@ -6,6 +6,7 @@ use Rattle.design_core.specs.View.{conn_of}
 use Rattle.check_core.specs.Maps.{value_of}
 use Rattle.dep_order.specs.Wiring.{DrivesConns}
 use Rattle.dep_order.proofs.Rows.{conns_next, more_conns}
+use Rattle.dep_order.proofs.Layers.{layered_both}
 use Rattle.dep_order.proofs.wiring.drive_conns.Goals as goal
 
 pub loop-conn-preserved : goal.loop-conn-preserved
@@ -14,6 +15,7 @@ loop-conn-preserved c =
     record {
       graph = c.in_ok-drive_conn.ensures.graph;
       count = c.drive_conn.ensures.count ∙ c.loop-conn.invariant.count;
+      layers = layered_both c.args.graph.now c.loop-conn.graph c.drive_conn.new.graph (value_of c.args.child.now) (omega (arith, c.loop-conn.invariant.count)) c.loop-conn.invariant.layers c.in_ok-drive_conn.ensures.layers;
       drives =
           subst (λ (cs : List design.Conn). DrivesConns c.args.graph.now c.args.driven.now c.drive_conn.new.graph c.drive_conn.new.driven (value_of c.args.child.now) (value_of c.args.parent.now) cs)
           (sym (more_conns c.args.conns.now i c.conn-item.result c.loop-conn-test.true c.conn-item.is))

@@ -1,0 +1,123 @@
+-- The blocks of an accepted design are checked.
+use Rattle.std.proofs.Common.{◌≡◌, ℕ, Bool, true, false, ◌∷◌, None, refl, sym, ap, ◌∙◌, subst, if◌then◌else◌}
+use Rattle.std.proofs.lemmas.Bool.{or_left, or_right}
+use Rattle.exec_core.specs.Block.{Name, own, key_name}
+use Rattle.exec_core.specs.Lists.{EachOf, IsIn}
+use Rattle.exec_core.specs.Paths as exec
+use Rattle.exec_core.specs.Paths.{HasWidth, BodyWidths, Checked, known_in}
+use Rattle.exec_core.specs.Design.{Process, place, signals_of, width_in}
+use Rattle.exec_core.proofs.Lists.{each_member, each_from}
+use Rattle.design_core.specs.declared.design.Instance.{Instance}
+use Rattle.design_core.specs.Design.{Stmt, Assign, Let, If, Body, Done, Then, Else, NoElse, Otherwise, Block, Variant, Design}
+use Rattle.design_exec.specs.Processes.{tree_of, target, stmt_of, body_of, else_of, body_widths, signal_width, signals_at, is_signal_of, process, processes_of}
+use Rattle.check_core.specs.Known.{none}
+use Rattle.check_core.specs.Statements.{inside, statements, else_statements}
+use Rattle.check_core.specs.Faults.{first_of}
+use Rattle.check_core.specs.Names.{scope_of, targets, named, any_kind, is_child_output, child_named, taken_in}
+use Rattle.check_core.specs.Widths.{widths_of, bad_signal, bad_in_child, bad_in_block, bad_stmt, signal_mismatch, mismatch_in_child, mismatch_in_block}
+use Rattle.check_exec.specs.Premises.{BlocksAreChecked}
+use Rattle.check_exec.proofs.Facts.{each_left, each_right, none_found, earlier_right}
+use Rattle.check_exec.proofs.Instances.{IsClean, Stands, clean, signals_are, each_process}
+use Rattle.check_exec.proofs.Names.{signals_named, signals_differ, lets_differ}
+use Rattle.check_exec.proofs.Targets.{block_known, named_any, target_signal}
+use Rattle.check_exec.proofs.Statements.{sets}
+use Rattle.check_exec.proofs.Reading.{ports_known, block_reads}
+use Rattle.check_exec.proofs.SignalWidths.{put_known}
+use Rattle.check_exec.proofs.LetWidths.{list_widths, body_listed, stays, FitsStmt, LetIsGood, IsAt, list_fits}
+
+-- ---- from statements one after another to those inside one another
+
+module _ (clocked : Bool) (known : Name → Bool) (F : Name → ℕ) where
+  abbrev Good : Name → Type 0
+  Good x = known x ≡ true
+
+  target_width : (x : Name) (e : _) → HasWidth known F (tree_of e) (F x) → HasWidth known F (tree_of e) (F (key_name (target clocked x)))
+  target_width x e h = subst (λ y. HasWidth known F (tree_of e) (F y)) (sym (named_by clocked)) h
+    where
+      named_by : (c : Bool) → key_name (target c x) ≡ x
+      named_by true = refl
+      named_by false = refl
+
+  mutual
+    stmt_fits : (s : Stmt) → EachOf (FitsStmt Good F) (s ∷ inside s) → exec.Widths known F (stmt_of clocked s)
+    stmt_fits (Assign slot line gens x e) h = target_width x e h.0
+    stmt_fits (Let slot line gens x e) h = h.0
+    stmt_fits (If slot line gens c first second) h = (
+      h.0,
+      body_fits first (each_left (FitsStmt Good F) (statements first) (else_statements second) h.1),
+      else_fits second (each_right (FitsStmt Good F) (statements first) (else_statements second) h.1),
+    )
+
+    pub body_fits : (b : Body) → EachOf (FitsStmt Good F) (statements b) → BodyWidths known F (body_of clocked b)
+    body_fits Done h = tt
+    body_fits (Then s rest) h = (
+      stmt_fits s (each_left (FitsStmt Good F) (s ∷ inside s) (statements rest) h),
+      body_fits rest (each_right (FitsStmt Good F) (s ∷ inside s) (statements rest) h),
+    )
+
+    else_fits : (b : Else) → EachOf (FitsStmt Good F) (else_statements b) → BodyWidths known F (else_of clocked b)
+    else_fits NoElse h = tt
+    else_fits (Otherwise body) h = body_fits body h
+
+-- ---- a block of a variant
+
+module _ (d : Design) (i : ℕ) (r : Instance) (v : Variant) (b : Block) (stands : Stands d i r v) (c : IsClean d.variants v) (at : IsIn b v.blocks) where
+  abbrev its : Process
+  its = process i v.signals b
+
+  abbrev F : Name → ℕ
+  F = width_in (processes_of d) its
+
+  abbrev known : Name → Bool
+  known = known_in (signals_of (processes_of d) its) its.body
+
+  -- the width in the end of a name
+  ends : (x : Name) → F x ≡ list_widths (statements b.body) (signal_width v.signals) x
+  ends x = by_signal (is_signal_of d (place i x)) refl
+    where
+      listed : body_widths b.body (signal_width v.signals) x ≡ list_widths (statements b.body) (signal_width v.signals) x
+      listed = ap (λ (w : Name → ℕ). w x) (body_listed b.body (signal_width v.signals))
+
+      by_signal : (s : Bool) → is_signal_of d (place i x) ≡ s → (if s then signal_width (signals_at d i) x else body_widths b.body (signal_width v.signals) x) ≡ list_widths (statements b.body) (signal_width v.signals) x
+      by_signal true e =
+          ap (λ l. signal_width l x) (signals_are d i r v stands)
+          ∙ sym (stays (taken_in v) (statements b.body) (signal_width v.signals) x (lets_differ v b at c.apart) (or_left (named any_kind v.signals x) (child_named v.children x) (sym (signals_named d i r v stands x) ∙ e)))
+      by_signal false e = listed
+
+  lets_good : EachOf (LetIsGood (λ x. known x ≡ true)) (statements b.body)
+  lets_good = each_from (LetIsGood (λ x. known x ≡ true)) (statements b.body) by_kind
+    where
+      by_kind : (s : Stmt) → IsIn s (statements b.body) → LetIsGood (λ x. known x ≡ true) s
+      by_kind (Assign slot line gens x e) j = tt
+      by_kind (Let slot line gens x e) j = or_left (own its.body x) (signals_of (processes_of d) its x) (sets b.clocked x (Let slot line gens x e) refl b.body j)
+      by_kind (If slot line gens t first second) j = tt
+
+  is_at : IsAt (scope_of v) (targets (scope_of v) b.clocked) none (taken_in v) (named is_child_output v.signals) (widths_of any_kind v.signals) (signal_width v.signals) F (λ x. known x ≡ true) (statements b.body)
+  is_at = record {
+    widths = λ x e. put_known any_kind v.signals x (signals_differ v c.apart) e;
+    ends = ends;
+    takes = λ x e. or_left (named any_kind v.signals x) (child_named v.children x) e;
+    fine = λ x e. or_right (own its.body x) (signals_of (processes_of d) its x) (signals_named d i r v stands x ∙ e);
+    outputs_are = λ x e. named_any is_child_output v.signals x e;
+    assigned_are = λ x e. target_signal v b.clocked x e;
+    differ = lets_differ v b at c.apart;
+  }
+
+  block_widths : BodyWidths known F (body_of b.clocked b.body)
+  block_widths =
+      body_fits b.clocked known F b.body
+      (list_fits (scope_of v) (targets (scope_of v) b.clocked) none (taken_in v) (named is_child_output v.signals) (widths_of any_kind v.signals) (signal_width v.signals) F (λ x. known x ≡ true) (statements b.body)
+      is_at lets_good (block_known d.variants v b c at)
+      (each_member (λ k. mismatch_in_block (widths_of any_kind v.signals) k ≡ None) v.blocks
+      (none_found (mismatch_in_block (widths_of any_kind v.signals)) v.blocks
+      (earlier_right (first_of (mismatch_in_child (widths_of any_kind v.signals) d.variants) v.children) _ (earlier_right (first_of signal_mismatch v.signals) _ c.widths))) b at)
+      (none_found bad_stmt (statements b.body)
+      (each_member (λ k. bad_in_block k ≡ None) v.blocks
+      (none_found bad_in_block v.blocks (earlier_right (first_of bad_in_child v.children) _ (earlier_right (first_of bad_signal v.signals) _ c.sized))) b at))
+      (ports_known d.variants v b c at))
+
+  pub block_checked : Checked (signals_of (processes_of d) its) F its.body
+  block_checked = record { reads = block_reads d.variants v b c at; widths = block_widths }
+
+pub blocks_are_checked : BlocksAreChecked
+blocks_are_checked d sound = each_process d _ (λ i r v b s at. block_checked d i r v b s (clean d sound.accepted i r v s) at)

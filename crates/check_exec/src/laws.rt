@@ -1,0 +1,51 @@
+ghost use Rattle.check_exec.specs.Sample.{SampleIsSound};
+ghost use Rattle.check_exec.specs.Premises.{AcceptedIsReady, BlocksAreChecked, GivensAreApart, GivensFit, LinksFit, NoLatchIsLeft, OneSource, SlotsAreApart};
+
+/// In a well-formed design no two statements of an instance have one slot. Computes nothing.
+pub fn slots_are_apart()
+    ensures { SlotsAreApart }
+{}
+
+/// In an accepted design no path of a block leaves a target unassigned. Computes nothing.
+pub fn no_latch_is_left()
+    ensures { NoLatchIsLeft }
+{}
+
+/// In an accepted design the inputs of the top and the registers have widths from 1 to 128, and each register starts with a value
+/// of its width. Computes nothing.
+pub fn givens_fit()
+    ensures { GivensFit }
+{}
+
+/// In an accepted design no two inputs of the top and registers are the same. Computes nothing.
+pub fn givens_are_apart()
+    ensures { GivensAreApart }
+{}
+
+/// In an accepted design a block reads names that are known, and none of its own before it is written; and widths agree.
+/// Computes nothing.
+pub fn blocks_are_checked()
+    ensures { BlocksAreChecked }
+{}
+
+/// In an accepted design a connection is to an input of the child, and has its width; and a signal that is an output of a child has
+/// the width of that output. Computes nothing.
+pub fn links_fit()
+    ensures { LinksFit }
+{}
+
+/// In an accepted design each signal of each instance has one source: a connection or the output of a child, a block that assigns
+/// it, or what it is given. Computes nothing.
+pub fn one_source_each()
+    ensures { OneSource }
+{}
+
+/// An accepted design meets the premises of the theorem on runs, for each order of its driven signals. Computes nothing.
+pub fn accepted_is_ready()
+    ensures { AcceptedIsReady }
+{}
+
+/// A design of two instances with a register, worked by hand, is accepted. Computes nothing.
+pub fn sample_is_sound()
+    ensures { SampleIsSound }
+{}

@@ -1,0 +1,161 @@
+ghost use Rattle.std.specs.Prelude.{◌≡◌, ◌≤◌, ℕ, None, false, [], length, slice_index_or, IfOk, IfErr, OnOk};
+ghost use Rattle.dep_order.specs.Reaching.{IsLayered};
+ghost use Rattle.graph_order.specs.Graphs.{IsGraph, next_of};
+ghost use Rattle.design_core.specs.DesignView.{design_of};
+ghost use Rattle.check_core.specs.Verdict.{verdict};
+ghost use Rattle.dep_order.specs.Numbering.{numbers_of};
+ghost use Rattle.dep_order.specs.Linking.{AllLayered, AreBelow};
+ghost use Rattle.dep_order.specs.Ordering.{AreCounted, DriversAreTrees, DrivesDesign, IsWiredDesign, TellsFault, marked_in, pairs_of};
+ghost use Rattle.dep_order.specs.Results.{TellsOrder};
+
+use crate::answer::{Order, OrderFault};
+use crate::instances::{drive_links, drive_processes};
+use crate::maps::NumberMap;
+use crate::numbering::{count_instances, in_32_bits};
+use crate::signals::order_signals;
+use design_core::Design;
+use graph_order::{Graph, GraphFault};
+use std::alloc::{AllocError, Global};
+use text_core::NoMemory;
+
+/// So many vertices without edges.
+fn vertices(alloc: Global, count: usize) -> Result<Graph, NoMemory>
+    ensures count { IfOk result (λ graph. length graph ≡ count) }
+    ensures none { IfOk result (λ graph. (v : ℕ) → next_of graph v ≡ []) }
+{
+    let mut graph = Graph::new(alloc);
+    for _ in 0..count {
+        graph.add(&[])?;
+    }
+    Ok(graph)
+}
+
+/// Those of some vertices that are marked.
+fn marked_in(alloc: Global, marks: &[bool], vertices: &[u32]) -> Result<Vec<u32>, AllocError>
+    ensures { IfOk result (λ kept. kept.items ≡ marked_in marks.now vertices.now) }
+{
+    vertices
+        .iter()
+        .copied()
+        .filter(|v| marks.get(*v as usize).copied().unwrap_or(false))
+        .collect(alloc)
+}
+
+/// The pairs of some numbers.
+fn pairs_of(
+    alloc: Global,
+    pairs: &[(u32, u32)],
+    numbers: &[u32],
+) -> Result<Vec<(u32, u32)>, AllocError>
+    ensures { IfOk result (λ list. list.items ≡ pairs_of pairs.now numbers.now) }
+{
+    numbers
+        .iter()
+        .map(|n| pairs.get(*n as usize).copied().unwrap_or((0, 0)))
+        .collect(alloc)
+}
+
+/// Drives the signals of a design by its links and blocks, in a graph in which nothing drives them yet.
+fn wire(
+    alloc: Global,
+    graph: &mut Graph,
+    driven: &mut [bool],
+    design: &Design,
+    maps: &[NumberMap],
+) -> Result<(), NoMemory>
+    requires graph { IsGraph graph.old }
+    requires below { AreBelow (length graph.old) (numbers_of maps.now) }
+    requires marked { AreBelow (length driven.old) (numbers_of maps.now) }
+    requires maps { length maps.now ≡ length design.now.instances }
+    ensures longer { OnOk result (length graph.old ≤ length graph.new) }
+    ensures layers { OnOk result (AllLayered graph.old graph.new (numbers_of maps.now)) }
+    ensures drives { OnOk result (DrivesDesign graph.old driven.old graph.new driven.new (numbers_of maps.now) (design_of design.now)) }
+{
+    drive_links(alloc, graph, driven, design, maps)?;
+    drive_processes(alloc, graph, driven, design, maps)?;
+    Ok(())
+}
+
+/// An order of a design's driven signals, or a loop, by a graph in which each signal has edges to what drives it.
+fn order_wired(
+    alloc: Global,
+    graph: &Graph,
+    driven: &[bool],
+    design: &Design,
+    maps: &[NumberMap],
+    pairs: &[(u32, u32)],
+) -> Result<Order, OrderFault>
+    requires counted { AreCounted (design_of design.now) (numbers_of maps.now, pairs.now) }
+    requires wired { IsWiredDesign (design_of design.now) (numbers_of maps.now, pairs.now) graph.now driven.now }
+    requires signals { length pairs.now ≤ length graph.now }
+    requires layered { IsLayered (length pairs.now) graph.now }
+    requires trees { DriversAreTrees (design_of design.now) }
+    ensures order { IfOk result (TellsOrder (design_of design.now)) }
+    ensures cycle { IfErr result (TellsFault (design_of design.now)) }
+{
+    let signals = in_32_bits(pairs.len())?;
+    match order_signals(alloc, graph, signals) {
+        Ok(all) => {
+            let marked = marked_in(alloc, driven, &all)?;
+            let pairs = pairs_of(alloc, pairs, &marked)?;
+            Ok(Order { pairs })
+        }
+        Err(GraphFault::Cycle(cycle)) => {
+            let cycle = pairs_of(alloc, pairs, &cycle)?;
+            Err(OrderFault::CombLoop { cycle })
+        }
+        Err(GraphFault::NoMemory) => Err(OrderFault::NoMemory),
+    }
+}
+
+/// The same by a graph without edges, in which no signal is driven.
+fn wire_and_order(
+    alloc: Global,
+    graph: &mut Graph,
+    driven: &mut [bool],
+    design: &Design,
+    maps: &[NumberMap],
+    pairs: &[(u32, u32)],
+) -> Result<Order, OrderFault>
+    requires counted { AreCounted (design_of design.now) (numbers_of maps.now, pairs.now) }
+    requires count { length graph.old ≡ length pairs.now }
+    requires none { (v : ℕ) → next_of graph.old v ≡ [] }
+    requires marks { length driven.old ≡ length pairs.now }
+    requires unmarked { (v : ℕ) → slice_index_or driven.old v false ≡ false }
+    requires trees { DriversAreTrees (design_of design.now) }
+    ensures order { IfOk result (TellsOrder (design_of design.now)) }
+    ensures cycle { IfErr result (TellsFault (design_of design.now)) }
+{
+    wire(alloc, graph, driven, design, maps)?;
+    order_wired(alloc, graph, driven, design, maps, pairs)
+}
+
+/// The same, where these are the numbers of the design's signals.
+fn order_counted(
+    alloc: Global,
+    design: &Design,
+    maps: &[NumberMap],
+    pairs: &[(u32, u32)],
+) -> Result<Order, OrderFault>
+    requires counted { AreCounted (design_of design.now) (numbers_of maps.now, pairs.now) }
+    requires trees { DriversAreTrees (design_of design.now) }
+    ensures order { IfOk result (TellsOrder (design_of design.now)) }
+    ensures cycle { IfErr result (TellsFault (design_of design.now)) }
+{
+    let mut graph = vertices(alloc, pairs.len())?;
+    let mut driven = vec![in alloc; false; pairs.len()]?;
+    wire_and_order(alloc, &mut graph, &mut driven, design, maps, pairs)
+}
+
+/// An order of the driven signals of a design that the checks accept, all but registers and inputs of the top, each after those
+/// that it depends on; or signals that depend on one another.
+pub fn order(alloc: Global, design: &Design) -> Result<Order, OrderFault>
+    requires accepted { verdict (design_of design.now) ≡ None }
+    ensures order { IfOk result (TellsOrder (design_of design.now)) }
+    ensures cycle { IfErr result (TellsFault (design_of design.now)) }
+{
+    let mut maps = Vec::new(alloc);
+    let mut pairs = Vec::new(alloc);
+    count_instances(alloc, design, &mut maps, &mut pairs)?;
+    order_counted(alloc, design, &maps, &pairs)
+}

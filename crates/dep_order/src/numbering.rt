@@ -1,0 +1,99 @@
+ghost use Rattle.std.specs.Prelude.{◌≡◌, map, IfOk, OnOk};
+ghost use Rattle.design_core.specs.View.{variant_of};
+ghost use Rattle.design_core.specs.DesignView.{design_of};
+ghost use Rattle.design_core.specs.WellFormed.{signals_at};
+ghost use Rattle.check_core.specs.Maps.{no_value, value_of};
+ghost use Rattle.dep_order.specs.Numbering.{count_signal, count_signals, count_instances, numbers_of};
+
+use crate::maps::NumberMap;
+use design_core::{Design, Signal, Variant};
+use std::alloc::Global;
+use text_core::NoMemory;
+
+/// A number of 32 bits; at 2^32 it answers that memory ran out.
+pub(crate) fn in_32_bits(number: usize) -> Result<u32, NoMemory>
+    ensures { IfOk result (λ found. found ≡ number) }
+{
+    u32::try_from(number).map_err(|_| NoMemory)
+}
+
+/// Gives a signal of an instance the next number, unless its name has one.
+fn count_signal(
+    alloc: Global,
+    numbers: &mut NumberMap,
+    pairs: &mut Vec<(u32, u32)>,
+    instance: u32,
+    place: u32,
+    name: &[u8],
+) -> Result<(), NoMemory>
+    ensures { OnOk result ((value_of numbers.new, pairs.new.items) ≡ count_signal instance place name.now (value_of numbers.old, pairs.old.items)) }
+{
+    if numbers.get(name).is_some() {
+        return Ok(());
+    }
+    let number = in_32_bits(pairs.len())?;
+    numbers.put(alloc, name, number)?;
+    pairs.push((instance, place))?;
+    Ok(())
+}
+
+/// The same of an instance's signals in order.
+#[tactic(auto, using(crate::proofs::Counted::next_signal, crate::proofs::Counted::last_signal))]
+fn count_signals(
+    alloc: Global,
+    numbers: &mut NumberMap,
+    pairs: &mut Vec<(u32, u32)>,
+    instance: u32,
+    signals: &[Signal],
+) -> Result<(), NoMemory>
+    ensures { OnOk result ((value_of numbers.new, pairs.new.items) ≡ count_signals instance 0 signals.now (value_of numbers.old, pairs.old.items)) }
+{
+    for (place, signal) in signals.iter().enumerate() {
+        let place = in_32_bits(place)?;
+        count_signal(alloc, numbers, pairs, instance, place, signal.name.bytes())?;
+    }
+    Ok(())
+}
+
+/// The numbers of an instance's signals.
+fn count_instance(
+    alloc: Global,
+    pairs: &mut Vec<(u32, u32)>,
+    instance: u32,
+    signals: &[Signal],
+) -> Result<NumberMap, NoMemory>
+    ensures { IfOk result (λ numbers. (value_of numbers, pairs.new.items) ≡ count_signals instance 0 signals.now (no_value, pairs.old.items)) }
+{
+    let mut numbers = NumberMap::new(alloc);
+    count_signals(alloc, &mut numbers, pairs, instance, signals)?;
+    Ok(numbers)
+}
+
+/// The signals of a variant, by its number; none where there is no such variant.
+pub(crate) fn signals_of(variants: &[Variant], variant: u32) -> &[Signal]
+    ensures { result.now ≡ signals_at variant (map variant_of variants.now) }
+{
+    match variants.get(variant as usize) {
+        Some(variant) => variant.signals.items(),
+        None => &[],
+    }
+}
+
+/// Numbers for the signals of all instances, one for the first of each name, in the order of the design: a map for each
+/// instance, and the pairs that have numbers.
+#[tactic(auto, using(crate::proofs::Counted::next_instance, crate::proofs::Counted::last_instance, crate::proofs::Counted::pushed))]
+pub(crate) fn count_instances(
+    alloc: Global,
+    design: &Design,
+    maps: &mut Vec<NumberMap>,
+    pairs: &mut Vec<(u32, u32)>,
+) -> Result<(), NoMemory>
+    ensures { OnOk result ((numbers_of maps.new.items, pairs.new.items) ≡ count_instances (design_of design.now) 0 design.now.instances (numbers_of maps.old.items, pairs.old.items)) }
+{
+    for (number, instance) in design.instances.items().iter().enumerate() {
+        let number = in_32_bits(number)?;
+        let signals = signals_of(&design.variants, instance.variant);
+        maps.push(count_instance(alloc, pairs, number, signals)?)?;
+    }
+    Ok(())
+}
