@@ -1,5 +1,5 @@
 ghost use Rattle.check_exec.specs.Sample.{SampleIsSound};
-ghost use Rattle.check_exec.specs.Premises.{AcceptedIsReady, BlocksAreChecked, GivensAreApart, GivensFit, LinksFit, NoLatchIsLeft, OneSource, SlotsAreApart};
+ghost use Rattle.check_exec.specs.Premises.{AcceptedIsReady, BlocksAreChecked, GivensAreApart, GivensFit, LinksFit, NoLatchIsLeft, OneSource, RunsOfAcceptedAgree, SlotsAreApart};
 
 /// In a well-formed design no two statements of an instance have one slot. Computes nothing.
 pub fn slots_are_apart()
@@ -43,6 +43,13 @@ pub fn one_source_each()
 /// An accepted design meets the premises of the theorem on runs, for each order of its driven signals. Computes nothing.
 pub fn accepted_is_ready()
     ensures { AcceptedIsReady }
+{}
+
+/// For rows that give each input of the top a value of its width, an accepted design with an order of its driven signals has one
+/// run, and in each of its cycles each slot's folded whole enable is 1 exactly where execution visits it, and each name has the
+/// value of its folded whole tree. Computes nothing.
+pub fn runs_of_accepted_agree()
+    ensures { RunsOfAcceptedAgree }
 {}
 
 /// A design of two instances with a register, worked by hand, is accepted. Computes nothing.
