@@ -28,11 +28,11 @@ abbrev pub NoLatchIsLeft : Type 0
 NoLatchIsLeft =
     (d : Design) → IsSound d → EachOf (λ b. (x : Name) → IsTarget (processes_of d) b x → BodySkips b.body (Now x) → ⊥) (processes_of d).processes
 
--- declared widths are 1 to 128, and start values have them
+-- what is given is a signal; the inputs of the top have widths from 1 to 128, and a register starts with a value of its width
 abbrev pub GivensFit : Type 0
 GivensFit = (d : Design) → IsSound d → EachOf (GivenFits (processes_of d)) (processes_of d).givens
 
--- no two signals have one name, and no two instances one path
+-- no two that are given have one origin
 abbrev pub GivensAreApart : Type 0
 GivensAreApart = (d : Design) → IsSound d → OriginsApart (processes_of d).givens
 
@@ -42,7 +42,7 @@ BlocksAreChecked =
     (d : Design) → IsSound d
     → EachOf (λ b. Checked (signals_of (processes_of d) b) (width_in (processes_of d) b) b.body) (processes_of d).processes
 
--- connections name inputs of children, and signals `u.q` outputs of children; and they have their widths
+-- each link goes to a signal, from an expression over signals whose widths go together, of the width of that signal
 abbrev pub LinksFit : Type 0
 LinksFit = (d : Design) → IsSound d → EachOf (LinkFits (processes_of d)) (processes_of d).links
 

@@ -1,5 +1,5 @@
-//! What the checks of an elaborated design give for its execution: the premises of the theorem on runs. This crate has laws alone.
-//! It computes nothing.
+//! What the checks of an elaborated design give for its execution: the premises of the theorem on runs. An accepted
+//! design is a well-formed one that no check refuses. This crate has laws alone. It computes nothing.
 #![tactic(auto)]
 
 mod laws;
