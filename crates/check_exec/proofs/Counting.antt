@@ -1,19 +1,16 @@
 -- How many elements of lists pass a test.
-use Rattle.std.proofs.Common.{◌≡◌, ℕ, zero, suc, ◌+◌, Bool, true, false, true≢false, cond, List, [], ◌∷◌, ◌++◌, map, Some, inl, inr, refl, sym, ap, ap₂, ◌∙◌, subst, arith}
+use Rattle.std.proofs.Common.{◌≡◌, ℕ, zero, suc, ◌+◌, Bool, true, false, cond, List, [], ◌∷◌, ◌++◌, map, Some, inl, inr, refl, sym, ap, ap₂, ◌∙◌, subst, arith}
 use Rattle.std.specs.Prelude.{slice_get, count_by}
 use Rattle.std.specs.List.{enumerate_from, flat_map}
 use Rattle.std.proofs.lemmas.List.Sums.{sum_by-cons, sum_by-append}
-use Rattle.std.proofs.lemmas.Bool.{or_parts}
 use Rattle.std.proofs.lemmas.Option.{none-some, same_Some}
 use Rattle.exec_core.specs.Lists.{EachOf, IsIn}
 use Rattle.exec_core.proofs.Lists.{each_from}
 use Rattle.design_core.specs.declared.variant.Signal.{Signal}
 use Rattle.check_core.specs.Known.{Known, with}
 use Rattle.check_core.specs.Names.{signal_thing}
-use Rattle.check_exec.proofs.Facts.{each_numbered, name_same}
-use Rattle.check_exec.proofs.Names.{Differ, none_taken}
-use Rattle.check_exec.proofs.Targets.{not_named}
-use Rattle.std.specs.Prelude.{bytes_eq}
+use Rattle.check_exec.proofs.Facts.{each_numbered}
+use Rattle.check_exec.proofs.Names.{Differ, differs_behind}
 
 pub count_cons : {A : Type 0} (test : A → Bool) (a : A) (list : List A) → count_by test (a ∷ list) ≡ cond (test a) 1 0 + count_by test list
 count_cons test a list = sum_by-cons (λ x. cond (test x) 1 0) a list
@@ -102,17 +99,9 @@ signal_only test f taken [] s d i h = absurd i
 signal_only test f taken (t ∷ signals) s d (inl e) h =
     count_joined test (f t) (flat_map f signals)
     ∙ ap₂ (λ m n. m + n) (ap (λ z. count_by test (f z)) (sym e))
-    (flat_none test f signals (each_from (λ z. count_by test (f z) ≡ 0) signals (λ z j. h z (inr j) (λ g. differs z j (g ∙ ap (λ (y : Signal). y.name) e)))))
+    (flat_none test f signals (each_from (λ z. count_by test (f z) ≡ 0) signals (λ z j. h z (inr j) (λ g. differs_behind taken t signals d.1 z j (g ∙ ap (λ (y : Signal). y.name) e)))))
     ∙ last_none (count_by test (f s))
-  where
-    differs : (z : Signal) → IsIn z signals → z.name ≡ t.name → ⊥
-    differs z j g =
-        true≢false (sym (name_same z.name t.name g) ∙ (or_parts (bytes_eq z.name t.name) (taken z.name) (not_named (with t.name taken) signals (none_taken (with t.name taken) (map signal_thing signals) d.1) z j)).0)
 signal_only test f taken (t ∷ signals) s d (inr i) h =
     count_joined test (f t) (flat_map f signals)
-    ∙ ap₂ (λ m n. m + n) (h t (inl refl) (λ g. differs (sym g))) (signal_only test f (with t.name taken) signals s d.1 i (λ z j g. h z (inr j) g))
+    ∙ ap₂ (λ m n. m + n) (h t (inl refl) (λ g. differs_behind taken t signals d.1 s i (sym g))) (signal_only test f (with t.name taken) signals s d.1 i (λ z j g. h z (inr j) g))
     ∙ no_more (count_by test (f s))
-  where
-    differs : s.name ≡ t.name → ⊥
-    differs g =
-        true≢false (sym (name_same s.name t.name g) ∙ (or_parts (bytes_eq s.name t.name) (taken s.name) (not_named (with t.name taken) signals (none_taken (with t.name taken) (map signal_thing signals) d.1) s i)).0)

@@ -1,5 +1,5 @@
 -- What is given in a cycle: the inputs of the top, and the registers.
-use Rattle.std.proofs.Common.{◌≡◌, ℕ, zero, suc, ◌+◌, ◌≤◌, ◌==◌, Bool, true, false, bytes_eq, List, [], ◌∷◌, ◌++◌, map, Option, Some, None, option_map, unwrap_or, Ok, inl, inr, refl, sym, ap, ◌∙◌, subst, if◌then◌else◌, arith, eqb-true, true≢false}
+use Rattle.std.proofs.Common.{◌≡◌, ℕ, zero, suc, ◌+◌, ◌≤◌, ◌==◌, Bool, true, false, bytes_eq, List, [], ◌∷◌, ◌++◌, map, Option, Some, None, option_map, unwrap_or, Ok, refl, sym, ap, ◌∙◌, subst, if◌then◌else◌, arith, eqb-true, true≢false}
 use Rattle.std.specs.Prelude.{slice_get}
 use Rattle.std.specs.List.{enumerate_from, flat_map, list_any}
 use Rattle.std.proofs.lemmas.Bool.{or_parts}
@@ -26,7 +26,7 @@ use Rattle.check_core.specs.Widths.{bits, is_declared, is_width, is_literal, bad
 use Rattle.check_exec.specs.Premises.{IsSound, GivensFit, GivensAreApart}
 use Rattle.check_exec.proofs.Facts.{each_joined, each_flat, each_numbered, in_any, any_in, in_index, each_index, from_zero, name_same, none_found, earlier_left}
 use Rattle.check_exec.proofs.Instances.{IsClean, Stands, clean, signals_are, each_instance}
-use Rattle.check_exec.proofs.Names.{Differ, none_taken, signals_differ, children_differ}
+use Rattle.check_exec.proofs.Names.{Differ, none_taken, differs_behind, signals_differ, children_differ}
 use Rattle.check_exec.proofs.Widths.{same_bits, width_from, literal_bits, sized, matches, needed_there, same_ok, width_is}
 
 -- ---- a signal of an instance
@@ -157,17 +157,7 @@ own_apart q taken (s ∷ signals) d =
     each_from (NotOf given) (of_signal q t) (λ other j same.
     let mine = each_member (HasOrigin q s.name) (of_signal q s) (given_from q s.name (processes.bits s.width) s.kind) given i in
     let its = each_member (HasOrigin q t.name) (of_signal q t) (given_from q t.name (processes.bits t.width) t.kind) other j in
-    other_name t at (sym its.1 ∙ ap origin_name same ∙ mine.1)))))
-  where
-    each_signal : (rest : List Signal) → EachOf (λ p. with s.name taken p.1 ≡ false) (map signal_thing rest) → (t : Signal) → IsIn t rest → with s.name taken t.name ≡ false
-    each_signal [] h t j = absurd j
-    each_signal (z ∷ rest) h t (inl e) = subst (λ (y : Signal). with s.name taken y.name ≡ false) (sym e) h.0
-    each_signal (z ∷ rest) h t (inr j) = each_signal rest h.1 t j
-
-    other_name : (t : Signal) → IsIn t signals → t.name ≡ s.name → ⊥
-    other_name t at e =
-        let free = each_signal signals (none_taken (with s.name taken) (map signal_thing signals) d.1) t at in
-        true≢false (sym (name_same t.name s.name e) ∙ (or_parts (bytes_eq t.name s.name) (taken t.name) free).0)
+    differs_behind taken s signals d.1 t at (sym its.1 ∙ ap origin_name same ∙ mine.1)))))
 
 -- those of two instances
 two_apart : (q r : Numbered) (given other : Given) → (q.0 ≡ 0 → r.0 ≡ 0 → ⊥) → (r.1.path ≡ q.1.path → ⊥) → IsFrom q given.1 → IsFrom r other.1 → NotOf given other

@@ -16,7 +16,7 @@ use Rattle.check_core.specs.Known.{Known, none, with}
 use Rattle.check_core.specs.Statements.{statements}
 use Rattle.check_core.specs.Faults.{spot}
 use Rattle.check_core.specs.Names.{named, any_kind, child_named, taken_twice, signal_thing, child_thing, things, lets_in, duplicate_in_block, taken_in, duplicate_name}
-use Rattle.check_exec.proofs.Facts.{eq_turned, earlier_left, earlier_right, none_found}
+use Rattle.check_exec.proofs.Facts.{name_same, eq_turned, earlier_left, earlier_right, none_found}
 use Rattle.check_exec.proofs.Instances.{Stands, signals_are}
 
 -- ---- names that are taken one after another
@@ -56,6 +56,19 @@ differ_left taken (p ∷ a) b d = (d.0, differ_left (with p.1 taken) a b d.1)
 pub differ_right : (taken : Known) (a b : List (ℕ × Name)) → Differ taken (a ++ b) → Differ taken b
 differ_right taken [] b d = d
 differ_right taken (p ∷ a) b d = differ_less (with p.1 taken) taken b (λ x e. (or_parts (bytes_eq x p.1) (taken x) e).1) (differ_right (with p.1 taken) a b d.1)
+
+-- signals that are not taken, and those behind one
+not_taken : (taken : Known) (rest : List Signal) → EachOf (λ p. taken p.1 ≡ false) (map signal_thing rest) → (t : Signal) → IsIn t rest → taken t.name ≡ false
+not_taken taken [] h t j = absurd j
+not_taken taken (z ∷ rest) h t (inl e) = subst (λ (y : Signal). taken y.name ≡ false) (sym e) h.0
+not_taken taken (z ∷ rest) h t (inr j) = not_taken taken rest h.1 t j
+
+pub other_behind : (taken : Known) (z : Signal) (signals : List Signal) → Differ (with z.name taken) (map signal_thing signals) → (t : Signal) → IsIn t signals → bytes_eq t.name z.name ≡ false
+other_behind taken z signals d t j =
+    (or_parts (bytes_eq t.name z.name) (taken t.name) (not_taken (with z.name taken) signals (none_taken (with z.name taken) (map signal_thing signals) d) t j)).0
+
+pub differs_behind : (taken : Known) (z : Signal) (signals : List Signal) → Differ (with z.name taken) (map signal_thing signals) → (t : Signal) → IsIn t signals → t.name ≡ z.name → ⊥
+differs_behind taken z signals d t j e = true≢false (sym (name_same t.name z.name e) ∙ other_behind taken z signals d t j)
 
 -- ---- those of a variant
 

@@ -1,5 +1,7 @@
 -- What the checks accept meets the premises of the theorem on runs.
-use Rattle.check_exec.specs.Premises.{AcceptedIsReady}
+use Rattle.exec_core.proofs.Running.{runs_agree}
+use Rattle.design_exec.specs.Processes.{processes_of}
+use Rattle.check_exec.specs.Premises.{AcceptedIsReady, RunsOfAcceptedAgree}
 use Rattle.check_exec.proofs.Slots.{slots_are_apart}
 use Rattle.check_exec.proofs.Latches.{no_latch_is_left}
 use Rattle.check_exec.proofs.Givens.{givens_fit, givens_are_apart}
@@ -18,3 +20,6 @@ accepted_is_ready d sound order in_order = record {
   slots = slots_are_apart d sound.kept;
   in_order = in_order;
 }
+
+pub runs_of_accepted_agree : RunsOfAcceptedAgree
+runs_of_accepted_agree d sound order in_order rows fit = runs_agree (processes_of d) order (accepted_is_ready d sound order in_order) rows fit

@@ -1,7 +1,7 @@
 -- What a block may assign, and its own names.
 use Rattle.std.proofs.Common.{◌≡◌, ℕ, Bool, true, false, true≢false, ◌&&◌, not, bytes_eq, List, [], ◌∷◌, map, None, inl, inr, refl, sym, ap, ◌∙◌, subst}
 use Rattle.std.specs.List.{list_any}
-use Rattle.std.proofs.lemmas.Bool.{or_parts, or_left, or_right, and_from, not_from_false, false_from_ne_true}
+use Rattle.std.proofs.lemmas.Bool.{or_left, or_right, and_from, not_from_false, false_from_ne_true}
 use Rattle.tree_core.proofs.Same.{both_true}
 use Rattle.exec_core.specs.Block as blocks
 use Rattle.exec_core.specs.Block.{Name, Now, assigns, body_assigns}
@@ -21,7 +21,7 @@ use Rattle.check_core.specs.Drivers.{Drive, driven_in}
 use Rattle.check_core.specs.Paths as paths
 use Rattle.check_exec.proofs.Facts.{name_same, same_name, any_in, in_any, in_parts, none_found, earlier_left, earlier_right}
 use Rattle.check_exec.proofs.Instances.{IsClean}
-use Rattle.check_exec.proofs.Names.{Differ, none_taken, signals_differ, let_no_signal}
+use Rattle.check_exec.proofs.Names.{Differ, differs_behind, signals_differ, let_no_signal}
 use Rattle.check_exec.proofs.Widths.{is_known}
 use Rattle.check_exec.proofs.Statements.{Sets, SetIn, set_by, IsOff}
 use Rattle.check_exec.proofs.Latches.{assignment_in}
@@ -97,25 +97,12 @@ pub target_signal : (v : Variant) (clocked : Bool) (x : Name) → targets (scope
 target_signal v true x e = named_any is_register v.signals x e
 target_signal v false x e = named_any is_driven v.signals x e
 
-pub not_named : (taken : Known) (rest : List Signal) → EachOf (λ p. taken p.1 ≡ false) (map signal_thing rest) → (t : Signal) → IsIn t rest → taken t.name ≡ false
-not_named taken [] h t j = absurd j
-not_named taken (z ∷ rest) h t (inl e) = subst (λ (y : Signal). taken y.name ≡ false) (sym e) h.0
-not_named taken (z ∷ rest) h t (inr j) = not_named taken rest h.1 t j
-
 -- signals of one name are one
 pub one_signal : (taken : Known) (signals : List Signal) → Differ taken (map signal_thing signals) → (s t : Signal) → IsIn s signals → IsIn t signals → s.name ≡ t.name → s ≡ t
 one_signal taken [] d s t i j e = absurd i
 one_signal taken (z ∷ signals) d s t (inl p) (inl q) e = p ∙ sym q
-one_signal taken (z ∷ signals) d s t (inl p) (inr j) e = absurd (later taken z signals d.1 t j (sym e ∙ ap (λ (y : Signal). y.name) p))
-  where
-    later : (taken : Known) (z : Signal) (signals : List Signal) → Differ (with z.name taken) (map signal_thing signals) → (t : Signal) → IsIn t signals → t.name ≡ z.name → ⊥
-    later taken z signals d t j e =
-        true≢false (sym (name_same t.name z.name e) ∙ (or_parts (bytes_eq t.name z.name) (taken t.name) (not_named (with z.name taken) signals (none_taken (with z.name taken) (map signal_thing signals) d) t j)).0)
-one_signal taken (z ∷ signals) d s t (inr i) (inl q) e = absurd (later taken z signals d.1 s i (e ∙ ap (λ (y : Signal). y.name) q))
-  where
-    later : (taken : Known) (z : Signal) (signals : List Signal) → Differ (with z.name taken) (map signal_thing signals) → (t : Signal) → IsIn t signals → t.name ≡ z.name → ⊥
-    later taken z signals d t j e =
-        true≢false (sym (name_same t.name z.name e) ∙ (or_parts (bytes_eq t.name z.name) (taken t.name) (not_named (with z.name taken) signals (none_taken (with z.name taken) (map signal_thing signals) d) t j)).0)
+one_signal taken (z ∷ signals) d s t (inl p) (inr j) e = absurd (differs_behind taken z signals d.1 t j (sym e ∙ ap (λ (y : Signal). y.name) p))
+one_signal taken (z ∷ signals) d s t (inr i) (inl q) e = absurd (differs_behind taken z signals d.1 s i (e ∙ ap (λ (y : Signal). y.name) q))
 one_signal taken (z ∷ signals) d s t (inr i) (inr j) e = one_signal (with z.name taken) signals d.1 s t i j e
 
 other_kind : (k : Kind) → is_driven k ≡ true → is_child_output k ≡ true → ⊥

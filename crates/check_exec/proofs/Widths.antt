@@ -1,12 +1,11 @@
 -- Widths that are widths, and those of signals.
 use Rattle.std.proofs.Common.{◌≡◌, ℕ, ◌<◌, ◌≤◌, ◌==◌, ◌^◌, Bool, true, false, ◌&&◌, not, nat_lt, bytes_eq, List, [], ◌∷◌, map, Some, None, option_map, unwrap_or, Result, Ok, Err, inl, inr, refl, sym, ap, ◌∙◌, subst, if◌then◌else◌, leb-true, ltb-true, eqb-true}
 use Rattle.std.specs.Prelude.{ℤ, pos, negsuc, find}
-use Rattle.std.proofs.lemmas.Bool.{or_parts}
 use Rattle.std.proofs.lemmas.Option.{none-some}
 use Rattle.bv_core.specs.Value.{IsBits}
 use Rattle.tree_core.proofs.Same.{both_true}
 use Rattle.exec_core.specs.Block.{Name}
-use Rattle.exec_core.specs.Lists.{EachOf, IsIn}
+use Rattle.exec_core.specs.Lists.{IsIn}
 use Rattle.design_core.specs.declared.expr.Literal.{Literal}
 use Rattle.design_core.specs.declared.variant.Signal.{Signal}
 use Rattle.design_exec.specs.Processes as processes
@@ -17,7 +16,7 @@ use Rattle.check_core.specs.Known.{Known, with}
 use Rattle.check_core.specs.Names.{signal_thing, unless_known}
 use Rattle.check_core.specs.Widths.{bits, is_width, is_literal, unless_sized, mismatch, needed}
 use Rattle.check_exec.proofs.Facts.{name_same, eq_turned}
-use Rattle.check_exec.proofs.Names.{Differ, none_taken}
+use Rattle.check_exec.proofs.Names.{Differ, other_behind}
 
 pub same_bits : (n : ℤ) → processes.bits n ≡ bits n
 same_bits (pos n) = refl
@@ -82,13 +81,5 @@ width_is taken (t ∷ signals) d s (inl e) =
     ∙ ap (λ (q : Signal). processes.bits q.width) (sym e)
 width_is taken (t ∷ signals) d s (inr i) =
     ap (λ b. unwrap_or (option_map (λ (q : Signal). processes.bits q.width) (if b then Some t else find (λ (q : Signal). bytes_eq q.name s.name) signals)) 0)
-    (eq_turned t.name s.name ∙ (or_parts (bytes_eq s.name t.name) (taken s.name) (not_named signals d.1 i)).0)
+    (eq_turned t.name s.name ∙ other_behind taken t signals d.1 s i)
     ∙ width_is (with t.name taken) signals d.1 s i
-  where
-    not_named : (rest : List Signal) → Differ (with t.name taken) (map signal_thing rest) → IsIn s rest → with t.name taken s.name ≡ false
-    not_named rest f j = each_signal rest (none_taken (with t.name taken) (map signal_thing rest) f) j
-      where
-        each_signal : (rest : List Signal) → EachOf (λ p. with t.name taken p.1 ≡ false) (map signal_thing rest) → IsIn s rest → with t.name taken s.name ≡ false
-        each_signal [] h j = absurd j
-        each_signal (q ∷ rest) h (inl e) = subst (λ (z : Signal). with t.name taken z.name ≡ false) (sym e) h.0
-        each_signal (q ∷ rest) h (inr j) = each_signal rest h.1 j

@@ -1,5 +1,6 @@
 -- What the checks give for the execution of a design: each premise of the theorem on runs as a law of its own.
-use Rattle.std.specs.Prelude.{◌≡◌, ℕ, true, List, None}
+use Rattle.std.specs.Prelude.{◌≡◌, ℕ, true, List, length, None}
+use Rattle.bv_core.specs.Value.{Bits}
 use Rattle.exec_core.specs.Block.{Name, Now}
 use Rattle.exec_core.specs.Lists.{EachOf, AreApart}
 use Rattle.exec_core.specs.Design.{driver_of, signals_of, width_in}
@@ -7,6 +8,7 @@ use Rattle.exec_core.specs.Paths.{BodySkips, Checked}
 use Rattle.exec_core.specs.Whole.{Place, IsOrder}
 use Rattle.exec_core.specs.Run.{IsTarget, slots_in}
 use Rattle.exec_core.specs.Accepted.{Accepted, source_count, LinkFits, GivenFits, OriginsApart}
+use Rattle.exec_core.specs.States.{RowFits, RunAgrees}
 use Rattle.design_core.specs.Design.{Design}
 use Rattle.design_core.specs.WellFormed.{IsDesign}
 use Rattle.design_exec.specs.Processes.{processes_of}
@@ -26,11 +28,11 @@ abbrev pub NoLatchIsLeft : Type 0
 NoLatchIsLeft =
     (d : Design) → IsSound d → EachOf (λ b. (x : Name) → IsTarget (processes_of d) b x → BodySkips b.body (Now x) → ⊥) (processes_of d).processes
 
--- declared widths are 1 to 128, and start values have them
+-- what is given is a signal; the inputs of the top have widths from 1 to 128, and a register starts with a value of its width
 abbrev pub GivensFit : Type 0
 GivensFit = (d : Design) → IsSound d → EachOf (GivenFits (processes_of d)) (processes_of d).givens
 
--- no two signals have one name, and no two instances one path
+-- no two that are given have one origin
 abbrev pub GivensAreApart : Type 0
 GivensAreApart = (d : Design) → IsSound d → OriginsApart (processes_of d).givens
 
@@ -40,7 +42,7 @@ BlocksAreChecked =
     (d : Design) → IsSound d
     → EachOf (λ b. Checked (signals_of (processes_of d) b) (width_in (processes_of d) b) b.body) (processes_of d).processes
 
--- connections name inputs of children, and signals `u.q` outputs of children; and they have their widths
+-- each link goes to a signal, from an expression over signals whose widths go together, of the width of that signal
 abbrev pub LinksFit : Type 0
 LinksFit = (d : Design) → IsSound d → EachOf (LinkFits (processes_of d)) (processes_of d).links
 
@@ -52,3 +54,10 @@ OneSource = (d : Design) → IsSound d → (p : Place) → (processes_of d).is_s
 abbrev pub AcceptedIsReady : Type 0
 AcceptedIsReady =
     (d : Design) → IsSound d → (order : List Place) → IsOrder (processes_of d).is_signal (driver_of (processes_of d)) order → Accepted (processes_of d) order
+
+-- so its runs agree with its folded whole trees: for rows of the inputs of the top there is one run, and in each cycle the enables and
+-- trees of its slots tell what execution does
+abbrev pub RunsOfAcceptedAgree : Type 0
+RunsOfAcceptedAgree =
+    (d : Design) → IsSound d → (order : List Place) → IsOrder (processes_of d).is_signal (driver_of (processes_of d)) order
+    → (rows : List (Name → Bits)) → EachOf (RowFits (processes_of d)) rows → RunAgrees (processes_of d) (length order) rows

@@ -1,5 +1,5 @@
 ghost use Rattle.check_exec.specs.Sample.{SampleIsSound};
-ghost use Rattle.check_exec.specs.Premises.{AcceptedIsReady, BlocksAreChecked, GivensAreApart, GivensFit, LinksFit, NoLatchIsLeft, OneSource, SlotsAreApart};
+ghost use Rattle.check_exec.specs.Premises.{AcceptedIsReady, BlocksAreChecked, GivensAreApart, GivensFit, LinksFit, NoLatchIsLeft, OneSource, RunsOfAcceptedAgree, SlotsAreApart};
 
 /// In a well-formed design no two statements of an instance have one slot. Computes nothing.
 pub fn slots_are_apart()
@@ -17,19 +17,19 @@ pub fn givens_fit()
     ensures { GivensFit }
 {}
 
-/// In an accepted design no two inputs of the top and registers are the same. Computes nothing.
+/// In an accepted design no two of the inputs of the top and the registers have one origin. Computes nothing.
 pub fn givens_are_apart()
     ensures { GivensAreApart }
 {}
 
-/// In an accepted design a block reads names that are known, and none of its own before it is written; and widths agree.
-/// Computes nothing.
+/// In an accepted design a block reads its own names and signals of its instance alone, none of its own where some path has not
+/// assigned it; and the widths of its operators, targets and conditions go together. Computes nothing.
 pub fn blocks_are_checked()
     ensures { BlocksAreChecked }
 {}
 
-/// In an accepted design a connection is to an input of the child, and has its width; and a signal that is an output of a child has
-/// the width of that output. Computes nothing.
+/// In an accepted design each connection of a child, and each output of one, goes to a signal, from an expression over signals whose
+/// widths go together, of the width of that signal. Computes nothing.
 pub fn links_fit()
     ensures { LinksFit }
 {}
@@ -45,7 +45,14 @@ pub fn accepted_is_ready()
     ensures { AcceptedIsReady }
 {}
 
-/// A design of two instances with a register, worked by hand, is accepted. Computes nothing.
+/// For rows that give each input of the top a value of its width, an accepted design with an order of its driven signals has one
+/// run of its signals, and in each of its cycles each slot's folded whole enable is 1 exactly where execution visits it, and at a
+/// visited slot each name that is set by then has the value of its folded whole tree. Computes nothing.
+pub fn runs_of_accepted_agree()
+    ensures { RunsOfAcceptedAgree }
+{}
+
+/// A design of two instances with a register, worked by hand, is well formed, and no check refuses it. Computes nothing.
 pub fn sample_is_sound()
     ensures { SampleIsSound }
 {}
