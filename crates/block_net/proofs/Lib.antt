@@ -1,0 +1,3 @@
+pub mod TermLists
+pub mod WalkSteps
+pub mod Expressions

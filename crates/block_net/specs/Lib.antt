@@ -1,0 +1,4 @@
+pub mod Terms
+pub mod Logs
+pub mod Source
+pub mod Walks

@@ -1,0 +1,17 @@
+//! A block run on expressions in place of values: its rows and its last trees, as numbered terms that share what they have in common.
+#![tactic(auto)]
+
+mod bindings;
+mod growing;
+mod ids;
+mod key;
+mod step;
+mod term;
+mod terms;
+mod walk;
+
+pub use ids::IdMap;
+pub use key::Key;
+pub use step::Step;
+pub use term::{Term, TermId};
+pub use terms::Terms;
