@@ -1,3 +1,5 @@
 pub mod TermLists
 pub mod WalkSteps
 pub mod Expressions
+pub mod BindSteps
+pub mod BodySteps

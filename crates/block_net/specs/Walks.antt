@@ -2,9 +2,9 @@
 use Rattle.std.specs.Prelude.{◌≡◌, List, [], ◌∷◌, ◌++◌, map, Option, Some, None, Bool, false, ◌||◌, if◌then◌else◌}
 use Rattle.tree_core.specs.Tree as tree
 use Rattle.tree_core.specs.Tree.{Tree}
-use Rattle.exec_core.specs.Block.{Name, Key, Now, Next, same_key}
+use Rattle.exec_core.specs.Block.{Name, Key, Now, Next, same_key, Stmt, Body, body_assigns}
 use Rattle.exec_core.specs.Exec.{Env, put, on_three}
-use Rattle.exec_core.specs.Trees.{Row}
+use Rattle.exec_core.specs.Trees.{Row, rows, body_rows, trees_after, body_trees_after}
 use Rattle.check_core.specs.Maps.{value_of}
 use Rattle.block_net.specs.declared.key.Key as code_key
 use Rattle.block_net.specs.declared.bindings.Binding.{Binding}
@@ -48,14 +48,14 @@ pub record Grown (old new : Walk) : Type 0 where
   pub log : new.log.items ≡ old.log.items
 
 -- the log tells these rows more, and each key has this after them
-pub record Walked (old new : Walk) (rows : List Row) (trees : Env (Tree Name)) : Type 0 where
+pub record Walked (old new : Walk) (told_rows : List Row) (trees : Env (Tree Name)) : Type 0 where
   pub fits : Fits new
   pub terms : Extends old.terms new.terms
   pub env : env_of new ≡ trees
   pub more : List Step
   pub log : new.log.items ≡ old.log.items ++ more
   pub within : AreWithin new.terms more
-  pub told : rows_of new.terms more (env_of old) ≡ rows
+  pub told : rows_of new.terms more (env_of old) ≡ told_rows
   pub ends : ends_of new.terms more (env_of old) ≡ trees
 
 -- ---- keys with ids
@@ -94,3 +94,26 @@ chosen test first second = λ y. on_three tree.Mux test (first y) (second y)
 abbrev pub Chooses : Option TermId → List Binding → List Binding → Walk → Walk → Type 0
 Chooses test firsts bindings old new =
     (trees : Env (Tree Name)) → Bind old.terms trees firsts → Bind new.terms (chosen (tree_for old.terms test) trees (env_of old)) bindings
+
+-- ---- statements
+
+-- keys of either
+abbrev pub either : (Key → Bool) → (Key → Bool) → Key → Bool
+either first second = λ y. first y || second y
+
+-- each key that is assigned is among these
+abbrev pub Cover : List code_key.Key → Body → Type 0
+Cover keys body = (y : Key) → among keys y ≡ false → body_assigns body y ≡ false
+
+-- a statement with this enable was walked through; statements were
+abbrev pub ThroughStmt : Option (Tree Name) → Stmt → Walk → Walk → Type 0
+ThroughStmt enable s old new = Walked old new (rows s enable (env_of old)) (trees_after s (env_of old))
+
+abbrev pub Through : Option (Tree Name) → Body → Walk → Walk → Type 0
+Through enable body old new = Walked old new (body_rows body enable (env_of old)) (body_trees_after body (env_of old))
+
+-- what an else-branch leaves, with a choice for each of these keys between some trees and its own
+abbrev pub Joins : Option (Tree Name) → Option (Tree Name) → Body → List Binding → Walk → Walk → Type 0
+Joins enable test body firsts old new =
+    (trees : Env (Tree Name)) → Bind old.terms trees firsts
+    → Walked old new (body_rows body enable (env_of old)) (overlay (among (keys_of firsts)) (chosen test trees (body_trees_after body (env_of old))) (body_trees_after body (env_of old)))

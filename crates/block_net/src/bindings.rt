@@ -63,6 +63,7 @@ pub(crate) fn choose(
     requires within { HaveTerms walk.old.terms firsts.now }
     ensures grown { OnOk result (Grown walk.old walk.new) }
     ensures keys { IfOk result (λ bindings. among (keys_of bindings.items) ≡ among (keys_of firsts.now)) }
+    ensures have { IfOk result (λ bindings. HaveTerms walk.new.terms bindings.items) }
     ensures chooses { IfOk result (λ bindings. Chooses test firsts.now bindings.items walk.old walk.new) }
 {
     let mut bindings = Vec::new(alloc);

@@ -2,9 +2,11 @@
 #![tactic(auto)]
 
 mod bindings;
+mod body;
 mod growing;
 mod ids;
 mod key;
+mod keys;
 mod step;
 mod term;
 mod terms;
