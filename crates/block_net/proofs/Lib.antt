@@ -3,3 +3,4 @@ pub mod WalkSteps
 pub mod Expressions
 pub mod BindSteps
 pub mod BodySteps
+pub mod BlockSteps

@@ -59,7 +59,7 @@ grown_twice a b c x y = record { fits = y.fits; terms = extends_twice a.terms b.
 
 -- ---- a name that is put
 
-bytes_eq_flip : (x y : Name) (b : Bool) → bytes_eq y x ≡ b → bytes_eq x y ≡ b
+pub bytes_eq_flip : (x y : Name) (b : Bool) → bytes_eq y x ≡ b → bytes_eq x y ≡ b
 bytes_eq_flip x y true e = (bytes_eq-Decides x y).1 (sym ((bytes_eq-Decides y x).0 e))
 bytes_eq_flip x y false e = off (bytes_eq x y) refl
   where

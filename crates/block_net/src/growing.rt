@@ -20,7 +20,7 @@ use text_core::{NoMemory, Text};
 
 impl Walk {
     /// A constant.
-    fn constant(&mut self, width: i64, value: u128) -> Result<Option<TermId>, NoMemory>
+    pub(crate) fn constant(&mut self, width: i64, value: u128) -> Result<Option<TermId>, NoMemory>
         requires { Fits self.old }
         ensures grown { OnOk result (Grown self.old self.new) }
         ensures stands { IfOk result (λ id. Stands self.new.terms id (Some (Const (record { width = bits width; value = value })))) }

@@ -83,6 +83,19 @@ fn collect_else(
     Ok(())
 }
 
+/// The keys that statements assign, one for each assignment.
+pub(crate) fn assigned_by(
+    alloc: Global,
+    clocked: bool,
+    stmts: &[Stmt],
+) -> Result<Vec<Key>, NoMemory>
+    ensures { IfOk result (λ keys. among keys.items ≡ body_assigns (body_in clocked stmts.now)) }
+{
+    let mut keys = Vec::new(alloc);
+    collect(alloc, clocked, stmts, &mut keys)?;
+    Ok(keys)
+}
+
 /// The keys that the branches of an `if` assign, one for each assignment.
 pub(crate) fn assigned(
     alloc: Global,

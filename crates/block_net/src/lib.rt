@@ -2,6 +2,7 @@
 #![tactic(auto)]
 
 mod bindings;
+mod block;
 mod body;
 mod growing;
 mod ids;
@@ -12,7 +13,7 @@ mod term;
 mod terms;
 mod walk;
 
-pub use ids::IdMap;
+pub use block::{BlockTerms, block_terms};
 pub use key::Key;
 pub use step::Step;
 pub use term::{Term, TermId};
