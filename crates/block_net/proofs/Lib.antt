@@ -4,3 +4,5 @@ pub mod Expressions
 pub mod BindSteps
 pub mod BodySteps
 pub mod BlockSteps
+pub mod SetSteps
+pub mod Sampled

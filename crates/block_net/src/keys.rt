@@ -6,6 +6,7 @@ ghost use Rattle.block_net.specs.Source.{body_in, else_in, stmt_in};
 ghost use Rattle.block_net.specs.Walks.{among, either};
 
 use crate::Key;
+use crate::key_set::distinct;
 use design_core::Stmt;
 use std::alloc::Global;
 use text_core::{NoMemory, Text};
@@ -96,7 +97,7 @@ pub(crate) fn assigned_by(
     Ok(keys)
 }
 
-/// The keys that the branches of an `if` assign, one for each assignment.
+/// The keys that the branches of an `if` assign.
 pub(crate) fn assigned(
     alloc: Global,
     clocked: bool,
@@ -108,5 +109,6 @@ pub(crate) fn assigned(
     let mut keys = Vec::new(alloc);
     collect(alloc, clocked, yes, &mut keys)?;
     collect_else(alloc, clocked, no, &mut keys)?;
-    Ok(keys)
+    let found = distinct(alloc, &keys)?;
+    Ok(found)
 }

@@ -7,7 +7,9 @@ mod body;
 mod growing;
 mod ids;
 mod key;
+mod key_set;
 mod keys;
+mod laws;
 mod step;
 mod term;
 mod terms;
@@ -15,6 +17,7 @@ mod walk;
 
 pub use block::{BlockTerms, block_terms};
 pub use key::Key;
+pub use laws::tells_the_sample;
 pub use step::Step;
 pub use term::{Term, TermId};
 pub use terms::Terms;
