@@ -1,5 +1,5 @@
 -- Bindings: keys with what they have.
-use Rattle.std.proofs.Common.{◌≡◌, ℕ, zero, suc, ◌+◌, ◌<◌, ◌≤◌, Bool, true, false, true≢false, ◌||◌, bytes_eq, List, [], ◌∷◌, ◌++◌, map, length, take, get_or, Option, Some, None, if◌then◌else◌, refl, sym, ap, ap₂, ◌∙◌, subst, arith}
+use Rattle.std.proofs.Common.{◌≡◌, ℕ, zero, suc, ◌+◌, ◌<◌, ◌≤◌, Bool, true, false, true≢false, ◌||◌, List, [], ◌∷◌, ◌++◌, length, take, get_or, Option, if◌then◌else◌, refl, sym, ap, ◌∙◌, subst, arith}
 use Rattle.std.proofs.lemmas.List.{take_more, take_all}
 use Rattle.std.proofs.lemmas.Slice.Eq.{bytes_eq-Decides}
 use Rattle.tree_core.specs.Tree as tree
@@ -15,7 +15,7 @@ use Rattle.block_net.specs.Terms.{IsWithin, Extends, Stands, tree_for}
 use Rattle.block_net.specs.Logs.{key_of}
 use Rattle.block_net.specs.Walks.{Bind, Chooses, Fits, Grown, HaveTerms, SetsAll, Walked, among, chosen, env_of, keys_of, overlay}
 use Rattle.block_net.proofs.TermLists.{tree_more, within_more, stands_more, stands_as, extends_twice}
-use Rattle.block_net.proofs.WalkSteps.{grown_walked, grown_none, grown_twice, walked_as, walked_twice}
+use Rattle.block_net.proofs.WalkSteps.{grown_walked, grown_none, walked_as, walked_twice}
 use Rattle.block_net.proofs.Expressions.{later, all_three}
 
 -- ---- keys
@@ -157,7 +157,7 @@ choose_one init old mid new test firsts bs more i b second id copy below at w g 
     let env = chosen (tree_for init.terms test) trees (env_of init) in
     let to_mid : Extends init.terms mid.terms = extends_twice init.terms old.terms mid.terms g.terms h.terms in
     let is_it : on_three tree.Mux (tree_for mid.terms test) (tree_for mid.terms b.id) (tree_for mid.terms second) ≡ env (key_of b.key) =
-        all_three tree.Mux _ _ _ _ _ _ (tree_more init.terms mid.terms test to_mid w) (later init.terms mid.terms b.id (trees (key_of b.key)) here to_mid) (s.is ∙ ap (λ (f : Env (Tree Name)). f (key_of b.key)) g.env) in
+    all_three tree.Mux _ _ _ _ _ _ (tree_more init.terms mid.terms test to_mid w) (later init.terms mid.terms b.id (trees (key_of b.key)) here to_mid) (s.is ∙ ap (λ (f : Env (Tree Name)). f (key_of b.key)) g.env) in
     subst (Bind new.terms env) (sym is)
     (bind_append new.terms env bs (record { key = copy; id = id } ∷ [])
     (bind_more old.terms new.terms env bs (extends_twice old.terms mid.terms new.terms h.terms k.terms) (so trees (bind_front init.terms trees (take i firsts) (b ∷ []) split)))

@@ -1,26 +1,24 @@
 -- The beginning and the end of a walk through a block.
-use Rattle.std.proofs.Common.{◌≡◌, ℕ, ◌+◌, ◌<◌, ◌≤◌, Bool, true, false, true≢false, ◌||◌, bytes_eq, List, [], ◌∷◌, ◌++◌, length, take, get_or, Option, Some, None, if◌then◌else◌, refl, sym, ap, ap₂, ◌∙◌, subst, arith}
+use Rattle.std.proofs.Common.{◌≡◌, ℕ, ◌+◌, ◌<◌, ◌≤◌, Bool, true, false, ◌||◌, bytes_eq, List, [], ◌∷◌, ◌++◌, length, take, get_or, Option, Some, None, if◌then◌else◌, refl, sym, ap, ◌∙◌, subst}
 use Rattle.std.proofs.lemmas.List.{take_more, take_all}
-use Rattle.std.proofs.lemmas.Slice.Eq.{bytes_eq-Decides}
 use Rattle.tree_core.specs.Tree as tree
 use Rattle.tree_core.specs.Tree.{Tree}
 use Rattle.bv_core.specs.Operators.{flag_of}
-use Rattle.exec_core.specs.Block.{Name, Key, Now, Next, same_key, Body, body_assigns, own}
-use Rattle.exec_core.specs.Exec.{Env, start}
-use Rattle.exec_core.specs.Trees.{Row, body_rows, body_trees_after, block_rows, block_trees}
-use Rattle.check_core.specs.Maps.{value_of, put_value, no_value}
+use Rattle.exec_core.specs.Block.{Name, Key, Now, Next, same_key, Body, body_assigns}
+use Rattle.exec_core.specs.Exec.{start}
+use Rattle.exec_core.specs.Trees.{body_rows, body_trees_after}
+use Rattle.check_core.specs.Maps.{put_value, no_value}
 use Rattle.block_net.specs.declared.key.Key as code_key
 use Rattle.block_net.specs.declared.key.Key.TheVariants as keys
 use Rattle.block_net.specs.declared.term.Term.{Term}
 use Rattle.block_net.specs.declared.term.TermId.{TermId}
 use Rattle.block_net.specs.declared.walk.Walk.{Walk}
-use Rattle.block_net.specs.Terms.{IsWithin, Stands, tree_for}
+use Rattle.block_net.specs.Terms.{Stands, tree_for}
 use Rattle.block_net.specs.Logs.{key_of, rows_of, ends_of, AreWithin}
-use Rattle.block_net.specs.Walks.{FitBy, Fits, Grown, IsHeld, Through, Walked, among, env_by, env_of, held}
-use Rattle.block_net.specs.Blocks.{AreLinked, BlockParts, Tells, hidden, hide}
+use Rattle.block_net.specs.Walks.{FitBy, Grown, IsHeld, Through, among, env_by, env_of, held}
+use Rattle.block_net.specs.Blocks.{AreLinked, Tells, hidden, hide}
 use Rattle.block_net.proofs.WalkSteps.{Names, bytes_eq_flip}
 use Rattle.block_net.proofs.BindSteps.{among_append}
-use Rattle.block_net.proofs.BodySteps.{through_under}
 
 -- ---- own names
 

@@ -1,5 +1,5 @@
 -- Statements, one after another.
-use Rattle.std.proofs.Common.{◌≡◌, ℕ, ◌+◌, ◌<◌, ◌≤◌, Bool, true, false, true≢false, ◌||◌, List, [], ◌∷◌, ◌++◌, map, length, drop, get_or, Option, Some, None, Vec, Global, if◌then◌else◌, append_assoc, append-nil, refl, sym, ap, ap₂, ◌∙◌, subst, arith}
+use Rattle.std.proofs.Common.{◌≡◌, ℕ, ◌+◌, ◌<◌, ◌≤◌, Bool, true, false, true≢false, ◌||◌, List, [], ◌∷◌, ◌++◌, length, drop, get_or, Option, Some, None, Vec, Global, if◌then◌else◌, append_assoc, append-nil, refl, sym, ap, ◌∙◌, subst}
 use Rattle.std.proofs.lemmas.List.{drop_more}
 use Rattle.std.proofs.Math.ListN.{drop_of_length-le}
 use Rattle.bv_core.specs.declared.operators.Op1.TheVariants as op1
@@ -26,11 +26,10 @@ use Rattle.block_net.specs.declared.walk.Walk.{Walk}
 use Rattle.block_net.specs.Terms.{IsWithin, Extends, Stands, tree_for}
 use Rattle.block_net.specs.Logs.{key_of}
 use Rattle.block_net.specs.Source.{expr_in, stmt_in, body_in, else_in}
-use Rattle.block_net.specs.Walks.{Bind, Chooses, Cover, Fits, Grown, HaveTerms, Joins, SetsAll, Through, ThroughStmt, Walked, among, chosen, either, env_of, keys_of, overlay}
-use Rattle.block_net.proofs.TermLists.{tree_more, within_more, stands_more, stands_as, extends_twice, extends_none}
-use Rattle.block_net.proofs.WalkSteps.{grown_walked, grown_none, grown_twice, walked_as, walked_twice}
-use Rattle.block_net.proofs.BindSteps.{among_append, same_key-sound, bind_more, bind_have}
-use Rattle.block_net.proofs.Expressions.{later}
+use Rattle.block_net.specs.Walks.{Bind, Chooses, Cover, Fits, Grown, Joins, SetsAll, Through, ThroughStmt, Walked, among, chosen, either, env_of, keys_of, overlay}
+use Rattle.block_net.proofs.TermLists.{tree_more, extends_twice}
+use Rattle.block_net.proofs.WalkSteps.{grown_walked, grown_none, walked_as, walked_twice}
+use Rattle.block_net.proofs.BindSteps.{among_append, bind_more}
 
 -- ---- statements of the code
 

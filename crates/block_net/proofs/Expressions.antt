@@ -1,15 +1,15 @@
 -- The trees of expressions, and of what stands for their parts.
-use Rattle.std.proofs.Common.{◌≡◌, ℕ, List, Option, Some, None, Result, Ok, Err, IfOk, OnOk, refl, sym, ap, ap₂, ◌∙◌, subst}
+use Rattle.std.proofs.Common.{◌≡◌, List, Option, Result, Ok, Err, IfOk, OnOk, ap, ◌∙◌}
 use Rattle.tree_core.specs.Tree.{Tree}
 use Rattle.exec_core.specs.Block.{Name, Expr}
-use Rattle.exec_core.specs.Exec.{Env, on_two, on_three}
+use Rattle.exec_core.specs.Exec.{on_two, on_three}
 use Rattle.exec_core.specs.Trees.{tree_in}
 use Rattle.block_net.specs.declared.term.Term.{Term}
 use Rattle.block_net.specs.declared.term.TermId.{TermId}
 use Rattle.block_net.specs.declared.walk.Walk.{Walk}
 use Rattle.block_net.specs.Terms.{Extends, Stands, tree_for}
 use Rattle.block_net.specs.Walks.{env_of, Grown}
-use Rattle.block_net.proofs.TermLists.{tree_more, stands_as, extends_twice}
+use Rattle.block_net.proofs.TermLists.{tree_more, stands_as}
 
 pub on_ok_map : {A B X Y : Type 0} (r : Result X Y) → (A → B) → OnOk r A → OnOk r B
 on_ok_map (Ok x) f h = f h

@@ -3,7 +3,7 @@ use Rattle.std.proofs.Common.{◌≡◌, ℕ, Bool, true, false, true≢false, b
 use Rattle.std.proofs.lemmas.Slice.Eq.{bytes_eq-Decides}
 use Rattle.tree_core.specs.Tree as tree
 use Rattle.tree_core.specs.Tree.{Tree}
-use Rattle.exec_core.specs.Block.{Name, Key, Now, Next, same_key}
+use Rattle.exec_core.specs.Block.{Name, Key, Now, Next}
 use Rattle.exec_core.specs.Exec.{Env, put}
 use Rattle.exec_core.specs.Trees.{Row}
 use Rattle.check_core.specs.Maps.{value_of, put_value}

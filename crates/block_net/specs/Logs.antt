@@ -1,5 +1,5 @@
 -- What a walk through a block writes down, and what it tells: which slots come, and which keys are set between them.
-use Rattle.std.specs.Prelude.{◌≡◌, List, [], ◌∷◌, Option, Some, None}
+use Rattle.std.specs.Prelude.{List, [], ◌∷◌}
 use Rattle.tree_core.specs.Tree.{Tree}
 use Rattle.exec_core.specs.Block.{Name, Key, Now, Next}
 use Rattle.exec_core.specs.Exec.{Env, put}

@@ -8,9 +8,9 @@ use Rattle.design_core.specs.declared.expr.UnOp.TheVariants.{Not}
 use Rattle.design_core.specs.declared.expr.Op.TheVariants.{Add, And, Eq}
 use Rattle.tree_core.specs.Tree as tree
 use Rattle.tree_core.specs.Tree.{Tree}
-use Rattle.exec_core.specs.Block.{Name, Key, Now}
+use Rattle.exec_core.specs.Block.{Name, Now}
 use Rattle.exec_core.specs.Exec.{start}
-use Rattle.exec_core.specs.Trees.{Row, block_rows, block_trees}
+use Rattle.exec_core.specs.Trees.{Row, block_rows}
 use Rattle.exec_core.specs.Sample.{child_body, q_tree}
 use Rattle.block_net.specs.declared.key.Key as code_key
 use Rattle.block_net.specs.declared.key.Key.TheVariants as keys

@@ -1,6 +1,5 @@
 -- Numbered terms of a block, and the tree over the names of an instance that each stands for.
 use Rattle.std.specs.Prelude.{◌≡◌, ℕ, ◌+◌, ◌<◌, List, [], ◌∷◌, ◌++◌, length, Option, Some, None, slice_index_or}
-use Rattle.bv_core.specs.Value.{Bits}
 use Rattle.bv_core.specs.declared.operators.Op1.TheVariants as op1
 use Rattle.tree_core.specs.Tree as tree
 use Rattle.tree_core.specs.Tree.{Tree}

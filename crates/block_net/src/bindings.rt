@@ -15,11 +15,7 @@ pub(crate) struct Binding {
 }
 
 /// What these keys have.
-pub(crate) fn pick(
-    alloc: Global,
-    walk: &mut Walk,
-    keys: &[Key],
-) -> Result<Vec<Binding>, NoMemory>
+pub(crate) fn pick(alloc: Global, walk: &mut Walk, keys: &[Key]) -> Result<Vec<Binding>, NoMemory>
     requires { Fits walk.old }
     ensures grown { OnOk result (Grown walk.old walk.new) }
     ensures keys { IfOk result (λ bindings. among (keys_of bindings.items) ≡ among keys.now) }
@@ -35,11 +31,7 @@ pub(crate) fn pick(
 }
 
 /// Sets keys to what they had somewhere.
-pub(crate) fn set_all(
-    alloc: Global,
-    walk: &mut Walk,
-    bindings: &[Binding],
-) -> Result<(), NoMemory>
+pub(crate) fn set_all(alloc: Global, walk: &mut Walk, bindings: &[Binding]) -> Result<(), NoMemory>
     requires fits { Fits walk.old }
     requires within { HaveTerms walk.old.terms bindings.now }
     ensures { OnOk result (SetsAll bindings.now walk.old walk.new) }

@@ -79,7 +79,10 @@ fn walk_stmt(
             Ok(())
         }
         Stmt::Let {
-            slot, name, value, ..
+            slot,
+            name,
+            value,
+            ..
         } => {
             let key = target(alloc, false, name.bytes())?;
             assign(alloc, walk, *slot, enable, key, value)?;

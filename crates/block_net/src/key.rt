@@ -1,7 +1,7 @@
+ghost use Rattle.std.specs.Prelude.{◌≡◌, IfOk};
+
 use std::alloc::Global;
 use text_core::{NoMemory, Text};
-
-ghost use Rattle.std.specs.Prelude.{◌≡◌, IfOk};
 
 /// What an assignment sets.
 #[derive(Debug, Drop)]

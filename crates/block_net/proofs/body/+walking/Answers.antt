@@ -2,9 +2,7 @@ use Rattle.std.proofs.Common.{◌∙◌, ap, sym, refl, subst, arith, rules}
 use Rattle.exec_core.specs.Block.{Now}
 use Rattle.exec_core.specs.Trees.{body_trees_after}
 use Rattle.design_exec.specs.Processes.{target}
-use Rattle.block_net.specs.Logs.{key_of}
 use Rattle.block_net.specs.Source.{body_in, else_in, expr_in}
-use Rattle.block_net.specs.Terms.{tree_for}
 use Rattle.block_net.specs.Walks.{Bind, Chooses, HaveTerms, among, env_of, keys_of}
 use Rattle.block_net.proofs.TermLists.{tree_more, within_more, extends_twice, stands_as}
 use Rattle.block_net.proofs.WalkSteps.{grown_twice}
@@ -61,16 +59,36 @@ walk_first-returns-clause-bind t c =
 
 pub walk_if-walk_first-requires : goal.walk_if-walk_first-requires
 walk_if-walk_first-requires t c =
-    let grown = extends_twice _ _ _ c.in_ok-visit.ensures.terms c.in_ok-test.ensures.grown.terms in
-    (search rules, (c.in_ok-test.ensures.grown.fits, (within_more _ _ c.args.enable grown c.requires.within, (c.in_ok-test.ensures.stands.within,
-    covered _ _ (body_in c.args.clocked c.args.yes.now) (else_in c.args.clocked c.args.no.now) c.deref.ensures.value c.in_ok-keys.ensures))))
+    let grown = extends_twice _ _ _ c.in_ok-visit.ensures.terms c.in_ok-test.ensures.grown.terms in (
+      search rules,
+      (
+        c.in_ok-test.ensures.grown.fits,
+        (
+          within_more _ _ c.args.enable grown c.requires.within,
+          (
+            c.in_ok-test.ensures.stands.within,
+            covered _ _ (body_in c.args.clocked c.args.yes.now) (else_in c.args.clocked c.args.no.now) c.deref.ensures.value c.in_ok-keys.ensures,
+          ),
+        ),
+      ),
+    )
 
 pub walk_if-walk_second-requires : goal.walk_if-walk_second-requires
 walk_if-walk_second-requires t c =
     let first = c.in_ok-firsts.ensures.through.terms in
-    let grown = extends_twice _ _ _ c.in_ok-visit.ensures.terms (extends_twice _ _ _ c.in_ok-test.ensures.grown.terms first) in
-    (search rules, (c.in_ok-firsts.ensures.through.fits, (within_more _ _ c.args.enable grown c.requires.within, (within_more _ _ c.in_ok-test.test first c.in_ok-test.ensures.stands.within,
-    subst (HaveTerms c.walk_first.new.walk.terms) (sym c.deref-2.ensures.value) (bind_have _ (body_trees_after (body_in c.args.clocked c.args.yes.now) (env_of c.term_of.new.self)) _ c.in_ok-firsts.ensures.bind)))))
+    let grown = extends_twice _ _ _ c.in_ok-visit.ensures.terms (extends_twice _ _ _ c.in_ok-test.ensures.grown.terms first) in (
+      search rules,
+      (
+        c.in_ok-firsts.ensures.through.fits,
+        (
+          within_more _ _ c.args.enable grown c.requires.within,
+          (
+            within_more _ _ c.in_ok-test.test first c.in_ok-test.ensures.stands.within,
+            subst (HaveTerms c.walk_first.new.walk.terms) (sym c.deref-2.ensures.value) (bind_have _ (body_trees_after (body_in c.args.clocked c.args.yes.now) (env_of c.term_of.new.self)) _ c.in_ok-firsts.ensures.bind),
+          ),
+        ),
+      ),
+    )
 
 pub walk_if-returns : goal.walk_if-returns
 walk_if-returns t c =

@@ -1,4 +1,4 @@
-use Rattle.std.proofs.Common.{◌≡◌, ◌+◌, ◌*◌, ◌≤◌, drop}
+use Rattle.std.proofs.Common.{◌+◌, ◌*◌, ◌≤◌, drop}
 use Rattle.design_core.specs.View.{body_of, else_of, stmt_of}
 use Rattle.design_core.specs.Slots.{size, stmt_size, else_size}
 use Rattle.block_net.specs.Source.{body_in}

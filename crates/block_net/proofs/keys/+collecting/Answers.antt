@@ -1,8 +1,7 @@
 use Rattle.std.proofs.Common.{◌∙◌, ap, arith}
 use Rattle.design_exec.specs.Processes.{target}
-use Rattle.exec_core.specs.Block.{Now, body_assigns}
-use Rattle.block_net.specs.Source.{body_in, else_in, expr_in}
-use Rattle.block_net.specs.Walks.{among, either}
+use Rattle.exec_core.specs.Block.{Now}
+use Rattle.block_net.specs.Source.{body_in, else_in}
 use Rattle.block_net.proofs.BodySteps.{size_next, collect_next, collect_end, collect_one, collect_both, if_as, at_assign, at_let, at_if}
 use Rattle.block_net.proofs.keys.+collecting.Goals as goal
 

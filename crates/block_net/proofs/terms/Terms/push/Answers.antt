@@ -1,4 +1,4 @@
-use Rattle.std.proofs.Common.{◌≡◌, length, ◌∙◌, sym}
+use Rattle.std.proofs.Common.{◌∙◌, sym}
 use Rattle.block_net.proofs.TermLists.{numbered_pushed, stands_pushed}
 use Rattle.block_net.proofs.terms.Terms.push.Goals as goal
 

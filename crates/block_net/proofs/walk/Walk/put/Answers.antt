@@ -1,9 +1,4 @@
-use Rattle.std.proofs.Common.{◌∙◌, sym, ap}
-use Rattle.exec_core.specs.Exec.{put}
-use Rattle.block_net.specs.Terms.{tree_for}
-use Rattle.block_net.specs.Logs.{key_of}
-use Rattle.block_net.specs.Walks.{env_of}
-use Rattle.block_net.proofs.WalkSteps.{fit_now, fit_next, put_now, put_next, put_at_now, put_at_next}
+use Rattle.block_net.proofs.WalkSteps.{fit_now, fit_next, put_at_now, put_at_next}
 use Rattle.block_net.proofs.walk.Walk.put.Goals as goal
 
 pub returns-in_ok-put-in-Now-clause-fits : goal.returns-in_ok-put-in-Now-clause-fits

@@ -1,4 +1,4 @@
-use Rattle.std.proofs.Common.{◌∙◌, ap, refl, ◌++◌, ◌∷◌, []}
+use Rattle.std.proofs.Common.{◌∙◌, ap, ◌++◌, ◌∷◌, []}
 use Rattle.block_net.specs.declared.step.Step.TheVariants as steps
 use Rattle.block_net.proofs.WalkSteps.{set_key}
 use Rattle.block_net.proofs.walk.Walk.set.Goals as goal
