@@ -1,9 +1,13 @@
 -- The trees of numbered terms.
-use Rattle.std.proofs.Common.{◌≡◌, ℕ, suc, ◌+◌, ◌<◌, List, [], ◌∷◌, ◌++◌, length, Option, Some, None, refl, sym, ap, ◌∙◌, subst, arith, append_assoc, append-nil}
+use Rattle.std.proofs.Common.{◌≡◌, ℕ, suc, ◌+◌, ◌<◌, List, [], ◌∷◌, ◌++◌, length, Option, Some, None, refl, sym, ap, ap₂, ◌∙◌, subst, arith, append_assoc, append-nil, zero, get_or}
 use Rattle.std.proofs.lemmas.List.{length-append}
 use Rattle.std.proofs.Math.Seq.{get_or-append_seam}
 use Rattle.std.proofs.Math.ListN.{get_or-append}
+use Rattle.bv_core.specs.declared.operators.Op1.TheVariants as op1
+use Rattle.tree_core.specs.Tree as tree
 use Rattle.tree_core.specs.Tree.{Tree}
+use Rattle.design_exec.specs.Processes.{bits, unary_of, binary_of}
+use Rattle.block_net.specs.declared.term.Term.TheVariants as terms
 use Rattle.exec_core.specs.Block.{Name}
 use Rattle.block_net.specs.declared.term.Term.{Term}
 use Rattle.block_net.specs.declared.term.TermId.{TermId}
@@ -92,3 +96,48 @@ numbered_pushed seen old new n same is h below = subst AreNumbered (sym is) (num
 pub stands_pushed : (seen old new : List Term) (n : Term) (id : TermId) → seen ≡ old → new ≡ old ++ n ∷ [] → id.0 ≡ length old → Stands new (Some id) (Some (term_tree (trees_of seen) n))
 stands_pushed seen old new n id same is at =
     subst (λ ns. Stands ns (Some id) (Some (term_tree (trees_of seen) n))) (sym is) (stands_as (old ++ n ∷ []) (Some id) _ _ (ap (λ ns. Some (term_tree (trees_of ns) n)) (sym same)) (pushed old n id at))
+
+-- ---- the tree of each term is over those of its operands
+
+term_along : (ts us : List (Tree Name)) (k : ℕ) (n : Term) → ((i : ℕ) → i < k → tree_at us i ≡ tree_at ts i) → OperandsBelow k n → term_tree us n ≡ term_tree ts n
+term_along ts us k (terms.Leaf x) same h = refl
+term_along ts us k (terms.Value w v) same h = refl
+term_along ts us k (terms.Unary op a) same h = ap (tree.One (unary_of op)) (same a.0 h)
+term_along ts us k (terms.Binary op a b) same h = ap₂ (tree.Two (binary_of op)) (same a.0 h.0) (same b.0 h.1)
+term_along ts us k (terms.Mux c a b) same h = λ i. tree.Mux (same c.0 h.0 i) (same a.0 h.1 i) (same b.0 h.2 i)
+term_along ts us k (terms.Zext a w) same h = ap (tree.One (op1.Zext (bits w))) (same a.0 h)
+term_along ts us k (terms.Slice a h' l) same h = ap (tree.One (op1.Slice (bits h') (bits l))) (same a.0 h)
+
+from_terms : (ts : List (Tree Name)) (ns : List Term) (d : Term) → AreFrom (length ts) ns → (j : ℕ) → j < length ns → tree_at (trees_from ts ns) (length ts + j) ≡ term_tree (trees_from ts ns) (get_or ns j d)
+unfolding trees_from
+from_terms ts [] d f j h = absurd (omega (arith, h))
+from_terms ts (n ∷ ns) d f zero h =
+    let more = ts ++ term_tree ts n ∷ [] in
+    let z : length ts + 0 ≡ length ts = omega arith in
+    ap (tree_at (trees_from more ns)) z
+    ∙ from_keeps more ns (length ts) (omega (arith, length-append ts (term_tree ts n ∷ [])))
+    ∙ at_last ts (term_tree ts n)
+    ∙ sym (term_along ts (trees_from more ns) (length ts) n
+    (λ i l. from_keeps more ns i (omega (arith, l, length-append ts (term_tree ts n ∷ []))) ∙ at_front ts (term_tree ts n ∷ []) i l) f.0)
+from_terms ts (n ∷ ns) d f (suc j) h =
+    let more = ts ++ term_tree ts n ∷ [] in
+    let e : length ts + suc j ≡ length more + j = omega (arith, length-append ts (term_tree ts n ∷ [])) in
+    let longer : length more ≡ length ts + 1 = length-append ts (term_tree ts n ∷ []) in
+    ap (tree_at (trees_from more ns)) e ∙ from_terms more ns d (subst (λ k. AreFrom k ns) (sym longer) f.1) j (omega (arith, h))
+
+from_below : (k : ℕ) (ns : List Term) (d : Term) → AreFrom k ns → (j : ℕ) → j < length ns → OperandsBelow (k + j) (get_or ns j d)
+from_below k [] d f j h = absurd (omega (arith, h))
+from_below k (n ∷ ns) d f zero h = subst (λ m. OperandsBelow m n) (let e : k ≡ k + 0 = omega arith in e) f.0
+from_below k (n ∷ ns) d f (suc j) h = subst (λ m. OperandsBelow m (get_or ns j d)) (let e : k + 1 + j ≡ k + suc j = omega arith in e) (from_below (k + 1) ns d f.1 j (omega (arith, h)))
+
+-- a term that is read
+pub read_tree : (ns items : List Term) (i : ℕ) (t : Term) → items ≡ ns → AreNumbered items → i < length ns → t ≡ get_or items i t → tree_at (trees_of ns) i ≡ term_tree (trees_of ns) t
+read_tree ns items i t same f h at =
+    let inside : i < length items = subst (λ l. i < length l) (sym same) h in
+    let found : tree_at (trees_of items) i ≡ term_tree (trees_of items) t = ap (tree_at (trees_of items)) (let z : i ≡ 0 + i = omega arith in z) ∙ from_terms [] items t f i inside ∙ ap (term_tree (trees_of items)) (sym at) in
+    subst (λ l. tree_at (trees_of l) i ≡ term_tree (trees_of l) t) same found
+
+pub read_below : (ns items : List Term) (i : ℕ) (t : Term) → items ≡ ns → AreNumbered items → i < length ns → t ≡ get_or items i t → OperandsBelow i t
+read_below ns items i t same f h at =
+    let inside : i < length items = subst (λ l. i < length l) (sym same) h in
+    subst (OperandsBelow i) (sym at) (subst (λ m. OperandsBelow m (get_or items i t)) (let z : 0 + i ≡ i = omega arith in z) (from_below 0 items t f i inside))

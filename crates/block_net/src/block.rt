@@ -1,4 +1,4 @@
-ghost use Rattle.std.specs.Prelude.{◌≡◌, [], IfOk, OnOk};
+ghost use Rattle.std.specs.Prelude.{◌≡◌, ◌<◌, [], length, IfOk, OnOk};
 ghost use Rattle.tree_core.specs.Tree.{Leaf};
 ghost use Rattle.exec_core.specs.Exec.{start};
 ghost use Rattle.check_core.specs.Maps.{value_of};
@@ -6,15 +6,16 @@ ghost use Rattle.design_core.specs.View.{block_of};
 ghost use Rattle.design_exec.specs.Processes.{body_of};
 ghost use Rattle.block_net.specs.Logs.{key_of};
 ghost use Rattle.block_net.specs.Source.{body_in};
-ghost use Rattle.block_net.specs.Terms.{AreNumbered};
+ghost use Rattle.block_net.specs.Terms.{AreNumbered, OperandsBelow, term_tree, tree_at, trees_of};
 ghost use Rattle.block_net.specs.Walks.{Fits, among, env_of};
 ghost use Rattle.block_net.specs.Blocks.{AreLinked, BlockParts, Tells, hidden, hide};
 
 use crate::body::walk_body;
 use crate::ids::IdMap;
 use crate::keys::assigned_by;
+use crate::terms::Terms;
 use crate::walk::Walk;
-use crate::{Key, Step, Term, TermId, Terms};
+use crate::{Key, Step, Term, TermId};
 use design_core::{Block, Stmt};
 use std::alloc::Global;
 use std::marker::Model;
@@ -48,6 +49,15 @@ impl BlockTerms {
         ensures linked { AreLinked self.now }
     {
         self.terms.items()
+    }
+
+    /// The term of an id. Its tree is over those of its operands, which have lower ids.
+    pub fn term(&self, id: TermId) -> &Term
+        requires { id.0 < length self.now.terms }
+        ensures tree { tree_at (trees_of self.now.terms) id.0 ≡ term_tree (trees_of self.now.terms) result.now }
+        ensures below { OperandsBelow id.0 result.now }
+    {
+        self.terms.term(id)
     }
 
     /// The log: the slots in preorder, and between them what is set.

@@ -9,7 +9,7 @@ use text_core::NoMemory;
 
 /// What names have: a term, or none. Contracts see the names with their terms; `value_of` tells a name's.
 #[derive(Drop)]
-pub struct IdMap {
+pub(crate) struct IdMap {
     ids: IndexMap<Vec<u8>, Option<TermId>>,
 }
 

@@ -20,4 +20,3 @@ pub use key::Key;
 pub use laws::tells_the_sample;
 pub use step::Step;
 pub use term::{Term, TermId};
-pub use terms::Terms;

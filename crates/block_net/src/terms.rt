@@ -13,7 +13,7 @@ use text_core::NoMemory;
 
 /// The terms of a block, numbered above their operands. Contracts see the list of them, in which the id of each is its place.
 #[derive(Debug, Drop)]
-pub struct Terms {
+pub(crate) struct Terms {
     terms: Vec<Term>,
 }
 
@@ -45,6 +45,15 @@ impl Terms {
         ensures numbered { AreNumbered self.now }
     {
         &self.terms
+    }
+
+    /// The term of an id.
+    pub(crate) fn term(&self, id: TermId) -> &Term
+        requires { id.0 < length self.now }
+        ensures tree { tree_at (trees_of self.now) id.0 ≡ term_tree (trees_of self.now) result.now }
+        ensures below { OperandsBelow id.0 result.now }
+    {
+        &self.terms[id.0]
     }
 
     /// Puts a term last, whose operands are there.

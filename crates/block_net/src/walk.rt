@@ -10,7 +10,8 @@ ghost use Rattle.block_net.specs.Logs.{key_of};
 ghost use Rattle.block_net.specs.Walks.{Fits, Grown, Walked, env_of};
 
 use crate::ids::IdMap;
-use crate::{Key, Step, Term, TermId, Terms};
+use crate::terms::Terms;
+use crate::{Key, Step, Term, TermId};
 use check_core::below;
 use design_core::{Expr, Literal};
 use std::alloc::Global;
