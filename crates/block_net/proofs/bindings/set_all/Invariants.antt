@@ -1,0 +1,12 @@
+use Rattle.std.proofs.Common.{take}
+use Rattle.block_net.specs.Terms.{Extends}
+use Rattle.block_net.specs.Walks.{Fits, SetsAll}
+use Rattle.block_net.proofs.bindings.set_all.Given as goal
+
+-- those so far are set
+abbrev pub invariant-loop-binding : goal.invariant-loop-binding
+invariant-loop-binding l = record {
+  fits : Fits l.walk;
+  terms : Extends l.initial.walk.terms l.walk.terms;
+  set : SetsAll (take l.binding-index l.bindings) l.initial.walk l.walk;
+}

@@ -1,0 +1,12 @@
+use Rattle.std.proofs.Common.{◌∙◌}
+use Rattle.block_net.specs.Source.{body_in}
+use Rattle.block_net.proofs.BlockSteps.{linked, told}
+use Rattle.block_net.proofs.block.run.Goals as goal
+
+pub invariant_of-result : goal.invariant_of-result
+invariant_of-result c = linked c.constant.new.self c.walk_body.new.walk _ (body_in c.args.clocked c.args.stmts.now) (c.in_ok-enable.ensures.grown.log ∙ c.in_ok-walk.ensures.log) c.in_ok-walk_body.ensures
+
+pub returns : goal.returns
+returns c =
+    told c.in_ok-walk.walk c.constant.new.self c.walk_body.new.walk c.in_ok-enable.enable (body_in c.args.clocked c.args.stmts.now) c.in_ok-walk.ensures.env c.in_ok-walk.ensures.log c.in_ok-enable.ensures.grown
+    c.in_ok-enable.ensures.stands c.in_ok-walk_body.ensures

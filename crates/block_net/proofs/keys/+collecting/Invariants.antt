@@ -1,0 +1,23 @@
+use Rattle.std.proofs.Common.{◌≡◌, ◌+◌, ◌*◌, ◌≤◌, drop}
+use Rattle.exec_core.specs.Block.{body_assigns}
+use Rattle.design_core.specs.View.{body_of, else_of, stmt_of}
+use Rattle.design_core.specs.Slots.{size, stmt_size, else_size}
+use Rattle.block_net.specs.Source.{body_in}
+use Rattle.block_net.specs.Walks.{among, either}
+use Rattle.block_net.proofs.keys.+collecting.Given as goal
+
+-- what is left assigns the rest
+abbrev pub invariant-collect-loop-stmt : goal.invariant-collect-loop-stmt
+invariant-collect-loop-stmt l = record {
+  assigned : either (among l.keys.items) (body_assigns (body_in l.clocked (drop l.stmt-index l.stmts))) ≡ either (among l.initial.keys.items) (body_assigns (body_in l.clocked l.stmts));
+  left : size (body_of (drop l.stmt-index l.stmts)) ≤ size (body_of l.stmts);
+}
+
+abbrev pub decreases-collect : goal.decreases-collect
+decreases-collect l = 3 * size (body_of l.stmts.now) + 1
+
+abbrev pub decreases-collect_stmt : goal.decreases-collect_stmt
+decreases-collect_stmt l = 3 * stmt_size (stmt_of l.stmt.now)
+
+abbrev pub decreases-collect_else : goal.decreases-collect_else
+decreases-collect_else l = 3 * else_size (else_of l.no.now) + 2

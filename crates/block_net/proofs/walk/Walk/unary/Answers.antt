@@ -1,0 +1,6 @@
+use Rattle.std.proofs.Common.{refl}
+use Rattle.block_net.proofs.WalkSteps.{grown_terms}
+use Rattle.block_net.proofs.walk.Walk.unary.Goals as goal
+
+pub returns-clause-grown : goal.returns-clause-grown
+returns-clause-grown c = grown_terms _ _ c.requires.fits c.in_ok-id.ensures.extends refl refl refl

@@ -1,0 +1,7 @@
+pub mod Terms
+pub mod Logs
+pub mod Source
+pub mod Walks
+pub mod Blocks
+pub mod Sets
+pub mod Sample

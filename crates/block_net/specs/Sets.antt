@@ -1,0 +1,14 @@
+-- Which keys a set of keys has seen.
+use Rattle.std.specs.Prelude.{◌≡◌, Bool}
+use Rattle.exec_core.specs.Block.{Key, Now, Next}
+use Rattle.check_core.specs.Known.{has}
+use Rattle.block_net.specs.declared.key_set.KeySet.{KeySet}
+use Rattle.block_net.specs.Walks.{among}
+
+abbrev pub seen : KeySet → Key → Bool
+seen s (Now x) = has s.now x
+seen s (Next x) = has s.next x
+
+-- they are those of its list
+abbrev pub IsKept : KeySet → Type 0
+IsKept s = seen s ≡ among s.keys.items

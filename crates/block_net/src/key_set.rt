@@ -1,0 +1,61 @@
+ghost use Rattle.std.specs.Prelude.{◌≡◌, not, IfOk, OnOk};
+ghost use Rattle.exec_core.specs.Block.{same_key};
+ghost use Rattle.block_net.specs.Logs.{key_of};
+ghost use Rattle.block_net.specs.Walks.{among, either};
+ghost use Rattle.block_net.specs.Sets.{IsKept, seen};
+
+use crate::Key;
+use check_core::NameSet;
+use std::alloc::Global;
+use text_core::NoMemory;
+
+/// Keys in the order in which they came first.
+#[derive(Drop)]
+struct KeySet {
+    keys: Vec<Key>,
+    now: NameSet,
+    next: NameSet,
+}
+
+impl KeySet {
+    /// Notes a key, and tells whether it was new.
+    fn note(&mut self, alloc: Global, key: &Key) -> Result<bool, NoMemory>
+        ensures new { IfOk result (λ new. new ≡ not (seen self.old (key_of key.now))) }
+        ensures seen { OnOk result (seen self.new ≡ either (seen self.old) (same_key (key_of key.now))) }
+        ensures keys { OnOk result (self.new.keys ≡ self.old.keys) }
+    {
+        let new = match key {
+            Key::Now(name) => self.now.insert(alloc, name.bytes())?,
+            Key::Next(name) => self.next.insert(alloc, name.bytes())?,
+        };
+        Ok(new)
+    }
+
+    /// Puts a key last, unless it is there.
+    fn add(&mut self, alloc: Global, key: &Key) -> Result<(), NoMemory>
+        requires { IsKept self.old }
+        ensures kept { OnOk result (IsKept self.new) }
+        ensures keys { OnOk result (among self.new.keys.items ≡ either (among self.old.keys.items) (same_key (key_of key.now))) }
+    {
+        if self.note(alloc, key)? {
+            let key = key.copy(alloc)?;
+            self.keys.push(key)?;
+        }
+        Ok(())
+    }
+}
+
+/// Keys, each once.
+pub(crate) fn distinct(alloc: Global, keys: &[Key]) -> Result<Vec<Key>, NoMemory>
+    ensures { IfOk result (λ found. among found.items ≡ among keys.now) }
+{
+    let mut set = KeySet {
+        keys: Vec::new(alloc),
+        now: NameSet::new(alloc),
+        next: NameSet::new(alloc),
+    };
+    for key in keys {
+        set.add(alloc, key)?;
+    }
+    Ok(set.keys)
+}

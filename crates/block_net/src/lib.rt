@@ -1,0 +1,22 @@
+//! A block run on expressions in place of values: its rows and its last trees, as numbered terms that share what they have in common.
+#![tactic(auto)]
+
+mod bindings;
+mod block;
+mod body;
+mod growing;
+mod ids;
+mod key;
+mod key_set;
+mod keys;
+mod laws;
+mod step;
+mod term;
+mod terms;
+mod walk;
+
+pub use block::{BlockTerms, block_terms};
+pub use key::Key;
+pub use laws::tells_the_sample;
+pub use step::Step;
+pub use term::{Term, TermId};
