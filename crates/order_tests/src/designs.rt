@@ -1,7 +1,7 @@
 ghost use Rattle.std.specs.Prelude.{◌<◌};
 
-use design_core::{Design, Signal};
 use dep_order::{OrderFault, order};
+use design_core::{Design, Signal};
 use gen_check::check;
 use gen_elab::{Given, elaborate};
 use gen_text::read_source;
