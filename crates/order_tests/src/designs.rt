@@ -151,15 +151,12 @@ fn chain(alloc: Global, last: &str) -> Result<String, Fail> {
     Ok(source)
 }
 
-/// The design of a chain, which the checks accept.
-fn accepted(alloc: Global, last: &str) -> Result<Design, Fail> {
+/// The design of a chain.
+fn chained(alloc: Global, last: &str) -> Result<Design, Fail> {
     let source = chain(alloc, last)?;
     let Some(design) = elaborated(alloc, source.as_bytes())? else {
         return Err("the chain is a design")?;
     };
-    if check(alloc, &design).is_err() {
-        return Err("the chain is accepted")?;
-    }
     Ok(design)
 }
 
@@ -179,7 +176,10 @@ fn link(n: usize) -> (u32, u32)
 /// The last one of the chain stands first.
 #[test]
 fn a_long_chain_has_an_order(rt: HostRuntime) -> Result<(), Fail> {
-    let design = accepted(rt.alloc(), "x")?;
+    let design = chained(rt.alloc(), "x")?;
+    if check(rt.alloc(), &design).is_err() {
+        return Err("the chain is accepted")?;
+    }
     let Ok(order) = order(rt.alloc(), &design) else {
         return Err("the chain has an order")?;
     };
@@ -192,7 +192,10 @@ fn a_long_chain_has_an_order(rt: HostRuntime) -> Result<(), Fail> {
 
 #[test]
 fn a_long_ring_is_a_loop(rt: HostRuntime) -> Result<(), Fail> {
-    let design = accepted(rt.alloc(), "u0.o")?;
+    let design = chained(rt.alloc(), "u0.o")?;
+    if check(rt.alloc(), &design).is_err() {
+        return Err("the ring is accepted")?;
+    }
     let Err(OrderFault::CombLoop { cycle }) = order(rt.alloc(), &design) else {
         return Err("the ring is a loop")?;
     };
