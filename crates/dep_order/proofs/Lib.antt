@@ -22,3 +22,4 @@ pub mod Answered
 pub mod Started
 pub mod Sound
 pub mod Exclusive
+pub mod Ready

@@ -1,6 +1,8 @@
 -- From signals as numbers to signals as pairs of an instance and a place.
-use Rattle.std.specs.Prelude.{◌≡◌, ℕ, ◌≤◌, Bool, true, false, List, [], map, filter, length, is_some, slice_index_or, Some}
-use Rattle.tree_core.specs.Tree.{Tree}
+use Rattle.std.specs.Prelude.{◌↔◌, None, ◌≡◌, ℕ, ◌≤◌, Bool, true, false, List, [], map, filter, length, is_some, slice_index_or, Some}
+use Rattle.tree_core.specs.Tree.{Tree, Origin}
+use Rattle.exec_core.specs.Lists.{IsIn}
+use Rattle.exec_core.specs.Accepted.{Accepted}
 use Rattle.exec_core.specs.Whole.{Place, OverSignals}
 use Rattle.exec_core.specs.Design.{driver_of}
 use Rattle.design_core.specs.Design as design
@@ -69,3 +71,13 @@ TellsFault d NoMemory = Unit {0}
 -- in a design that the checks accept
 abbrev pub AcceptedAreTrees : Type 0
 AcceptedAreTrees = (d : design.Design) → IsSound d → DriversAreTrees d
+
+-- an order that is told of an accepted design meets the premises of the theorem on runs
+abbrev pub OrdersAreAccepted : Type 0
+OrdersAreAccepted = (d : design.Design) (pairs : List Pair) → IsSound d → (told : TellsOrder d pairs) → Accepted (processes_of d) told.order
+
+-- and the signals that are not driven are those that are given: the inputs of the top, and the registers
+abbrev pub OthersAreGiven : Type 0
+OthersAreGiven =
+    (d : design.Design) (pairs : List Pair) → IsSound d → TellsOrder d pairs → (p : Place) → is_signal_of d p ≡ true →
+    (driver_of (processes_of d) p ≡ None) ↔ ((given : Place × Origin) × IsIn given (processes_of d).givens × (given.0 ≡ p))

@@ -1,6 +1,6 @@
 ghost use Rattle.dep_order.specs.Joined.{CyclesJoin, OrdersJoin};
 ghost use Rattle.dep_order.specs.Numbering.{Numbered};
-ghost use Rattle.dep_order.specs.Ordering.{AcceptedAreTrees, CyclesAnswer, OrdersAnswer};
+ghost use Rattle.dep_order.specs.Ordering.{AcceptedAreTrees, CyclesAnswer, OrdersAreAccepted, OthersAreGiven, OrdersAnswer};
 ghost use Rattle.dep_order.specs.Results.{OrdersHaveNoLoop};
 ghost use Rattle.dep_order.specs.Samples.{depend_in_a_loop, depends_through_its_test, reaches_through_two_versions, ring_is_a_cycle, output_of_the_child, pairs_of_two_instances};
 ghost use Rattle.dep_order.specs.Wiring.{BlockIsProcess, LinkIsMet};
@@ -35,6 +35,13 @@ pub fn numbers_answer()
 /// signals. Computes nothing.
 pub fn accepted_drivers()
     ensures { AcceptedAreTrees }
+{}
+
+/// An order of an accepted design's driven signals meets the premises of the theorem on runs; and the signals that are not driven
+/// are the inputs of the top and the registers. Computes nothing.
+pub fn orders_are_accepted()
+    ensures accepted { OrdersAreAccepted }
+    ensures others { OthersAreGiven }
 {}
 
 /// A design with an order of its driven signals has no loop. Computes nothing.

@@ -20,6 +20,6 @@ pub use answer::{Order, OrderFault};
 pub use driven::order;
 pub use laws::{
     accepted_drivers, drivers_in_order, loops_of_the_samples, not_both, numbers_answer,
-    signals_are_numbered, vertices_are_signals,
+    orders_are_accepted, signals_are_numbered, vertices_are_signals,
 };
 pub use signals::order_signals;
