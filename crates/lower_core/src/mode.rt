@@ -1,0 +1,8 @@
+/// Which expressions are kept for the debugger.
+#[derive(Clone, Copy, Debug, PartialEq, Eq)]
+pub enum Mode {
+    /// Those that outputs, enables and registers need.
+    Opt,
+    /// Those of every name as well.
+    Keep,
+}

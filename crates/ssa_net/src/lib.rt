@@ -1,0 +1,6 @@
+//! An accepted design as a net: the blocks of its instances become choices and enables over inputs and registers.
+#![tactic(auto)]
+
+mod lowering;
+
+pub use lowering::lower;

@@ -1,0 +1,4 @@
+pub mod Sites
+pub mod World
+pub mod Source
+pub mod Sample
