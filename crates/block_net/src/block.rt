@@ -42,6 +42,20 @@ impl Model for BlockTerms {
 }
 
 impl BlockTerms {
+    /// What a walk without a log has come to.
+    pub(crate) fn of(walk: Walk) -> BlockTerms
+        requires fits { Fits walk }
+        requires log { walk.log.items ≡ [] }
+        ensures { result.terms ≡ walk.terms }
+    {
+        BlockTerms {
+            terms: walk.terms,
+            log: walk.log,
+            names: walk.now,
+            registers: walk.next,
+        }
+    }
+
     /// The terms, each above its operands.
     pub fn terms(&self) -> &[Term]
         ensures terms { result.now ≡ self.now.terms }

@@ -4,6 +4,7 @@
 mod bindings;
 mod block;
 mod body;
+mod expression;
 mod growing;
 mod ids;
 mod key;
@@ -16,6 +17,7 @@ mod terms;
 mod walk;
 
 pub use block::{BlockTerms, block_terms};
+pub use expression::expr_terms;
 pub use key::Key;
 pub use laws::tells_the_sample;
 pub use step::Step;
