@@ -1,5 +1,5 @@
 -- Terms that wait for nodes of their operands.
-use Rattle.std.specs.Prelude.{◌≡◌, pos, ℕ, ◌+◌, ◌*◌, ◌<◌, List, [], ◌∷◌, ◌++◌, length, Option, Some, None, IsSome, slice_index_or}
+use Rattle.std.specs.Prelude.{◌≡◌, ◌⊎◌, pos, ℕ, ◌+◌, ◌*◌, ◌<◌, List, [], ◌∷◌, ◌++◌, length, Option, Some, None, IsSome, slice_index_or, slice_set}
 use Rattle.bv_core.specs.declared.reference.NodeId.{NodeId}
 use Rattle.tree_core.specs.Tree.{Whole}
 use Rattle.exec_core.specs.Block.{Name}
@@ -72,3 +72,8 @@ unknown_count (Some id ∷ memo) = unknown_count memo
 -- what is left to do: it falls with each term that is put off for an operand, and with each that gets its node
 abbrev pub work : ℕ → List (Option NodeId) → List TermId → ℕ
 work root memo stack = unknown_count memo * (length memo + 1) + top_of root stack
+
+-- a term that had no node has one
+pub record GetsNode (old new : List (Option NodeId)) (k : ℕ) : Type 0 where
+  pub id : NodeId
+  pub is : new ≡ slice_set old k (Some id)
