@@ -95,8 +95,9 @@ fn evaluate_term(
 {
     let mut stack = Vec::new(alloc);
     loop {
-        if let Some(id) = memo[root.0] {
-            return Ok(id);
+        match memo[root.0] {
+            Some(id) => return Ok(id),
+            None => {}
         }
         let top = next(&mut stack, root);
         advance(builder, terms, places, nodes, memo, &mut stack, top)?;
