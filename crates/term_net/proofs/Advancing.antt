@@ -13,7 +13,7 @@ use Rattle.term_net.specs.Growth.{Grown, Stay}
 use Rattle.term_net.specs.Memos.{Fits}
 use Rattle.term_net.specs.Pending.{term_at, IsMissing, IsPending, Fall, FallTo, top_of, unknown_count, work, GetsNode}
 use Rattle.term_net.proofs.Stacks.{fall_push, fall_onto, fall_below, fall_keeps, top_below, less_by_operand, less_by_node}
-use Rattle.term_net.proofs.Fitting.{term_same, fits_more, set_fits, set_stays, pending_more, pending_set, operand_is}
+use Rattle.term_net.proofs.Fitting.{term_same, ready_more, fits_more, set_fits, set_stays, pending_more, pending_set, operand_is}
 
 pub on_ok : {A : Type 0} (r : Result A NoMemory) (P Q : Type 0) → (P → Q) → OnOk r P → OnOk r Q
 on_ok (Ok x) P Q f h = f h
@@ -24,10 +24,11 @@ both_ok (Ok x) P Q R f h g = f h g
 both_ok (Err e) P Q R f h g = h
 
 -- the node of one more term is known
-pub settled : (old new : List Shape) (places : Name → Option ℕ) (nodes : List (Option NodeId)) (terms : List Term) (memo : List (Option NodeId)) (k : ℕ) (id : NodeId) → Fits old places nodes terms memo → Grown old new → k < length terms → Stands new id.0 (term_whole (leaf_tree old places nodes) terms k) → Fits new places nodes terms (set memo k (Some id))
-settled old new places nodes terms memo k id f g l s =
+pub settled : (old new : List Shape) (places : Name → Option ℕ) (nodes : List (Option NodeId)) (terms : List Term) (memo : List (Option NodeId)) (k : ℕ) (id : NodeId) → Fits old places nodes terms memo → Grown old new → k < length terms → IsPending old places nodes terms memo k → Stands new id.0 (term_whole (leaf_tree old places nodes) terms k) → Fits new places nodes terms (set memo k (Some id))
+settled old new places nodes terms memo k id f g l p s =
     let e = f.each in
     set_fits new places nodes terms memo _ k id (fits_more old new places nodes terms memo g.shared g.keeps f) refl (omega arith)
+    (ready_more old new places nodes _ g.keeps f.leaves p.ready)
     (subst (Stands new id.0) (sym (term_same old new places nodes terms k g.keeps f.leaves)) s)
 
 module _ (ns : List Shape) (places : Name → Option ℕ) (nodes : List (Option NodeId)) (terms : List Term) (memo : List (Option NodeId)) (stack : List TermId) (top : TermId) (fits : Fits ns places nodes terms memo) (numbered : AreNumbered terms) (falls : FallTo (IsPending ns places nodes terms memo) (length terms) stack top.0) (pending : IsPending ns places nodes terms memo top.0) where

@@ -157,4 +157,3 @@ module _ {ns : List Shape} {places : Name → Option ℕ} {nodes : List (Option 
   mux_stands new r c a b h i j e o p q s =
       stands_whole new r (tree.Mux (tree_at ts c) (tree_at ts a) (tree_at ts b)) e
       (stands_mux ns new leaves h.0 i.0 j.0 (tree_at ts c) (tree_at ts a) (tree_at ts b) r (it.fits.stands c h o) (it.fits.stands a i p) (it.fits.stands b j q) s)
-

@@ -50,6 +50,7 @@ fits_more old new places nodes terms memo shared k f = record {
   shared = shared;
   leaves = nodes_more old new nodes k f.leaves;
   each = f.each;
+  ready = λ j id e. ready_more old new places nodes _ k f.leaves (f.ready j id e);
   stands = λ j id e. subst (Stands new id.0) (sym (term_same old new places nodes terms j k f.leaves)) (stands_more old new id.0 _ k (f.stands j id e));
 }
 
@@ -67,11 +68,15 @@ set_stays memo new k id none s = record {
       (cases_eq j k);
 }
 
-pub set_fits : (ns : List Shape) (places : Name → Option ℕ) (nodes : List (Option NodeId)) (terms : List Term) (memo new : List (Option NodeId)) (k : ℕ) (id : NodeId) → Fits ns places nodes terms memo → new ≡ set memo k (Some id) → k < length memo → Stands ns id.0 (term_whole (leaf_tree ns places nodes) terms k) → Fits ns places nodes terms new
-set_fits ns places nodes terms memo new k id f s l h = record {
+pub set_fits : (ns : List Shape) (places : Name → Option ℕ) (nodes : List (Option NodeId)) (terms : List Term) (memo new : List (Option NodeId)) (k : ℕ) (id : NodeId) → Fits ns places nodes terms memo → new ≡ set memo k (Some id) → k < length memo → IsReady (leaf_id places nodes) (leaf_tree ns places nodes) (tree_at (trees_of terms) k) → Stands ns id.0 (term_whole (leaf_tree ns places nodes) terms k) → Fits ns places nodes terms new
+set_fits ns places nodes terms memo new k id f s l ready h = record {
   shared = f.shared;
   leaves = f.leaves;
   each = ap length s ∙ length-set memo k (Some id) ∙ f.each;
+  ready = λ j other e. ⊎_elim
+      (λ (same : j ≡ k). subst (λ i. IsReady (leaf_id places nodes) (leaf_tree ns places nodes) (tree_at (trees_of terms) i)) (sym same) ready)
+      (λ (apart : j ≢ k). f.ready j other (sym (get_or-set_other memo k j (Some id) None apart) ∙ ap (λ m. node_at m j) (sym s) ∙ e))
+      (cases_eq j k);
   stands = λ j other e. ⊎_elim
       (λ (same : j ≡ k).
       let at : node_at new k ≡ Some id = ap (λ m. node_at m k) s ∙ get_or-set_same memo k (Some id) None l in

@@ -4,3 +4,4 @@ pub mod Stacks
 pub mod Fitting
 pub mod Arms
 pub mod Advancing
+pub mod Placing

@@ -81,7 +81,7 @@ pub leaf_within : (ns : List Shape) (nodes : List (Option NodeId)) → AreNodes 
 leaf_within ns nodes n None id e = cc
 leaf_within ns nodes n (Some k) id e = n.within k id e
 
-some_of : (o : Option NodeId) → IsSome o → (id : NodeId) × (o ≡ Some id)
+pub some_of : (o : Option NodeId) → IsSome o → (id : NodeId) × (o ≡ Some id)
 some_of None h = cc
 some_of (Some id) h = (id, refl)
 

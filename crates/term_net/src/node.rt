@@ -59,12 +59,7 @@ fn two(builder: &mut NetBuilder, op: Op2, a: NodeId, b: NodeId) -> Result<NodeId
 }
 
 /// A choice between two nodes by a third.
-fn choice(
-    builder: &mut NetBuilder,
-    c: NodeId,
-    a: NodeId,
-    b: NodeId,
-) -> Result<NodeId, NoMemory>
+fn choice(builder: &mut NetBuilder, c: NodeId, a: NodeId, b: NodeId) -> Result<NodeId, NoMemory>
     requires condition { c.0 < length builder.old }
     requires first { a.0 < length builder.old }
     requires second { b.0 < length builder.old }

@@ -26,7 +26,9 @@ pub(crate) fn missing(terms: &[Term], memo: &[Option<NodeId>], id: TermId) -> Op
         Term::Leaf(_) | Term::Value { .. } => None,
         Term::Unary(_, a) | Term::Zext(a, _) | Term::Slice(a, _, _) => unknown(memo, *a),
         Term::Binary(_, a, b) => unknown(memo, *a).or(unknown(memo, *b)),
-        Term::Mux(c, a, b) => unknown(memo, *c).or(unknown(memo, *a)).or(unknown(memo, *b)),
+        Term::Mux(c, a, b) => unknown(memo, *c)
+            .or(unknown(memo, *a))
+            .or(unknown(memo, *b)),
     }
 }
 
