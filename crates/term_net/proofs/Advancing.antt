@@ -1,5 +1,5 @@
 -- A step of an evaluation: the top gets its node, or waits for an operand.
-use Rattle.std.proofs.Common.{◌≡◌, ℕ, ◌+◌, ◌*◌, ◌<◌, List, [], ◌∷◌, ◌++◌, length, set, Option, Some, None, Result, Ok, Err, OnOk, refl, sym, ap, ◌∙◌, subst, arith}
+use Rattle.std.proofs.Common.{◌≡◌, ℕ, ◌+◌, ◌*◌, ◌<◌, List, [], ◌∷◌, ◌++◌, length, set, Option, Some, Result, Ok, Err, OnOk, refl, sym, subst, arith}
 use Rattle.text_core.specs.declared.memory.NoMemory.{NoMemory}
 use Rattle.bv_core.specs.declared.reference.NodeId.{NodeId}
 use Rattle.exec_core.specs.Block.{Name}
@@ -8,7 +8,7 @@ use Rattle.net_core.specs.Builder.{Stands}
 use Rattle.block_net.specs.declared.term.Term.{Term}
 use Rattle.block_net.specs.declared.term.TermId.{TermId}
 use Rattle.block_net.specs.Terms.{AreNumbered}
-use Rattle.term_net.specs.Leaves.{node_at, leaf_id, leaf_tree, term_whole}
+use Rattle.term_net.specs.Leaves.{leaf_id, leaf_tree, term_whole}
 use Rattle.term_net.specs.Growth.{Grown, Stay}
 use Rattle.term_net.specs.Memos.{Fits}
 use Rattle.term_net.specs.Pending.{term_at, IsMissing, IsPending, Fall, FallTo, top_of, unknown_count, work, GetsNode}

@@ -1,6 +1,5 @@
 -- What a term that was read tells of its operands and of its node.
-use Rattle.std.proofs.Common.{◌≡◌, ◌⊎◌, ℕ, ◌<◌, ◌≤◌, ℤ, List, length, Option, Some, None, IsSome, Result, Ok, Err, IfOk, inl, inr, ⊎_elim, refl, sym, ap, ap₂, ◌∙◌, subst, arith, get_or}
-use Rattle.std.proofs.lemmas.List.{get_or_default}
+use Rattle.std.proofs.Common.{◌≡◌, ◌⊎◌, ℕ, ◌<◌, ◌≤◌, ℤ, List, length, Option, Some, IsSome, Result, Ok, Err, IfOk, inl, inr, refl, sym, ap, ap₂, ◌∙◌, subst, arith, get_or}
 use Rattle.text_core.specs.declared.memory.NoMemory.{NoMemory}
 use Rattle.bv_core.specs.Value.{Bits, IsBits}
 use Rattle.bv_core.specs.Operators.{Fits1, Fits2, FitsMux}
@@ -10,7 +9,7 @@ use Rattle.bv_core.specs.declared.operators.Op2.{Op2}
 use Rattle.bv_core.specs.declared.reference.NodeId.{NodeId}
 use Rattle.tree_core.specs.Tree as tree
 use Rattle.tree_core.specs.Tree.{Tree, Whole}
-use Rattle.tree_core.specs.Width.{width_of, tree_width, IsWhole}
+use Rattle.tree_core.specs.Width.{tree_width, IsWhole}
 use Rattle.tree_core.specs.Sample.{at_start}
 use Rattle.tree_core.proofs.Samples.{some_given}
 use Rattle.tree_core.proofs.Folding.{values_fit}
@@ -24,13 +23,13 @@ use Rattle.net_core.specs.Builder.{Stands}
 use Rattle.block_net.specs.declared.term.Term.{Term}
 use Rattle.block_net.specs.declared.term.Term.TheVariants.{Leaf, Value, Unary, Binary, Mux, Zext, Slice}
 use Rattle.block_net.specs.declared.term.TermId.{TermId}
-use Rattle.block_net.specs.Terms.{tree_at, trees_of, term_tree, OperandsBelow, AreNumbered}
+use Rattle.block_net.specs.Terms.{tree_at, trees_of, term_tree, AreNumbered}
 use Rattle.block_net.proofs.TermLists.{read_tree, read_below}
 use Rattle.term_net.specs.Leaves.{leaf_id, leaf_tree, node_at, whole_of, term_whole, IsReady}
 use Rattle.term_net.specs.Memos.{Fits}
 use Rattle.term_net.specs.Pending.{IsOperand}
 use Rattle.term_net.proofs.Fitting.{operand_below}
-use Rattle.term_net.proofs.Wholes.{node_whole, whole_constant, stands_as, stands_one, stands_two, stands_mux, stands_leaf, ready_width, fits_one, fits_two, fits_mux}
+use Rattle.term_net.proofs.Wholes.{node_whole, whole_constant, stands_as, stands_one, stands_two, stands_mux, stands_leaf, fits_one, fits_two, fits_mux}
 
 -- a term with one operand
 pub only_operand : (t : Term) (a : TermId) → ((op : UnOp) × (t ≡ Unary op a)) ⊎ (((w : ℤ) × (t ≡ Zext a w)) ⊎ ((h : ℤ) × (l : ℤ) × (t ≡ Slice a h l))) → IsOperand a.0 t

@@ -1,22 +1,20 @@
 -- What is known of terms stays known as the builder grows, and as more terms have nodes.
-use Rattle.std.proofs.Common.{◌≡◌, ◌≢◌, ℕ, zero, suc, ◌+◌, ◌<◌, ◌≤◌, List, [], ◌∷◌, ◌++◌, length, set, Option, Some, None, IsSome, inl, inr, ⊎_elim, refl, sym, ap, ◌∙◌, subst, arith, get_or}
+use Rattle.std.proofs.Common.{◌≡◌, ◌≢◌, ℕ, ◌<◌, List, length, set, Option, Some, None, inl, inr, ⊎_elim, refl, sym, ap, ◌∙◌, subst, arith, get_or}
 use Rattle.std.proofs.lemmas.List.{length-set, get_or-set_same, get_or-set_other, get_or_past, get_or_default}
 use Rattle.std.proofs.lemmas.Bool.{cases_eq, cases_lt}
 use Rattle.bv_core.specs.declared.reference.NodeId.{NodeId}
 use Rattle.tree_core.specs.Tree.{Tree, Whole}
 use Rattle.exec_core.specs.Block.{Name}
-use Rattle.net_core.specs.Nodes.{Shape, tree_of}
+use Rattle.net_core.specs.Nodes.{Shape}
 use Rattle.net_core.specs.Builder.{AreShared, Keeps, Stands}
 use Rattle.block_net.specs.declared.term.Term.{Term}
 use Rattle.block_net.specs.declared.term.Term.TheVariants.{Leaf, Value, Unary, Binary, Mux, Zext, Slice}
-use Rattle.block_net.specs.declared.term.TermId.{TermId}
 use Rattle.block_net.specs.Terms.{tree_at, trees_of, term_tree, OperandsBelow, AreNumbered}
 use Rattle.block_net.proofs.TermLists.{read_tree, read_below}
-use Rattle.term_net.specs.Leaves.{leaf_id, leaf_tree, tree_for, node_in, node_at, whole_of, term_whole, IsReady}
-use Rattle.term_net.specs.Growth.{AreNodes, Grown, Stay}
+use Rattle.term_net.specs.Leaves.{leaf_id, leaf_tree, tree_for, node_in, node_at, term_whole, IsReady}
+use Rattle.term_net.specs.Growth.{AreNodes, Stay}
 use Rattle.term_net.specs.Memos.{Fits}
-use Rattle.term_net.specs.Pending.{term_at, IsOperand, IsPending, Fall, FallTo}
-use Rattle.term_net.proofs.Stacks.{fall_same, fall_keeps}
+use Rattle.term_net.specs.Pending.{term_at, IsOperand, IsPending}
 
 -- ---- growth of the builder
 

@@ -1,5 +1,5 @@
 -- Folding leaves no input or register that was not there.
-use Rattle.std.proofs.Common.{◌≡◌, ℕ, zero, suc, ◌+◌, ◌<◌, Bool, true, false, List, [], ◌∷◌, ◌++◌, length, Option, Some, None, ⊎_elim, if◌then◌else◌, refl, sym, ap, ◌∙◌, subst, arith, length-append}
+use Rattle.std.proofs.Common.{◌≡◌, ℕ, ◌<◌, Bool, true, false, List, [], ◌∷◌, ◌++◌, length, ⊎_elim, if◌then◌else◌, sym, ap, ◌∙◌, subst, arith, length-append}
 use Rattle.std.proofs.lemmas.Bool.{cases_lt}
 use Rattle.bv_core.specs.declared.operators.Op1.{Op1}
 use Rattle.bv_core.specs.declared.operators.Op2.{Op2}
@@ -9,7 +9,7 @@ use Rattle.tree_core.specs.Width.{width_of, origin_width}
 use Rattle.tree_core.specs.Fold.{same_tree, same_origin, constant, Outcome, Value, First, Second, Third, Itself, one_outcome, two_outcome, mux_outcome, taken, fold, folded}
 use Rattle.exec_core.specs.Leaves.{EachLeaf}
 use Rattle.net_core.specs.Nodes.{Shape, tree_at, trees_of, tree_of}
-use Rattle.net_core.specs.Builder.{has_tree, with_tree, AreShared, Keeps, Adds}
+use Rattle.net_core.specs.Builder.{has_tree, AreShared, Keeps, Adds}
 use Rattle.net_core.proofs.TreeLists.{trees_length, at_front, at_last}
 use Rattle.net_core.proofs.Sharing.{keeps_itself}
 use Rattle.term_net.specs.Growth.{AreOver, Grown}

@@ -1,8 +1,8 @@
 -- What is known of terms as more names have nodes; and where nothing is known yet.
-use Rattle.std.proofs.Common.{◌≡◌, ◌≢◌, ℕ, zero, suc, ◌<◌, List, [], ◌∷◌, length, set, replicate, Option, Some, None, IsSome, ⊎_elim, refl, sym, ap, ap₂, ◌∙◌, subst, arith}
+use Rattle.std.proofs.Common.{◌≡◌, ◌≢◌, ℕ, zero, suc, ◌<◌, List, length, set, replicate, Option, Some, None, IsSome, ⊎_elim, refl, sym, ap, ap₂, ◌∙◌, subst}
 use Rattle.std.proofs.lemmas.List.{get_or-set_same, get_or-set_other, length-replicate}
 use Rattle.std.proofs.lemmas.Bool.{cases_eq}
-use Rattle.bv_core.specs.Operators.{Fits1, Fits2, FitsMux, width1_of, width2_of}
+use Rattle.bv_core.specs.Operators.{Fits1, Fits2, width1_of, width2_of}
 use Rattle.bv_core.specs.declared.reference.NodeId.{NodeId}
 use Rattle.tree_core.specs.Tree.{Tree, Const, Leaf, One, Two, Mux, Whole}
 use Rattle.tree_core.specs.Width.{WellFormed, width_of, tree_width}
@@ -15,8 +15,7 @@ use Rattle.exec_core.proofs.Wholes.{each_leaf}
 use Rattle.net_core.specs.Nodes.{Shape}
 use Rattle.net_core.specs.Builder.{AreShared, Stands}
 use Rattle.block_net.specs.declared.term.Term.{Term}
-use Rattle.block_net.specs.Terms.{tree_at, trees_of}
-use Rattle.term_net.specs.Leaves.{leaf_id, leaf_tree, tree_for, node_in, node_at, whole_of, term_whole, IsReady}
+use Rattle.term_net.specs.Leaves.{leaf_id, leaf_tree, tree_for, node_in, node_at, whole_of, IsReady}
 use Rattle.term_net.specs.Growth.{AreNodes, Stay}
 use Rattle.term_net.specs.Memos.{Fits}
 use Rattle.term_net.proofs.Wholes.{whole_constant, whole_leaf, whole_one, whole_two, whole_mux, some_of}

@@ -1,13 +1,13 @@
 -- The folded whole trees of trees over names that have nodes.
-use Rattle.std.proofs.Common.{◌≡◌, ℕ, ◌<◌, ◌≤◌, List, length, Option, Some, None, IsSome, refl, sym, ap, ap₂, ◌∙◌, subst, arith}
-use Rattle.bv_core.specs.Value.{Bits, IsBits}
+use Rattle.std.proofs.Common.{◌≡◌, ℕ, ◌<◌, List, length, Option, Some, None, IsSome, refl, sym, ap, ap₂, ◌∙◌, subst, arith}
+use Rattle.bv_core.specs.Value.{Bits}
 use Rattle.bv_core.specs.Operators.{Fits1, Fits2, FitsMux}
 use Rattle.bv_core.specs.declared.operators.Op1.{Op1}
 use Rattle.bv_core.specs.declared.operators.Op2.{Op2}
 use Rattle.bv_core.specs.declared.reference.NodeId.{NodeId}
 use Rattle.tree_core.specs.Tree.{Tree, Const, Leaf, One, Two, Mux, Whole}
-use Rattle.tree_core.specs.Width.{WellFormed, width_of, tree_width, IsWhole, IsOrigin, origin_width}
-use Rattle.tree_core.specs.Fold.{folded, fold1, fold2, fold3, same_origin}
+use Rattle.tree_core.specs.Width.{width_of, tree_width, IsWhole, IsOrigin, origin_width}
+use Rattle.tree_core.specs.Fold.{folded}
 use Rattle.tree_core.specs.Sample.{at_start}
 use Rattle.tree_core.proofs.Samples.{some_given}
 use Rattle.tree_core.proofs.Folding.{folding_kept}
@@ -16,9 +16,9 @@ use Rattle.exec_core.specs.Block.{Name}
 use Rattle.exec_core.specs.Leaves.{replace}
 use Rattle.exec_core.proofs.Moving.{Fits, replace_fits}
 use Rattle.net_core.specs.Nodes.{Shape, tree_of, width_at}
-use Rattle.net_core.specs.Builder.{AreShared, Keeps, Stands}
+use Rattle.net_core.specs.Builder.{AreShared, Stands}
 use Rattle.net_core.proofs.TreeLists.{trees_length}
-use Rattle.term_net.specs.Leaves.{leaf_id, leaf_tree, tree_for, node_in, node_at, whole_of, IsReady}
+use Rattle.term_net.specs.Leaves.{leaf_id, leaf_tree, tree_for, node_in, whole_of, IsReady}
 use Rattle.term_net.specs.Growth.{AreNodes}
 
 -- ---- a builder's nodes

@@ -1,7 +1,6 @@
 -- Terms that wait for nodes of their operands.
 use Rattle.std.specs.Prelude.{◌≡◌, ◌⊎◌, pos, ℕ, ◌+◌, ◌*◌, ◌<◌, List, [], ◌∷◌, ◌++◌, length, Option, Some, None, IsSome, slice_index_or, slice_set}
 use Rattle.bv_core.specs.declared.reference.NodeId.{NodeId}
-use Rattle.tree_core.specs.Tree.{Whole}
 use Rattle.exec_core.specs.Block.{Name}
 use Rattle.net_core.specs.Nodes.{Shape}
 use Rattle.block_net.specs.declared.term.Term.{Term}

@@ -1,4 +1,4 @@
-use Rattle.std.proofs.Common.{◌≡◌, ◌<◌, length, refl, rules, w64}
+use Rattle.std.proofs.Common.{refl, rules, w64}
 use Rattle.std.proofs.lemmas.Int.{to_z-of_z}
 use Rattle.bv_core.specs.declared.operators.Op1.TheVariants as op1
 use Rattle.term_net.proofs.Arms.{read_of, known_within, leaf_is, value_is, unary_is, binary_is, mux_is, zext_is, slice_is, leaf_some, leaf_stands, value_bits, value_stands, one_fits, one_stands, zext_small, slice_small, two_fits, two_stands, mux_fits, mux_stands}

@@ -1,5 +1,4 @@
-use Rattle.std.proofs.Common.{◌≡◌, ℕ, ◌<◌, length, refl, sym, subst, inl, inr, get_or}
-use Rattle.block_net.specs.declared.term.Term.{Term}
+use Rattle.std.proofs.Common.{refl, sym, subst, inl, inr}
 use Rattle.term_net.specs.Pending.{IsOperand}
 use Rattle.term_net.proofs.Arms.{only_operand, operand_within}
 use Rattle.term_net.proofs.pending.missing.Goals as goal
