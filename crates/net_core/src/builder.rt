@@ -49,7 +49,8 @@ fn constant_of(node: &Node) -> Option<Bv>
 impl NetBuilder {
     /// No nodes.
     pub fn new(alloc: Global) -> Result<NetBuilder, NoMemory>
-        ensures { IfOk result (λ builder. builder ≡ []) }
+        ensures nodes { IfOk result (λ builder. builder ≡ []) }
+        ensures shared { IfOk result AreShared }
     {
         Ok(NetBuilder {
             nodes: IndexSet::new(alloc),
@@ -91,6 +92,7 @@ impl NetBuilder {
         ensures adds { OnOk result (Adds self.old self.new (node_tree (trees_of self.old) (shape_of node))) }
         ensures keeps { OnOk result (Keeps self.old self.new) }
         ensures one_id { OnOk result (HaveOneIdEach (trees_of self.new)) }
+        ensures shared { OnOk result (AreShared self.new) }
         ensures err { OnErr result (self.new ≡ self.old) }
     {
         let (place, _) = self.nodes.insert_full(Entry { node, width })?;
@@ -119,6 +121,7 @@ impl NetBuilder {
         ensures adds { OnOk result (Adds self.old self.new (folded (node_tree (trees_of self.old) (shape_of itself.node)))) }
         ensures keeps { OnOk result (Keeps self.old self.new) }
         ensures one_id { OnOk result (HaveOneIdEach (trees_of self.new)) }
+        ensures shared { OnOk result (AreShared self.new) }
         ensures err { OnErr result (self.new ≡ self.old) }
     {
         match outcome {
@@ -136,6 +139,7 @@ impl NetBuilder {
         ensures adds { OnOk result (Adds self.old self.new (Const v)) }
         ensures keeps { OnOk result (Keeps self.old self.new) }
         ensures one_id { OnOk result (HaveOneIdEach (trees_of self.new)) }
+        ensures shared { OnOk result (AreShared self.new) }
         ensures err { OnErr result (self.new ≡ self.old) }
     {
         self.put(Node::Const(v), v.width())
@@ -149,6 +153,7 @@ impl NetBuilder {
         ensures adds { OnOk result (Adds self.old self.new (Leaf (Input name.now width))) }
         ensures keeps { OnOk result (Keeps self.old self.new) }
         ensures one_id { OnOk result (HaveOneIdEach (trees_of self.new)) }
+        ensures shared { OnOk result (AreShared self.new) }
         ensures err { OnErr result (self.new ≡ self.old) }
     {
         let name = String::from_str(*self.nodes.allocator(), name)?;
@@ -161,6 +166,7 @@ impl NetBuilder {
         ensures adds { OnOk result (Adds self.old self.new (Leaf (Register instance.now name.now start))) }
         ensures keeps { OnOk result (Keeps self.old self.new) }
         ensures one_id { OnOk result (HaveOneIdEach (trees_of self.new)) }
+        ensures shared { OnOk result (AreShared self.new) }
         ensures err { OnErr result (self.new ≡ self.old) }
     {
         let alloc = *self.nodes.allocator();
@@ -185,6 +191,7 @@ impl NetBuilder {
         ensures adds { OnOk result (Adds self.old self.new (folded (One op (tree_of self.old a.0)))) }
         ensures keeps { OnOk result (Keeps self.old self.new) }
         ensures one_id { OnOk result (HaveOneIdEach (trees_of self.new)) }
+        ensures shared { OnOk result (AreShared self.new) }
         ensures err { OnErr result (self.new ≡ self.old) }
     {
         let constant = self.constant_at(a);
@@ -206,6 +213,7 @@ impl NetBuilder {
         ensures adds { OnOk result (Adds self.old self.new (folded (Two op (tree_of self.old a.0) (tree_of self.old b.0)))) }
         ensures keeps { OnOk result (Keeps self.old self.new) }
         ensures one_id { OnOk result (HaveOneIdEach (trees_of self.new)) }
+        ensures shared { OnOk result (AreShared self.new) }
         ensures err { OnErr result (self.new ≡ self.old) }
     {
         let left = self.constant_at(a);
@@ -228,6 +236,7 @@ impl NetBuilder {
         ensures adds { OnOk result (Adds self.old self.new (folded (Mux (tree_of self.old c.0) (tree_of self.old a.0) (tree_of self.old b.0)))) }
         ensures keeps { OnOk result (Keeps self.old self.new) }
         ensures one_id { OnOk result (HaveOneIdEach (trees_of self.new)) }
+        ensures shared { OnOk result (AreShared self.new) }
         ensures err { OnErr result (self.new ≡ self.old) }
     {
         let condition = self.constant_at(c);
