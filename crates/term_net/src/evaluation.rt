@@ -7,7 +7,7 @@ ghost use Rattle.term_net.specs.Growth.{Grown, Stay};
 ghost use Rattle.term_net.specs.Memos.{Fits};
 ghost use Rattle.term_net.specs.Pending.{AreKnown, Fall, FallTo, IsMissing, IsPending, term_at, unknown_count, work, GetsNode};
 
-use crate::PlaceMap;
+use dep_order::NumberMap;
 use crate::node::node_of;
 use crate::pending::{missing, next};
 use block_net::{BlockTerms, Term, TermId};
@@ -20,7 +20,7 @@ use text_core::NoMemory;
 fn settle(
     builder: &mut NetBuilder,
     terms: &[Term],
-    places: &PlaceMap,
+    places: &NumberMap,
     nodes: &[Option<NodeId>],
     memo: &mut [Option<NodeId>],
     top: TermId,
@@ -52,7 +52,7 @@ fn put_off(stack: &mut Vec<TermId>, top: TermId, operand: TermId) -> Result<(), 
 fn advance(
     builder: &mut NetBuilder,
     terms: &[Term],
-    places: &PlaceMap,
+    places: &NumberMap,
     nodes: &[Option<NodeId>],
     memo: &mut [Option<NodeId>],
     stack: &mut Vec<TermId>,
@@ -79,7 +79,7 @@ fn evaluate_term(
     alloc: Global,
     builder: &mut NetBuilder,
     terms: &[Term],
-    places: &PlaceMap,
+    places: &NumberMap,
     nodes: &[Option<NodeId>],
     memo: &mut [Option<NodeId>],
     root: TermId,
@@ -110,7 +110,7 @@ pub fn evaluate(
     alloc: Global,
     builder: &mut NetBuilder,
     block: &BlockTerms,
-    places: &PlaceMap,
+    places: &NumberMap,
     nodes: &[Option<NodeId>],
     memo: &mut [Option<NodeId>],
     root: TermId,

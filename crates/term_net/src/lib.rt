@@ -5,7 +5,5 @@ mod evaluation;
 mod node;
 mod operators;
 mod pending;
-mod places;
 
 pub use evaluation::evaluate;
-pub use places::PlaceMap;

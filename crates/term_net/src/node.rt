@@ -11,7 +11,7 @@ ghost use Rattle.term_net.specs.Growth.{Grown};
 ghost use Rattle.term_net.specs.Memos.{Fits};
 ghost use Rattle.term_net.specs.Pending.{AreKnown, term_at};
 
-use crate::PlaceMap;
+use dep_order::NumberMap;
 use crate::operators::{binary, bits, constant, unary};
 use block_net::{Term, TermId};
 use bv_core::{Bv, NodeId, Op1, Op2};
@@ -19,7 +19,7 @@ use net_core::NetBuilder;
 use text_core::NoMemory;
 
 /// The node of a name, if it has one.
-fn leaf(places: &PlaceMap, nodes: &[Option<NodeId>], name: &[u8]) -> Option<NodeId>
+fn leaf(places: &NumberMap, nodes: &[Option<NodeId>], name: &[u8]) -> Option<NodeId>
     ensures { result ≡ leaf_id (value_of places.now) nodes.now name.now }
 {
     let place = places.get(name)?;
@@ -75,7 +75,7 @@ fn choice(builder: &mut NetBuilder, c: NodeId, a: NodeId, b: NodeId) -> Result<N
 pub(crate) fn node_of(
     builder: &mut NetBuilder,
     terms: &[Term],
-    places: &PlaceMap,
+    places: &NumberMap,
     nodes: &[Option<NodeId>],
     memo: &[Option<NodeId>],
     id: TermId,
