@@ -105,7 +105,8 @@ fn evaluate_term(
 }
 
 /// The node of a term of a block, over names of an instance that have nodes: it stands for the folded whole tree of the term.
-/// The terms on the way to it get nodes too, each once. Takes time and memory for those that have none yet.
+/// The terms on the way to it get nodes too, each once. Takes time and memory for those that have none yet. Where memory is
+/// refused, nothing is said of the builder and the memo.
 pub fn evaluate(
     alloc: Global,
     builder: &mut NetBuilder,
