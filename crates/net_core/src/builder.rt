@@ -15,7 +15,7 @@ use bv_core::{Bv, NodeId, Op1, Op2};
 use indexmap::IndexSet;
 use std::alloc::Global;
 use std::marker::Model;
-use text_core::NoMemory;
+use text_core::{NoMemory, Text};
 
 /// Nodes that are made one after another, none of them twice. Contracts see the list of its nodes, in which the id of
 /// each is its place.
@@ -146,7 +146,7 @@ impl NetBuilder {
     }
 
     /// The id of the top's input of this name and width.
-    pub fn input(&mut self, name: &str, width: u8) -> Result<NodeId, NoMemory>
+    pub fn input(&mut self, name: &[u8], width: u8) -> Result<NodeId, NoMemory>
         requires some { 1 ≤ width }
         requires most { width ≤ 128 }
         ensures stands { IfOk result (λ id. Stands self.new id.0 (Leaf (Input name.now width))) }
@@ -156,12 +156,12 @@ impl NetBuilder {
         ensures shared { OnOk result (AreShared self.new) }
         ensures err { OnErr result (self.new ≡ self.old) }
     {
-        let name = String::from_str(*self.nodes.allocator(), name)?;
+        let name = Text::new(*self.nodes.allocator(), name)?;
         self.put(Node::Input(name, width), width)
     }
 
     /// The id of the register of this name, in the instance with this path, that starts with this value.
-    pub fn register(&mut self, instance: &str, name: &str, start: Bv) -> Result<NodeId, NoMemory>
+    pub fn register(&mut self, instance: &[u8], name: &[u8], start: Bv) -> Result<NodeId, NoMemory>
         ensures stands { IfOk result (λ id. Stands self.new id.0 (Leaf (Register instance.now name.now start))) }
         ensures adds { OnOk result (Adds self.old self.new (Leaf (Register instance.now name.now start))) }
         ensures keeps { OnOk result (Keeps self.old self.new) }
@@ -170,8 +170,8 @@ impl NetBuilder {
         ensures err { OnErr result (self.new ≡ self.old) }
     {
         let alloc = *self.nodes.allocator();
-        let instance = String::from_str(alloc, instance)?;
-        let name = String::from_str(alloc, name)?;
+        let instance = Text::new(alloc, instance)?;
+        let name = Text::new(alloc, name)?;
         let width = start.width();
         self.put(
             Node::Reg {
@@ -252,7 +252,7 @@ impl NetBuilder {
     }
 
     /// The net of the nodes so far, with these outputs, and with these next values of its registers. Takes no memory.
-    pub fn finish(self, outputs: Vec<(String, NodeId)>, nexts: Vec<(NodeId, NodeId)>) -> Net
+    pub fn finish(self, outputs: Vec<(Text, NodeId)>, nexts: Vec<(NodeId, NodeId)>) -> Net
         requires outputs { OutputsFit self (outputs_of outputs.items) }
         requires nexts { NextsFit self (nexts_of nexts.items) }
         ensures parts { result ≡ record { nodes = self; outputs = outputs_of outputs.items; nexts = nexts_of nexts.items } }
