@@ -1,0 +1,5 @@
+//! The rows of a lowered design: the enables of its statements and the names in scope at them, instance by instance, as nodes.
+#![tactic(auto)]
+
+/// Nothing yet.
+pub fn nothing() {}
