@@ -1,3 +1,7 @@
 pub mod Listing
 pub mod SitesOf
 pub mod Transposed
+pub mod Sorted
+pub mod Aligned
+pub mod Scopes
+pub mod Checked
