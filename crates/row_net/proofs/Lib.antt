@@ -5,3 +5,4 @@ pub mod Sorted
 pub mod Aligned
 pub mod Scopes
 pub mod Checked
+pub mod Growing

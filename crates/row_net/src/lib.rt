@@ -1,5 +1,7 @@
 //! The rows of a lowered design: the enables of its statements and the names in scope at them, instance by instance, as nodes.
 #![tactic(auto)]
 
+mod cells;
+
 /// Nothing yet.
 pub fn nothing() {}
