@@ -62,7 +62,7 @@ module _ (d : Design) (n : ℕ) (order : List Place) (ok : Accepted (processes_o
     enable_ready : (names : List Name) (row : Row) (o : Option (Tree Name)) → row.enable ≡ o → HasTree (signals_of (processes_of d) here) (width_in (processes_of d) here) 1 o
         → EachOf (λ x. CanHaveNode ids leaves (row.before (Now x))) names → RowReady ids leaves names (name_row row)
     enable_ready names row None e h cells = absurd h
-    enable_ready names row (Some t) e h cells = record { tree = t; enable = e; ready = tree_ready t h.0; cells = cells }
+    enable_ready names row (Some t) e h cells = record { enable = record { tree = t; is = e; ready = tree_ready t h.0 }; cells = cells }
 
     cell_ready : (w : ℕ) (o : Option (Tree Name)) → TreeFits (signals_of (processes_of d) here) (width_in (processes_of d) here) w o → CanHaveNode ids leaves o
     cell_ready w None h = tt
@@ -121,8 +121,8 @@ module _ (d : Design) (n : ℕ) (order : List Place) (ok : Accepted (processes_o
 
     enable_told : (row : Row) (on : NodeId) (names : List Name) → RowReady numbers leaves names (name_row row) → EnableHas ns trees row.enable on → EnableTold d n ns i row on
     enable_told row on names ready h =
-        let same : ready.tree ≡ h.tree = (let a = ready.enable in let b = h.is in let c : Some ready.tree ≡ Some h.tree = sym a ∙ b in cc) in
-        record { tree = h.tree; is = h.is; stands = tree_told h.tree on (subst (IsReady numbers leaves) same ready.ready) h.stands }
+        let same : (ready.enable).tree ≡ h.tree = (let a = (ready.enable).is in let b = h.is in let c : Some (ready.enable).tree ≡ Some h.tree = sym a ∙ b in cc) in
+        record { tree = h.tree; is = h.is; stands = tree_told h.tree on (subst (IsReady numbers leaves) same (ready.enable).ready) h.stands }
 
     row_told : (names : List Name) (site : Site) (row : Row) (full : FullRow) → IsRowOf names site row → RowReady numbers leaves names (name_row row) → RowHas ns trees i names (name_row row) full → RowTold d n ns site i full
     row_told names site row full of ready h = record {

@@ -6,3 +6,4 @@ pub mod Aligned
 pub mod Scopes
 pub mod Checked
 pub mod Growing
+pub mod Replaying
