@@ -1,9 +1,10 @@
 pub mod Listing
 pub mod SitesOf
 pub mod Transposed
-pub mod Sorted
+pub mod Telling
 pub mod Aligned
 pub mod Scopes
 pub mod Checked
 pub mod Growing
 pub mod Replaying
+pub mod Buckets

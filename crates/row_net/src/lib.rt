@@ -4,6 +4,7 @@
 mod block;
 mod cells;
 mod replay;
+mod sorted;
 
 /// Nothing yet.
 pub fn nothing() {}
