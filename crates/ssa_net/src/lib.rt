@@ -2,5 +2,8 @@
 #![tactic(auto)]
 
 mod lowering;
+mod parts;
+mod process;
+mod source;
 
 pub use lowering::lower;

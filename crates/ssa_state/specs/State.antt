@@ -52,7 +52,7 @@ AllOverGivens d ns = (j : ℕ) → j < length ns → OverGivens d (tree_of ns j)
 -- what lowering has come to
 pub record IsState (d : exec.Design) (n : ℕ) (keys : List ProcessKey) (blocks : List (List BlockParts)) (all : List Numbers) (ns : List Shape) (nodes : List (Option NodeId)) (memos : List (List (Option NodeId))) : Type 0 where
   pub shared : AreShared ns
-  pub nodes : AreNodes ns nodes
+  pub placed : AreNodes ns nodes
   pub signals : SignalsTold d n all ns nodes
   pub terms : MemosFit keys blocks all ns nodes memos
   pub over : AllOverGivens d ns

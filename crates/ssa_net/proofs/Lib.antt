@@ -1,0 +1,5 @@
+pub mod Over
+pub mod Sources
+pub mod Memos
+pub mod Looking
+pub mod Ends
