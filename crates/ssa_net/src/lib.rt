@@ -2,8 +2,5 @@
 #![tactic(auto)]
 
 mod lowering;
-mod parts;
-mod process;
-mod source;
 
 pub use lowering::lower;

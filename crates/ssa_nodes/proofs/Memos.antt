@@ -18,7 +18,7 @@ use Rattle.ssa_core.specs.declared.process.ProcessKey.{ProcessKey}
 use Rattle.ssa_core.specs.Processes.{terms_at}
 use Rattle.ssa_core.proofs.Places.{get_set_same, get_set_other, same_or_not}
 use Rattle.ssa_state.specs.State.{names_in, MemoFits, MemosFit, IsState}
-use Rattle.ssa_net.proofs.Over.{over_more}
+use Rattle.ssa_nodes.proofs.Over.{over_more}
 
 module _ (d : exec.Design) (n : ℕ) (keys : List ProcessKey) (blocks : List (List BlockParts)) (all : List Numbers) where
   memo_more : (old new : List Shape) (nodes : List (Option NodeId)) (memos : List (List (Option NodeId))) (k i : ℕ) (parts : BlockParts) → Grown old new → MemoFits old all nodes memos k i parts → MemoFits new all nodes memos k i parts

@@ -10,7 +10,7 @@ ghost use Rattle.term_net.specs.Leaves.{leaf_id, leaf_tree};
 ghost use Rattle.term_net.specs.Memos.{Fits};
 ghost use Rattle.ssa_state.specs.Held.{CanHaveNode, NodeTold};
 ghost use Rattle.ssa_core.specs.Processes.{lists_of, process_at, terms_at};
-ghost use Rattle.ssa_net.specs.Parts.{CanHave, EndStands, HasNodeBy, HasParts, HasState, IsEnd, IsProcess, blocks_in};
+ghost use Rattle.ssa_nodes.specs.Parts.{CanHave, EndStands, HasNodeBy, HasParts, HasState, IsEnd, IsProcess, blocks_in};
 
 use crate::parts::{Parts, names_of};
 use block_net::{BlockTerms, TermId};
@@ -23,7 +23,7 @@ use std::alloc::Global;
 use text_core::NoMemory;
 
 /// The terms of the block of a process.
-pub(crate) fn block_of<'p>(parts: &'p Parts<'_>, key: ProcessKey) -> &'p BlockTerms
+pub fn block_of<'p>(parts: &'p Parts<'_>, key: ProcessKey) -> &'p BlockTerms
     requires parts { HasParts parts.now }
     requires process { IsProcess parts.now key }
     ensures { terms_at (blocks_in parts.now) key.variant key.block ≡ Some result.now }
@@ -54,7 +54,7 @@ fn held_in(
 }
 
 /// The node of what a name has somewhere in the block of a process, if it has a tree there.
-pub(crate) fn process_node(
+pub fn process_node(
     alloc: Global,
     parts: &Parts<'_>,
     builder: &mut NetBuilder,
@@ -83,7 +83,7 @@ pub(crate) fn process_node(
 }
 
 /// The node of what a signal has that a process assigns, at the end of its block.
-pub(crate) fn target_node(
+pub fn target_node(
     alloc: Global,
     parts: &Parts<'_>,
     builder: &mut NetBuilder,
@@ -107,7 +107,7 @@ pub(crate) fn target_node(
 }
 
 /// The node of what a register holds next that a process writes.
-pub(crate) fn next_node(
+pub fn next_node(
     alloc: Global,
     parts: &Parts<'_>,
     builder: &mut NetBuilder,

@@ -22,10 +22,10 @@ use Rattle.ssa_core.specs.declared.process.ProcessKey.{ProcessKey}
 use Rattle.ssa_core.specs.Processes.{process_at, terms_at}
 use Rattle.ssa_state.specs.State.{names_in}
 use Rattle.ssa_state.specs.Held.{CanHaveNode, NodeTold}
-use Rattle.ssa_net.specs.declared.parts.Parts as code
-use Rattle.ssa_net.specs.Parts.{HasParts, HasSignals, HasState, HasNodeBy, CanHave, IsReadyBy, IsEnd, EndStands, StandsBy, all_in, blocks_in, design_in}
-use Rattle.ssa_net.proofs.Sources.{ready_here, stands_here, signals_more}
-use Rattle.ssa_net.proofs.Looking.{process_terms}
+use Rattle.ssa_nodes.specs.declared.parts.Parts as code
+use Rattle.ssa_nodes.specs.Parts.{HasParts, HasSignals, HasState, HasNodeBy, CanHave, IsReadyBy, IsEnd, EndStands, StandsBy, all_in, blocks_in, design_in}
+use Rattle.ssa_nodes.proofs.Sources.{ready_here, stands_here, signals_more}
+use Rattle.ssa_nodes.proofs.Looking.{process_terms}
 
 abbrev process_body : design.Block → blocks.Body
 process_body b = body_of b.clocked b.body

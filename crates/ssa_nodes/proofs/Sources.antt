@@ -22,8 +22,8 @@ use Rattle.term_net.specs.Leaves.{IsReady, leaf_id, leaf_tree, whole_of, node_in
 use Rattle.term_net.proofs.Fitting.{stands_more, nodes_more, leaves_same}
 use Rattle.ssa_state.specs.State.{names_in, node_of, HasNode, SignalsTold, IsReadyIn}
 use Rattle.ssa_state.proofs.Placed.{folds_to, ready_from}
-use Rattle.ssa_net.specs.declared.parts.Parts as code
-use Rattle.ssa_net.specs.Parts.{HasParts, HasSignals, IsReadyBy, StandsBy, all_in, design_in, folded_of}
+use Rattle.ssa_nodes.specs.declared.parts.Parts as code
+use Rattle.ssa_nodes.specs.Parts.{HasParts, HasSignals, IsReadyBy, StandsBy, all_in, design_in, folded_of}
 
 -- as many places as pairs
 same_length : {A B C : Type 0} (f : A → C) (g : B → C) (xs : List A) (ys : List B) → map f xs ≡ map g ys → length xs ≡ length ys

@@ -4,9 +4,9 @@ use Rattle.exec_core.specs.Design.{moved}
 use Rattle.block_net.specs.Source.{expr_in}
 use Rattle.term_net.specs.Leaves.{IsReady, leaf_id, leaf_tree}
 use Rattle.ssa_core.specs.Links.{value_tree}
-use Rattle.ssa_net.specs.Parts.{IsReadyBy, StandsBy}
-use Rattle.ssa_net.proofs.Sources.{ready_here, stands_here, leaf_some, leaf_stands}
-use Rattle.ssa_net.proofs.source.link_node.Goals as goal
+use Rattle.ssa_nodes.specs.Parts.{IsReadyBy, StandsBy}
+use Rattle.ssa_nodes.proofs.Sources.{ready_here, stands_here, leaf_some, leaf_stands}
+use Rattle.ssa_nodes.proofs.source.link_node.Goals as goal
 
 pub expr_node-requires-clause-ready : goal.expr_node-requires-clause-ready
 expr_node-requires-clause-ready c =

@@ -8,11 +8,11 @@ use Rattle.term_net.specs.Memos.{Fits}
 use Rattle.design_exec.specs.Processes.{processes_of}
 use Rattle.ssa_core.specs.Processes.{lists_of}
 use Rattle.ssa_state.specs.State.{names_in, IsState}
-use Rattle.ssa_net.specs.Parts.{all_in, blocks_in, design_in}
-use Rattle.ssa_net.proofs.Ends.{signals_of, can_have, has_node}
-use Rattle.ssa_net.proofs.Looking.{items_at, within_lists, map_set}
-use Rattle.ssa_net.proofs.Memos.{state_more, memo_set}
-use Rattle.ssa_net.proofs.process.process_node.Goals as goal
+use Rattle.ssa_nodes.specs.Parts.{all_in, blocks_in, design_in}
+use Rattle.ssa_nodes.proofs.Ends.{signals_of, can_have, has_node}
+use Rattle.ssa_nodes.proofs.Looking.{items_at, within_lists, map_set}
+use Rattle.ssa_nodes.proofs.Memos.{state_more, memo_set}
+use Rattle.ssa_nodes.proofs.process.process_node.Goals as goal
 
 pub bounds-memos-number : goal.bounds-memos-number
 bounds-memos-number c =

@@ -3,9 +3,9 @@ use Rattle.std.specs.Prelude.{Vec, slice_get, slice_index_or}
 use Rattle.std.specs.declared.alloc.Global.{Global}
 use Rattle.std.proofs.lemmas.Option.{slice_get_within, get_or_from_slice_get}
 use Rattle.block_net.specs.Blocks.{BlockParts}
-use Rattle.ssa_net.specs.Parts.{blocks_in, design_in}
-use Rattle.ssa_net.proofs.Looking.{process_terms, in_row}
-use Rattle.ssa_net.proofs.process.block_of.Goals as goal
+use Rattle.ssa_nodes.specs.Parts.{blocks_in, design_in}
+use Rattle.ssa_nodes.proofs.Looking.{process_terms, in_row}
+use Rattle.ssa_nodes.proofs.process.block_of.Goals as goal
 
 pub index-requires : goal.index-requires
 index-requires c =

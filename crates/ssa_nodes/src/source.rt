@@ -5,7 +5,7 @@ ghost use Rattle.block_net.specs.Source.{expr_in};
 ghost use Rattle.term_net.specs.Growth.{AreNodes, Grown};
 ghost use Rattle.term_net.specs.Leaves.{IsReady, leaf_id, leaf_tree, whole_of};
 ghost use Rattle.ssa_core.specs.Links.{link_as};
-ghost use Rattle.ssa_net.specs.Parts.{HasParts, HasSignals, IsReadyBy, StandsBy};
+ghost use Rattle.ssa_nodes.specs.Parts.{HasParts, HasSignals, IsReadyBy, StandsBy};
 
 use crate::parts::{Parts, names_of};
 use block_net::expr_terms;
@@ -20,7 +20,7 @@ use term_net::evaluate;
 use text_core::NoMemory;
 
 /// No nodes, at so many places.
-fn no_nodes(alloc: Global, count: usize) -> Result<Vec<Option<NodeId>>, AllocError>
+pub fn no_nodes(alloc: Global, count: usize) -> Result<Vec<Option<NodeId>>, AllocError>
     ensures count { IfOk result (λ nodes. length nodes.items ≡ count) }
     ensures none { IfOk result (λ nodes. (k : ℕ) → slice_index_or nodes.items k None ≡ None) }
 {
@@ -48,7 +48,7 @@ fn expr_node(
 }
 
 /// The node of what stands at the source of a link, whose signals have nodes.
-pub(crate) fn link_node(
+pub fn link_node(
     alloc: Global,
     parts: &Parts<'_>,
     builder: &mut NetBuilder,

@@ -26,7 +26,7 @@ use Rattle.ssa_core.specs.Links.{link_as}
 use Rattle.ssa_core.specs.Processes.{process_at, HaveTerms, lists_of}
 use Rattle.ssa_core.specs.Drives.{AreApart, AreDrives}
 use Rattle.ssa_state.specs.State.{SignalsTold, MemosFit, AllOverGivens, IsState, IsReadyIn, HasNode}
-use Rattle.ssa_net.specs.declared.parts.Parts as code
+use Rattle.ssa_nodes.specs.declared.parts.Parts as code
 
 -- an accepted design with an order of its driven signals; its links and processes, the terms of its blocks, the numbers of its
 -- signals, and what drives each

@@ -2,8 +2,8 @@ use Rattle.std.proofs.Common.{◌≡◌, ℕ, None, length, get_or, sym, ap, ◌
 use Rattle.std.specs.Prelude.{Option}
 use Rattle.check_core.specs.Maps.{value_of}
 use Rattle.term_net.specs.Memos.{Fits}
-use Rattle.ssa_net.proofs.Looking.{fits_blank}
-use Rattle.ssa_net.proofs.source.expr_node.Goals as goal
+use Rattle.ssa_nodes.proofs.Looking.{fits_blank}
+use Rattle.ssa_nodes.proofs.source.expr_node.Goals as goal
 
 pub evaluate-requires-clause-fits : goal.evaluate-requires-clause-fits
 evaluate-requires-clause-fits c =

@@ -1,8 +1,8 @@
 use Rattle.std.proofs.Common.{◌≤◌, length, refl, sym, ap, ◌∙◌, subst}
 use Rattle.std.specs.Prelude.{slice_get}
 use Rattle.std.proofs.lemmas.Option.{slice_get_read}
-use Rattle.ssa_net.proofs.Looking.{names_some, names_none}
-use Rattle.ssa_net.proofs.parts.names_of.Goals as goal
+use Rattle.ssa_nodes.proofs.Looking.{names_some, names_none}
+use Rattle.ssa_nodes.proofs.parts.names_of.Goals as goal
 
 pub returns-in-Some : goal.returns-in-Some
 returns-in-Some c =
