@@ -3,3 +3,4 @@ pub mod Sources
 pub mod Memos
 pub mod Looking
 pub mod Ends
+pub mod Driven
