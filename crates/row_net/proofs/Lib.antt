@@ -8,3 +8,5 @@ pub mod Checked
 pub mod Growing
 pub mod Replaying
 pub mod Buckets
+pub mod Puts
+pub mod Here

@@ -3,8 +3,9 @@
 
 mod block;
 mod cells;
+mod process;
 mod replay;
+mod rows;
 mod sorted;
 
-/// Nothing yet.
-pub fn nothing() {}
+pub use rows::rows_of;
