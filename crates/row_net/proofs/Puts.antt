@@ -24,7 +24,7 @@ use Rattle.ssa_core.proofs.Listing.{more_of, flat_push, plain_more}
 use Rattle.ssa_core.proofs.Places.{get_mapped, get_map}
 use Rattle.term_net.specs.Growth.{Grown}
 use Rattle.row_net.specs.Spots.{at_instance, variant_sites, instance_spots, spots_by_instance, SlotsBelow, AreSorted, sorted_rows}
-use Rattle.row_net.specs.Blocks.{block_sites, HasKey, HaveKeys, SpotsPut, blocks_spots, first_number}
+use Rattle.row_net.specs.Blocks.{block_sites, HasKey, HaveKeys, IsBlockOf, SpotsPut, blocks_spots, first_number}
 use Rattle.row_net.proofs.Listing.{map_in, flat_in, at_number}
 use Rattle.row_net.proofs.SitesOf.{site_slot, sites_slots}
 use Rattle.row_net.proofs.Transposed.{all_sorted, sorted_spots}
@@ -125,3 +125,22 @@ module _ (d : Design) (kept : IsDesign d) where
   sorted_told n ns rows sorted told are =
       subst (AreTold d n ns (all_spots d)) (sym (are (slot_count d) (slots_below d n ns (slot_count d) (spots_by_instance d) rows told spots_below)))
       (subst (λ l. AreTold d n ns l (sorted_rows (slot_count d) rows)) (all_sorted d kept) (told_sorted d n ns (slot_count d) (spots_by_instance d) rows told))
+
+-- ---- a block by its number
+
+pub block_there : (d : Design) → IsDesign d → (i : ℕ) (r : Instance) → slice_get d.instances i ≡ Some r → (k : ℕ) (b : Block) → slice_get (blocks_in d r.variant) k ≡ Some b → IsBlockOf d i r.variant b
+block_there d kept i r at k b found =
+    let of = some_at d.variants r.variant (kept.variants i r at) in
+    record {
+      instance = r;
+      of = of.0;
+      stands = at;
+      variant = refl;
+      named = of.1;
+      among = in_at (of.0).blocks k b (sym (ap (λ o. slice_get (unwrap_or (option_map (λ (w : Variant). w.blocks) o) []) k) of.1) ∙ found);
+    }
+
+-- the number behind the last block fits where each before it does
+pub room : (first n m limit : ℕ) → first < limit → ((b : ℕ) → b < n → first + b < m) → m < limit → first + n < limit
+room first zero m limit fits h l = omega (arith, fits)
+room first (suc n) m limit fits h l = let k = h n (omega arith) in omega (arith, k, l)
