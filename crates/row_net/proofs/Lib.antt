@@ -10,3 +10,5 @@ pub mod Replaying
 pub mod Buckets
 pub mod Puts
 pub mod Here
+pub mod Status
+pub mod Exact

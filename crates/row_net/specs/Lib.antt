@@ -1,3 +1,4 @@
 pub mod Spots
 pub mod Told
 pub mod Blocks
+pub mod Unset

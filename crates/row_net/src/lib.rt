@@ -3,9 +3,11 @@
 
 mod block;
 mod cells;
+mod laws;
 mod process;
 mod replay;
 mod rows;
 mod sorted;
 
+pub use laws::unset_exactly;
 pub use rows::rows_of;
