@@ -1,11 +1,11 @@
 -- The rows of a block are those of its statements, in order.
-use Rattle.std.proofs.Common.{◌≡◌, ℕ, ◌==◌, Bool, true, false, List, [], ◌∷◌, ◌++◌, map, Option, Some, None, if◌then◌else◌, inl, inr, refl, sym, ap, ap₂, ◌∙◌, subst, eqb-true, eq-eqb, ne_eqb}
+use Rattle.std.proofs.Common.{◌≡◌, ℕ, Bool, true, List, [], ◌∷◌, ◌++◌, map, Some, if◌then◌else◌, inl, inr, refl, sym, ap, ap₂, ◌∙◌, subst, eq-eqb, ne_eqb}
 use Rattle.std.proofs.lemmas.List.{map-append}
 use Rattle.bv_core.specs.Operators.{flag_of}
 use Rattle.tree_core.specs.Tree.{Const, Leaf}
 use Rattle.exec_core.specs.Block.{Name, slots, body_slots}
 use Rattle.exec_core.specs.Exec.{start}
-use Rattle.exec_core.specs.Lists.{EachOf, IsIn, IsNotIn, AreApart}
+use Rattle.exec_core.specs.Lists.{IsIn, AreApart}
 use Rattle.exec_core.specs.Trees.{Row, block_rows, row_at}
 use Rattle.exec_core.proofs.Lists.{not_in}
 use Rattle.exec_core.proofs.Slots.{row_slots, body_rows_have}

@@ -1,5 +1,5 @@
 -- In an accepted design the rows of each block can have nodes, and these stand for the folded whole trees of the rows.
-use Rattle.std.proofs.Common.{◌≡◌, ℕ, ◌||◌, Bool, true, List, [], ◌∷◌, ◌++◌, map, Option, Some, None, IsSome, refl, sym, ap, ◌∙◌, subst}
+use Rattle.std.proofs.Common.{◌≡◌, ℕ, true, List, [], ◌∷◌, map, Option, Some, None, IsSome, refl, sym, ◌∙◌, subst}
 use Rattle.bv_core.specs.declared.reference.NodeId.{NodeId}
 use Rattle.tree_core.specs.Tree.{Tree, Const, Leaf, One, Two, Mux, Whole}
 use Rattle.tree_core.specs.Width.{WellFormed, tree_width}
@@ -7,10 +7,9 @@ use Rattle.exec_core.specs.Block.{Name, Now, body_slots}
 use Rattle.exec_core.specs.Leaves.{EachLeaf}
 use Rattle.exec_core.specs.Lists.{EachOf, IsIn, AreApart}
 use Rattle.exec_core.specs.Whole.{Place}
-use Rattle.exec_core.specs.Trees.{Row, block_rows, row_at}
-use Rattle.exec_core.specs.Paths.{HasTree, TreeFits, RowChecked}
-use Rattle.exec_core.specs.Design as exec
-use Rattle.exec_core.specs.Design.{Process, place, moved, signals_of, width_in, folded_tree}
+use Rattle.exec_core.specs.Trees.{Row, block_rows}
+use Rattle.exec_core.specs.Paths.{HasTree, TreeFits}
+use Rattle.exec_core.specs.Design.{Process, moved, signals_of, width_in, folded_tree}
 use Rattle.exec_core.specs.States.{NodeByNode}
 use Rattle.exec_core.specs.Accepted.{Accepted}
 use Rattle.exec_core.proofs.Lists.{each_from}
@@ -35,7 +34,7 @@ use Rattle.ssa_state.specs.State.{node_of, HasNode, SignalsTold}
 use Rattle.ssa_state.specs.Held.{CanHaveNode, NodeTold}
 use Rattle.ssa_state.proofs.Placed.{folds_to, ready_from}
 use Rattle.row_net.specs.Spots.{at_instance}
-use Rattle.row_net.specs.Told.{NameRow, name_row, names_in, RowReady, CellsHave, EnableHas, RowHas, RowsHave}
+use Rattle.row_net.specs.Told.{name_row, names_in, RowReady, CellsHave, EnableHas, RowHas, RowsHave}
 use Rattle.row_net.proofs.Aligned.{IsRowOf, Aligned, rows_there}
 use Rattle.row_net.proofs.Scopes.{scope_known, process_in}
 

@@ -1,26 +1,25 @@
 -- A name has no tree at a statement exactly where it is unset.
-use Rattle.std.proofs.Common.{◌≡◌, ℕ, ◌==◌, true, List, [], ◌∷◌, map, Option, Some, None, refl, sym, ap, ◌∙◌, subst, eqb-true, eq-eqb}
+use Rattle.std.proofs.Common.{◌≡◌, ℕ, ◌==◌, List, [], ◌∷◌, Some, refl, sym, ap, ◌∙◌, subst, eqb-true, eq-eqb}
 use Rattle.std.specs.Prelude.{slice_get, filter}
-use Rattle.std.specs.List.{enumerate_from, flat_map}
-use Rattle.exec_core.specs.Block.{Name, Now, body_slots}
+use Rattle.std.specs.List.{enumerate_from}
+use Rattle.exec_core.specs.Block.{body_slots}
 use Rattle.exec_core.specs.Lists.{EachOf, IsIn, AreApart}
 use Rattle.exec_core.specs.Design.{Process, signals_of, width_in}
 use Rattle.exec_core.specs.Paths.{Checked, IsUnset}
-use Rattle.exec_core.specs.Run.{processes_of as processes_at_instance, slots_in}
+use Rattle.exec_core.specs.Run.{processes_of as processes_at_instance}
 use Rattle.exec_core.specs.Trees.{Row, block_rows, row_at}
 use Rattle.exec_core.proofs.Checking.{trees_checked}
 use Rattle.exec_core.proofs.Lists.{each_member, filter_member, flat_map_apart}
 use Rattle.exec_core.proofs.Slots.{some_if}
 use Rattle.design_core.specs.declared.design.Instance.{Instance}
-use Rattle.design_core.specs.Design.{Block, Variant, Design}
+use Rattle.design_core.specs.Design.{Variant, Design}
 use Rattle.design_core.specs.Slots.{Head, heads, scope, from}
-use Rattle.design_exec.specs.Processes.{Numbered, instances_of, process, processes_of, body_of}
-use Rattle.check_exec.specs.Premises.{IsSound}
+use Rattle.design_exec.specs.Processes.{Numbered, instances_of, process, processes_of}
 use Rattle.check_exec.proofs.Checks.{blocks_are_checked}
 use Rattle.check_exec.proofs.Facts.{each_map, each_flat, from_zero}
 use Rattle.check_exec.proofs.Instances.{Stands}
 use Rattle.check_exec.proofs.Slots.{slots_are_apart}
-use Rattle.world_core.specs.Sites.{Site, sites_in_block, sites_in, sites_of, slot_count, has_slot, sites_at, sites_in_order, site_body, instances_with, is_unset}
+use Rattle.world_core.specs.Sites.{Site, sites_in_block, sites_in, sites_of, slot_count, has_slot, sites_at, sites_in_order, site_body, instances_with}
 use Rattle.lower_core.specs.Rows.{Spot, spots_of, all_spots}
 use Rattle.row_net.specs.Unset.{UnsetExactly}
 use Rattle.row_net.proofs.Listing.{map_from, flat_from, filter_from}
@@ -81,9 +80,10 @@ unset_exactly d sound spot i row at x =
     let among : IsIn b (processes_of d).processes = process_in d spot.1 p.instance home.of there site.block home.among in
     let checked = each_member (λ (c : Process). Checked (signals_of (processes_of d) c) (width_in (processes_of d) c) c.body) (processes_of d).processes (blocks_are_checked d sound) b among in
     let apart : AreApart (body_slots b.body) =
-        flat_map_apart (λ (c : Process). body_slots c.body) (processes_at_instance (processes_of d) spot.1) b (filter_member (λ (c : Process). c.instance == spot.1) (processes_of d).processes b among (eq-eqb spot.1 spot.1 refl))
-        (slots_are_apart d sound.kept spot.1) in
+    flat_map_apart (λ (c : Process). body_slots c.body) (processes_at_instance (processes_of d) spot.1) b (filter_member (λ (c : Process). c.instance == spot.1) (processes_of d).processes b among (eq-eqb spot.1 spot.1 refl))
+    (slots_are_apart d sound.kept spot.1) in
     let told = (trees_checked (signals_of (processes_of d) b) (width_in (processes_of d) b) b.body checked apart).each_row site.slot row at in
-    let slot : row.slot ≡ site.slot = row_slot site.slot (block_rows (site_body site)) row at in
-    ((λ none. unset_told (site_body site) site.slot x (subst (λ (k : ℕ). IsUnset (site_body site) k x) slot ((told.unset x).0 none))),
-    (λ is. (told.unset x).1 (subst (λ (k : ℕ). IsUnset (site_body site) k x) (sym slot) (unset_means (site_body site) site.slot x is))))
+    let slot : row.slot ≡ site.slot = row_slot site.slot (block_rows (site_body site)) row at in (
+      (λ none. unset_told (site_body site) site.slot x (subst (λ (k : ℕ). IsUnset (site_body site) k x) slot ((told.unset x).0 none))),
+      (λ is. (told.unset x).1 (subst (λ (k : ℕ). IsUnset (site_body site) k x) (sym slot) (unset_means (site_body site) site.slot x is))),
+    )

@@ -1,14 +1,14 @@
 -- Cells and rows that grow while the builder does.
-use Rattle.std.proofs.Common.{◌≡◌, ℕ, ◌+◌, ◌<◌, ◌≤◌, List, [], ◌∷◌, ◌++◌, length, map, take, get_or, Option, Some, None, refl, sym, ap, ◌∙◌, subst, append_assoc}
+use Rattle.std.proofs.Common.{◌≡◌, ℕ, ◌+◌, ◌<◌, List, [], ◌∷◌, ◌++◌, length, take, get_or, Option, Some, None, refl, sym, ap, ◌∙◌, subst, append_assoc}
 use Rattle.std.specs.Borrow.{Bor}
-use Rattle.std.proofs.lemmas.List.{append-nil, map_push}
+use Rattle.std.proofs.lemmas.List.{map_push}
 use Rattle.std.proofs.lemmas.Option.{slice_get_read}
 use Rattle.bv_core.specs.declared.reference.NodeId.{NodeId}
 use Rattle.tree_core.specs.Tree.{Tree, Whole}
 use Rattle.exec_core.specs.Block.{Name}
 use Rattle.exec_core.specs.Lists.{EachOf}
 use Rattle.net_core.specs.Nodes.{Shape}
-use Rattle.net_core.specs.Builder.{Keeps, Stands}
+use Rattle.net_core.specs.Builder.{Keeps}
 use Rattle.block_net.specs.declared.term.Term.{Term}
 use Rattle.check_exec.proofs.Facts.{each_at}
 use Rattle.dep_order.specs.Names.{names_at}
@@ -16,7 +16,6 @@ use Rattle.term_net.specs.Growth.{AreNodes, Grown}
 use Rattle.term_net.specs.Leaves.{leaf_id, leaf_tree}
 use Rattle.term_net.specs.Memos.{Fits}
 use Rattle.term_net.proofs.Fitting.{stands_more, leaves_same}
-use Rattle.term_net.proofs.Overs.{grown_twice}
 use Rattle.lower_core.specs.declared.row.FullRow.{FullRow}
 use Rattle.ssa_core.proofs.Listing.{more_of}
 use Rattle.ssa_core.proofs.Places.{get_map}
@@ -93,9 +92,6 @@ cell_put old new places nodes terms memo trees x cell cells after fits g told pu
     subst (CellsHave new (leaf_tree new places nodes) trees (before ++ x ∷ [])) (sym push)
     (cells_push new (leaf_tree new places nodes) trees before cells x cell (cells_kept old new places nodes g.keeps fits.leaves trees before cells h) told)
 
-pub cells_none : (ns : List Shape) (places : Name → Option ℕ) (nodes : List (Option NodeId)) (trees : Names) (cells : List (Option NodeId)) → CellsPut ns ns places nodes trees [] cells cells
-cells_none ns places nodes trees cells before h = subst (λ l. CellsHave ns (leaf_tree ns places nodes) trees l cells) (sym (append-nil before)) h
-
 pub cells_then : (a b c : List Shape) (places : Name → Option ℕ) (nodes : List (Option NodeId)) (trees : Names) (xs ys : List Name) (first next last : List (Option NodeId)) → CellsPut a b places nodes trees xs first next →
     CellsPut b c places nodes trees ys next last → CellsPut a c places nodes trees (xs ++ ys) first last
 cells_then a b c places nodes trees xs ys first next last p q before h =
@@ -115,11 +111,3 @@ pub row_put : (old new : List Shape) (places : Name → Option ℕ) (nodes : Lis
 row_put old new places nodes terms memo i names row full fulls after fits g has push before h =
     subst (RowsHave new (leaf_tree new places nodes) i names (before ++ row ∷ [])) (sym push)
     (rows_push new (leaf_tree new places nodes) i names before fulls row full (rows_kept old new places nodes g.keeps fits.leaves i names before fulls h) has)
-
-pub rows_none : (ns : List Shape) (places : Name → Option ℕ) (nodes : List (Option NodeId)) (i : ℕ) (names : List Name) (fulls : List FullRow) → RowsPut ns ns places nodes i names [] fulls fulls
-rows_none ns places nodes i names fulls before h = subst (λ l. RowsHave ns (leaf_tree ns places nodes) i names l fulls) (sym (append-nil before)) h
-
-pub rows_then : (a b c : List Shape) (places : Name → Option ℕ) (nodes : List (Option NodeId)) (i : ℕ) (names : List Name) (xs ys : List NameRow) (first next last : List FullRow) → RowsPut a b places nodes i names xs first next →
-    RowsPut b c places nodes i names ys next last → RowsPut a c places nodes i names (xs ++ ys) first last
-rows_then a b c places nodes i names xs ys first next last p q before h =
-    subst (λ l. RowsHave c (leaf_tree c places nodes) i names l last) (append_assoc before xs ys) (q (before ++ xs) (p before h))

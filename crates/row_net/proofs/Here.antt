@@ -1,14 +1,13 @@
 -- The rows of a process of an accepted design.
-use Rattle.std.proofs.Common.{◌≡◌, ℕ, List, [], ◌++◌, map, Option, Some, None, length, option_map, unwrap_or, refl, sym, ap, ◌∙◌, subst}
+use Rattle.std.proofs.Common.{◌≡◌, ℕ, List, [], ◌++◌, map, Option, Some, length, option_map, unwrap_or, sym, ap, ◌∙◌, subst}
 use Rattle.std.specs.Prelude.{slice_get}
 use Rattle.std.proofs.Math.ListN.{set}
 use Rattle.std.proofs.lemmas.Option.{same_Some}
 use Rattle.bv_core.specs.declared.reference.NodeId.{NodeId}
 use Rattle.exec_core.specs.Block.{Name}
 use Rattle.exec_core.specs.Lists.{EachOf}
-use Rattle.exec_core.specs.Design.{Process}
 use Rattle.exec_core.specs.Trees.{Row, block_rows}
-use Rattle.design_core.specs.Design.{Block, Variant, Design}
+use Rattle.design_core.specs.Design.{Block, Variant}
 use Rattle.design_core.specs.Slots.{scope, lets_of}
 use Rattle.design_exec.specs.Processes.{process, processes_of, body_of, signals_in}
 use Rattle.net_core.specs.Nodes.{Shape}
@@ -17,21 +16,21 @@ use Rattle.check_exec.proofs.Instances.{Stands}
 use Rattle.term_net.specs.Growth.{Grown}
 use Rattle.term_net.specs.Leaves.{leaf_id, leaf_tree}
 use Rattle.term_net.specs.Memos.{Fits}
-use Rattle.world_core.specs.Sites.{Site, sites_in_block}
+use Rattle.world_core.specs.Sites.{sites_in_block}
 use Rattle.lower_core.specs.declared.row.FullRow.{FullRow}
 use Rattle.lower_core.specs.Rows.{AreTold}
 use Rattle.ssa_core.specs.declared.process.ProcessKey.{ProcessKey}
 use Rattle.ssa_core.specs.Processes.{process_at, terms_at}
-use Rattle.ssa_state.specs.State.{names_in, IsState}
+use Rattle.ssa_state.specs.State.{names_in}
 use Rattle.ssa_nodes.specs.declared.parts.Parts as code
 use Rattle.ssa_nodes.specs.Driving.{AllHave}
-use Rattle.ssa_nodes.specs.Parts.{HasParts, HasSignals, HasState, all_in, blocks_in, design_in}
+use Rattle.ssa_nodes.specs.Parts.{HasParts, HasState, all_in, blocks_in, design_in}
 use Rattle.ssa_nodes.proofs.Ends.{signals_of, tells_of, instance_of}
 use Rattle.ssa_nodes.proofs.Memos.{state_more, memo_set}
 use Rattle.ssa_nodes.proofs.Sources.{accepted, by_node, signals_more}
 use Rattle.row_net.specs.Blocks.{block_sites, HasKey, IsBlockOf, signal_names}
 use Rattle.row_net.specs.Spots.{at_instance}
-use Rattle.row_net.specs.Told.{NameRow, RowReady, RowsHave, name_row}
+use Rattle.row_net.specs.Told.{RowReady, RowsHave, name_row}
 use Rattle.row_net.proofs.Aligned.{Aligned, block_aligned}
 use Rattle.row_net.proofs.Checked.{rows_ready, rows_told, slots_apart}
 

@@ -1,5 +1,5 @@
 -- Facts of lists: elements of mapped, joined, numbered and filtered ones; and numbers that are all there.
-use Rattle.std.proofs.Common.{◌≡◌, ℕ, zero, suc, ◌+◌, ◌<◌, ◌≤◌, ◌==◌, Bool, true, false, cond, List, [], ◌∷◌, ◌++◌, length, map, Option, Some, None, ◌⊎◌, inl, inr, ⊎_elim, refl, sym, ap, ap₂, ◌∙◌, subst, arith, eqb-true, eq-eqb, ne_eqb}
+use Rattle.std.proofs.Common.{◌≡◌, ℕ, zero, suc, ◌+◌, ◌<◌, ◌≤◌, Bool, true, false, cond, List, [], ◌∷◌, ◌++◌, length, map, Some, ◌⊎◌, inl, inr, ⊎_elim, refl, sym, ap, ap₂, ◌∙◌, subst, arith}
 use Rattle.std.specs.Prelude.{slice_get, filter}
 use Rattle.std.specs.List.{enumerate_from, flat_map}
 use Rattle.std.proofs.lemmas.Bool.{cases_eq}
@@ -50,10 +50,6 @@ numbered_in n (y ∷ ys) (suc i) x e = inr (subst (λ (k : ℕ). IsIn (k, x) (en
 pub at_number : {A : Type 0} (xs : List A) (i : ℕ) (x : A) → slice_get xs i ≡ Some x → IsIn (i, x) (enumerate_from 0 xs)
 at_number {A = A} xs i x e = subst (λ (k : ℕ). IsIn (k, x) (enumerate_from 0 xs)) (let z : 0 + i ≡ i = omega arith in z) (numbered_in 0 xs i x e)
 
-pub not_in_from : {A : Type 0} (x : A) (xs : List A) → (IsIn x xs → ⊥) → IsNotIn x xs
-not_in_from x [] f = tt
-not_in_from x (y ∷ ys) f = ((λ e. f (inl (sym e))), not_in_from x ys (λ i. f (inr i)))
-
 pub in_not_in : {A : Type 0} (x : A) (xs : List A) → IsNotIn x xs → IsIn x xs → ⊥
 in_not_in x [] n i = i
 in_not_in x (y ∷ ys) n (inl e) = n.0 (sym e)
@@ -70,11 +66,6 @@ pub in_from : (a n k : ℕ) → k < n → IsIn (a + k) (from a n)
 in_from a zero k l = absurd (omega arith)
 in_from a (suc n) zero l = inl (omega arith)
 in_from a (suc n) (suc k) l = inr (subst (λ j. IsIn j (from (a + 1) n)) (let e : a + 1 + k ≡ a + suc k = omega arith in e) (in_from (a + 1) n k (omega arith)))
-
-pub from_at : (a n k j : ℕ) → slice_get (from a n) k ≡ Some j → j ≡ a + k
-from_at a zero k j e = absurd (none-some j e)
-from_at a (suc n) zero j e = sym (same_Some a j e) ∙ (let z : a ≡ a + 0 = omega arith in z)
-from_at a (suc n) (suc k) j e = from_at (a + 1) n k j e ∙ (let z : a + 1 + k ≡ a + suc k = omega arith in z)
 
 pub from_length : (a n : ℕ) → length (from a n) ≡ n
 from_length a zero = refl
@@ -147,7 +138,3 @@ flat_map_twice f g (x ∷ xs) = append f (g x) (flat_map g xs) ∙ ap (λ l. fla
 pub flat_map_same : {A B : Type 0} (f g : A → List B) (xs : List A) → ((x : A) → IsIn x xs → f x ≡ g x) → flat_map f xs ≡ flat_map g xs
 flat_map_same f g [] h = refl
 flat_map_same f g (x ∷ xs) h = ap₂ (λ a b. a ++ b) (h x (inl refl)) (flat_map_same f g xs (λ y i. h y (inr i)))
-
-pub flat_map_mapped : {A B C : Type 0} (f : B → List C) (g : A → B) (xs : List A) → flat_map f (map g xs) ≡ flat_map (λ x. f (g x)) xs
-flat_map_mapped f g [] = refl
-flat_map_mapped f g (x ∷ xs) = ap (λ l. f (g x) ++ l) (flat_map_mapped f g xs)

@@ -1,12 +1,11 @@
 -- Rows of processes, instances and designs, put behind others.
-use Rattle.std.proofs.Common.{◌≡◌, ℕ, zero, suc, ◌+◌, ◌<◌, ◌≤◌, List, [], ◌∷◌, ◌++◌, length, map, take, get_or, Option, Some, None, option_map, unwrap_or, refl, sym, ap, ap₂, ◌∙◌, subst, arith, append_assoc}
+use Rattle.std.proofs.Common.{◌≡◌, ℕ, zero, suc, ◌+◌, ◌<◌, List, [], ◌∷◌, ◌++◌, length, map, take, get_or, Option, Some, None, option_map, unwrap_or, refl, sym, ap, ap₂, ◌∙◌, subst, arith, append_assoc}
 use Rattle.std.specs.Prelude.{slice_get}
 use Rattle.std.specs.List.{enumerate_from, flat_map}
-use Rattle.std.proofs.lemmas.List.{append-nil, map-append, length-map, length-append, take_all, map_push}
-use Rattle.std.proofs.lemmas.Option.{none-some, same_Some, slice_get_read, slice_get_within, get_or_from_slice_get}
+use Rattle.std.proofs.lemmas.List.{map-append, length-map, length-append}
+use Rattle.std.proofs.lemmas.Option.{none-some, slice_get_within}
 use Rattle.exec_core.specs.Lists.{EachOf, IsIn}
-use Rattle.exec_core.specs.Design.{Process}
-use Rattle.exec_core.proofs.Lists.{each_member, each_from}
+use Rattle.exec_core.proofs.Lists.{each_member}
 use Rattle.design_core.specs.declared.design.Instance.{Instance}
 use Rattle.design_core.specs.Design.{Block, Variant, Design}
 use Rattle.design_core.specs.WellFormed.{IsDesign, all_slots}
@@ -14,29 +13,25 @@ use Rattle.design_exec.specs.Processes.{Numbered, instances_of, process, process
 use Rattle.net_core.specs.Nodes.{Shape}
 use Rattle.net_core.specs.Builder.{Keeps}
 use Rattle.check_exec.proofs.Children.{some_at}
-use Rattle.check_exec.proofs.Facts.{in_at, each_map, each_flat, from_zero}
+use Rattle.check_exec.proofs.Facts.{in_at, each_map, each_flat}
 use Rattle.world_core.specs.Sites.{Site, sites_in_block, sites_in, sites_of, slot_count}
 use Rattle.lower_core.specs.declared.row.FullRow.{FullRow}
 use Rattle.lower_core.specs.Rows.{Spot, AreTold, all_spots}
 use Rattle.ssa_core.specs.declared.process.ProcessKey.{ProcessKey}
 use Rattle.ssa_core.specs.Processes.{process_at}
-use Rattle.ssa_core.proofs.Listing.{more_of, flat_push, plain_more}
+use Rattle.ssa_core.proofs.Listing.{flat_push, plain_more}
 use Rattle.ssa_core.proofs.Places.{get_mapped, get_map}
-use Rattle.term_net.specs.Growth.{Grown}
 use Rattle.row_net.specs.Spots.{at_instance, variant_sites, instance_spots, spots_by_instance, SlotsBelow, AreSorted, sorted_rows}
-use Rattle.row_net.specs.Blocks.{block_sites, HasKey, HaveKeys, IsBlockOf, SpotsPut, blocks_spots, first_number}
+use Rattle.row_net.specs.Blocks.{block_sites, HaveKeys, IsBlockOf, SpotsPut, blocks_spots, first_number}
 use Rattle.row_net.proofs.Listing.{map_in, flat_in, at_number}
 use Rattle.row_net.proofs.SitesOf.{site_slot, sites_slots}
-use Rattle.row_net.proofs.Transposed.{all_sorted, sorted_spots}
+use Rattle.row_net.proofs.Transposed.{all_sorted}
 use Rattle.row_net.proofs.Telling.{told_more, told_both, told_sorted}
 
 -- ---- rows behind others
 
 pub spots_put : (d : Design) (n : ℕ) (old new : List Shape) (spots : List Spot) (rows more after : List FullRow) → Keeps old new → AreTold d n new spots more → after ≡ rows ++ more → SpotsPut d n old new spots rows after
 spots_put d n old new spots rows more after keeps told e before h = subst (AreTold d n new (before ++ spots)) (sym e) (told_both d n new before spots rows more (told_more d n old new keeps before rows h) told)
-
-pub spots_none : (d : Design) (n : ℕ) (ns : List Shape) (rows : List FullRow) → SpotsPut d n ns ns [] rows rows
-spots_none d n ns rows before h = subst (λ l. AreTold d n ns l rows) (sym (append-nil before)) h
 
 pub spots_then : (d : Design) (n : ℕ) (a b c : List Shape) (xs ys : List Spot) (first next last : List FullRow) → SpotsPut d n a b xs first next → SpotsPut d n b c ys next last → SpotsPut d n a c (xs ++ ys) first last
 spots_then d n a b c xs ys first next last p q before h = subst (λ l. AreTold d n c l last) (append_assoc before xs ys) (q (before ++ xs) (p before h))
@@ -71,20 +66,20 @@ get_numbered f n [] i b k x y below at e h = absurd (omega (arith, below))
 get_numbered {A} f n (z ∷ xs) zero b k x y below at e h =
     ap (slice_get (flat_map f (enumerate_from n (z ∷ xs)))) (e ∙ (let w : 0 + b ≡ b = omega arith in w))
     ∙ get_left (f (n, z)) (flat_map f (enumerate_from (n + 1) xs)) b y
-      (ap (λ (q : ℕ × A). slice_get (f q) b) (ap₂ (λ (m : ℕ) w. (m, w)) (let w : n ≡ n + 0 = omega arith in w) (sym at)) ∙ h)
+    (ap (λ (q : ℕ × A). slice_get (f q) b) (ap₂ (λ (m : ℕ) w. (m, w)) (let w : n ≡ n + 0 = omega arith in w) (sym at)) ∙ h)
 get_numbered {A} f n (z ∷ xs) (suc i) b k x y below at e h =
     get_right (f (n, z)) (flat_map f (enumerate_from (n + 1) xs)) k (length (flat_map f (enumerate_from (n + 1) (take i xs))) + b)
     (let l = length-append (f (n, z)) (flat_map f (enumerate_from (n + 1) (take i xs))) in omega (arith, e, l))
     ∙ get_numbered f (n + 1) xs i b (length (flat_map f (enumerate_from (n + 1) (take i xs))) + b) x y (omega (arith, below)) at refl
-      (ap (λ (m : ℕ). slice_get (f (m, x)) b) (let w : n + 1 + i ≡ n + suc i = omega arith in w) ∙ h)
+    (ap (λ (m : ℕ). slice_get (f (m, x)) b) (let w : n + 1 + i ≡ n + suc i = omega arith in w) ∙ h)
 
 module _ (d : Design) (keys : List ProcessKey) (are : map (process_at d) keys ≡ map (λ b. Some b) (processes_of d).processes) where
   -- from this number on are the processes of an instance
   pub keys_from : (k i : ℕ) (r : Instance) → k ≡ first_number d i → i < length d.instances → r ≡ get_or d.instances i r → HaveKeys d keys k (i, r)
   keys_from k i r number below at b block found =
       let here : slice_get (processes_of d).processes (k + b) ≡ Some (process i (signals_in d r.variant) block) =
-          get_numbered (processes_at d) 0 d.instances i b (k + b) r (process i (signals_in d r.variant) block) below at (ap (λ (m : ℕ). m + b) number)
-          (ap (λ (m : ℕ). slice_get (processes_at d (m, r)) b) (let z : 0 + i ≡ i = omega arith in z) ∙ get_map (process i (signals_in d r.variant)) (blocks_in d r.variant) b block found) in
+      get_numbered (processes_at d) 0 d.instances i b (k + b) r (process i (signals_in d r.variant) block) below at (ap (λ (m : ℕ). m + b) number)
+      (ap (λ (m : ℕ). slice_get (processes_at d (m, r)) b) (let z : 0 + i ≡ i = omega arith in z) ∙ get_map (process i (signals_in d r.variant)) (blocks_in d r.variant) b block found) in
       let m = get_mapped (process_at d) keys (k + b) (Some (process i (signals_in d r.variant) block)) (ap (λ l. slice_get l (k + b)) are ∙ get_map (λ p. Some p) (processes_of d).processes (k + b) (process i (signals_in d r.variant) block) here) in
       record { key = m.from; found = m.found; is = m.is }
 

@@ -1,5 +1,5 @@
 -- The log of a block, step by step.
-use Rattle.std.proofs.Common.{◌≡◌, ℕ, zero, suc, ◌+◌, ◌<◌, ◌≤◌, Bool, true, false, ◌||◌, bytes_eq, List, [], ◌∷◌, ◌++◌, length, map, take, drop, get_or, Option, Some, None, IsSome, Vec, Global, if◌then◌else◌, refl, sym, ap, ap₂, ◌∙◌, subst, append_assoc}
+use Rattle.std.proofs.Common.{◌≡◌, ℕ, zero, suc, ◌+◌, ◌<◌, Bool, true, false, ◌||◌, bytes_eq, List, [], ◌∷◌, ◌++◌, length, map, take, drop, get_or, Option, Some, None, Vec, Global, if◌then◌else◌, refl, sym, ap, ap₂, ◌∙◌, subst, append_assoc}
 use Rattle.std.specs.List.{flat_map}
 use Rattle.std.specs.Borrow.{Bor}
 use Rattle.std.proofs.lemmas.List.{append-nil, drop_more, map_push}
@@ -7,10 +7,9 @@ use Rattle.std.proofs.lemmas.List.Folds.{list_any-append}
 use Rattle.bv_core.specs.declared.reference.NodeId.{NodeId}
 use Rattle.tree_core.specs.Tree.{Tree, Whole}
 use Rattle.tree_core.specs.Tree as tree
-use Rattle.exec_core.specs.Block.{Name, Now, Body, own}
+use Rattle.exec_core.specs.Block.{Name, Body, own}
 use Rattle.exec_core.specs.Exec.{Env, start}
-use Rattle.exec_core.specs.Lists.{EachOf}
-use Rattle.exec_core.specs.Trees.{Row, block_rows}
+use Rattle.exec_core.specs.Trees.{block_rows}
 use Rattle.design_core.specs.Design.{Stmt, Assign, Let, If, Done, Then, Else, NoElse, Otherwise}
 use Rattle.design_core.specs.Design as design
 use Rattle.design_core.specs.declared.expr.Expr as code_expr
@@ -24,36 +23,22 @@ use Rattle.net_core.specs.Nodes.{Shape}
 use Rattle.check_core.specs.Known.{has}
 use Rattle.check_core.specs.Maps.{put_value}
 use Rattle.check_core.specs.Statements.{inside, statements, else_statements}
-use Rattle.check_exec.proofs.Facts.{each_left, each_right, eq_turned}
+use Rattle.check_exec.proofs.Facts.{eq_turned}
 use Rattle.block_net.specs.declared.key.Key as code_key
 use Rattle.block_net.specs.declared.key.Key.TheVariants as keys
 use Rattle.block_net.specs.declared.step.Step.{Step}
 use Rattle.block_net.specs.declared.step.Step.TheVariants.{Set, Slot}
 use Rattle.block_net.specs.declared.term.Term.{Term}
 use Rattle.block_net.specs.declared.term.TermId.{TermId}
-use Rattle.block_net.specs.Terms.{IsWithin, tree_for, tree_at, trees_of}
+use Rattle.block_net.specs.Terms.{IsWithin, tree_for}
 use Rattle.block_net.specs.Logs.{AreWithin, rows_of}
 use Rattle.block_net.specs.Blocks.{BlockParts, Tells}
 use Rattle.block_net.specs.Walks.{IsHeld, held}
 use Rattle.dep_order.specs.Names.{names_at}
-use Rattle.term_net.specs.Leaves.{leaf_id, leaf_tree, IsReady}
+use Rattle.term_net.specs.Leaves.{leaf_tree}
 use Rattle.lower_core.specs.declared.row.FullRow.{FullRow}
-use Rattle.row_net.specs.Told.{Names, NameRow, name_row, names_in, set_name, after_step, rows_of_step, name_rows, names_by, no_own, AreHeld, let_name, EnableReady, RowReady, RowsHave, Replayed, RowsPut}
+use Rattle.row_net.specs.Told.{Names, NameRow, name_row, names_in, set_name, after_step, rows_of_step, name_rows, names_by, no_own, AreHeld, let_name, Replayed, RowsPut}
 use Rattle.row_net.proofs.Growing.{names_more}
-
--- ---- an enable
-
-pub enable_some : (ids : Name → Option NodeId) (leaves : Name → Whole) (terms : List Term) (enable : Option TermId) → EnableReady ids leaves (tree_for terms enable) → IsSome enable
-enable_some ids leaves terms None h = absurd (let e = h.is in let no : ⊥ = cc in no)
-enable_some ids leaves terms (Some id) h = refl
-
-pub enable_within : (terms : List Term) (enable : Option TermId) (id : TermId) → enable ≡ Some id → IsWithin terms enable → id.0 < length terms
-enable_within terms enable id e h = subst (IsWithin terms) e h
-
-pub enable_can : (ids : Name → Option NodeId) (leaves : Name → Whole) (terms : List Term) (enable : Option TermId) (id : TermId) → enable ≡ Some id → EnableReady ids leaves (tree_for terms enable) → IsReady ids leaves (tree_at (trees_of terms) id.0)
-enable_can ids leaves terms enable id e h =
-    let same : h.tree ≡ tree_at (trees_of terms) id.0 = (let a = h.is in let b : tree_for terms enable ≡ Some (tree_at (trees_of terms) id.0) = ap (tree_for terms) e in let c : Some h.tree ≡ Some (tree_at (trees_of terms) id.0) = sym a ∙ b in cc) in
-    subst (IsReady ids leaves) same h.ready
 
 -- ---- what names have
 
@@ -81,9 +66,6 @@ now_set terms ids new key x y id is same e =
 
 pub now_held : (terms : List Term) (ids new : Name → Option (Option TermId)) (y : Name) (id : Option TermId) → new ≡ put_value y id ids → IsWithin terms id → AreHeld terms ids → AreHeld terms new
 now_held terms ids new y id e within h = put_held terms ids new y id e within h
-
-pub next_set : (terms : List Term) (names : Names) (key : code_key.Key) (x : Name) (id : Option TermId) → key ≡ keys.Next x → names ≡ after_step terms (Set key id) names
-next_set terms names key x id is = sym (ap (λ (k : code_key.Key). after_step terms (Set k id) names) is)
 
 -- ---- steps in order
 
@@ -115,9 +97,6 @@ pub left_rows : (terms : List Term) (log : List Step) (i : ℕ) (step : Step) (n
     name_rows terms (drop i log) names ≡ rows_of_step terms step names ++ name_rows terms (drop (i + 1) log) (after_step terms step names)
 left_rows terms log i step names below at = ap (λ l. name_rows terms l names) (next_step log i step below at)
 
-pub replay_start : (ns : List Shape) (leaves : Name → Whole) (i : ℕ) (names : List Name) (all : List NameRow) (fulls : List FullRow) → fulls ≡ [] → Replayed ns leaves i names all all fulls
-replay_start ns leaves i names all fulls e = record { done = []; split = refl; have = subst (RowsHave ns leaves i names []) (sym e) tt }
-
 pub replay_step : (old new : List Shape) (places : Name → Option ℕ) (nodes : List (Option NodeId)) (i : ℕ) (names : List Name) (all left now later : List NameRow) (fulls after : List FullRow) → left ≡ now ++ later →
     Replayed old (leaf_tree old places nodes) i names all left fulls → RowsPut old new places nodes i names now fulls after → Replayed new (leaf_tree new places nodes) i names all later after
 replay_step old new places nodes i names all left now later fulls after e r put = record {
@@ -125,9 +104,6 @@ replay_step old new places nodes i names all left now later fulls after e r put 
   split = append_assoc r.done now later ∙ ap (λ l. r.done ++ l) (sym e) ∙ r.split;
   have = put r.done r.have;
 }
-
-pub replay_end : (ns : List Shape) (leaves : Name → Whole) (i : ℕ) (names : List Name) (all left : List NameRow) (fulls : List FullRow) → left ≡ [] → Replayed ns leaves i names all left fulls → RowsHave ns leaves i names all fulls
-replay_end ns leaves i names all left fulls e r = subst (λ l. RowsHave ns leaves i names l fulls) (sym (append-nil r.done) ∙ ap (λ l. r.done ++ l) (sym e) ∙ r.split) r.have
 
 -- ---- the names of the log's rows
 

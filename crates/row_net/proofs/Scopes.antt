@@ -1,11 +1,11 @@
 -- The names in scope in a block are known to its process.
-use Rattle.std.proofs.Common.{◌≡◌, ℕ, ◌||◌, Bool, true, bytes_eq, List, [], ◌∷◌, ◌++◌, map, Option, option_map, unwrap_or, inl, inr, sym, ap, ◌∙◌, subst}
+use Rattle.std.proofs.Common.{◌≡◌, ℕ, Bool, true, bytes_eq, [], map, option_map, unwrap_or, inl, inr, sym, ap, ◌∙◌, subst}
 use Rattle.std.specs.List.{list_any}
 use Rattle.std.proofs.lemmas.Bool.{or_left, or_right}
 use Rattle.exec_core.specs.Block.{Name, Now, own, body_assigns, assigns}
 use Rattle.exec_core.specs.Lists.{IsIn}
 use Rattle.exec_core.specs.Paths.{known_in}
-use Rattle.exec_core.specs.Design.{Process, place, signals_of}
+use Rattle.exec_core.specs.Design.{place, signals_of}
 use Rattle.design_core.specs.declared.design.Instance.{Instance}
 use Rattle.design_core.specs.declared.variant.Signal.{Signal}
 use Rattle.design_core.specs.Design as design
@@ -36,6 +36,7 @@ mutual
   else_set : (c : Bool) (x : Name) (b : design.Else) → IsIn x (else_lets b) → body_assigns (else_of c b) (Now x) ≡ true
   else_set c x design.NoElse i = absurd i
   else_set c x (design.Otherwise body) i = lets_set c x body i
+
 pub scope_known : (d : Design) (i : ℕ) (r : Instance) (v : Variant) → Stands d i r v → (b : Block) (x : Name) → IsIn x (scope v b)
     → known_in (signals_of (processes_of d) (process i v.signals b)) (body_of b.clocked b.body) x ≡ true
 scope_known d i r v stands b x at = elim (in_parts x (map (λ (s : Signal). s.name) v.signals) (lets_of b.body) at) [
@@ -54,4 +55,3 @@ process_in d i r v stands b among =
     (subst (λ l. IsIn (process i v.signals b) l)
     (sym (ap (λ o. map (process i (unwrap_or (option_map (λ (w : Variant). w.signals) o) [])) (unwrap_or (option_map (λ (w : Variant). w.blocks) o) [])) stands.variant))
     (map_in (process i v.signals) v.blocks b among))
-

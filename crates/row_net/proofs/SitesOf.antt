@@ -1,11 +1,11 @@
 -- The one statement of each slot of a well-formed design.
-use Rattle.std.proofs.Common.{◌≡◌, ℕ, ◌+◌, ◌<◌, ◌==◌, Bool, true, false, cond, List, [], ◌∷◌, ◌++◌, length, map, inl, inr, refl, sym, ap, ap₂, ◌∙◌, subst, eqb-true, eq-eqb, ne_eqb}
+use Rattle.std.proofs.Common.{◌≡◌, ℕ, ◌+◌, ◌<◌, cond, List, [], ◌∷◌, ◌++◌, map, inl, inr, refl, sym, ap, ap₂, ◌∙◌, subst, eq-eqb, ne_eqb}
 use Rattle.std.specs.Prelude.{filter}
 use Rattle.std.specs.List.{enumerate_from, flat_map}
 use Rattle.std.proofs.lemmas.List.{map-append}
 use Rattle.exec_core.specs.Lists.{IsIn, IsNotIn, AreApart}
 use Rattle.design_core.specs.Design.{Block, Variant, Design}
-use Rattle.design_core.specs.Slots.{Head, heads, scope, slots_of, variant_heads}
+use Rattle.design_core.specs.Slots.{Head, heads, scope, slots_of}
 use Rattle.design_core.specs.WellFormed.{IsDesign, all_slots}
 use Rattle.world_core.specs.Sites.{Site, sites_in_block, sites_in, sites_of, slot_count, has_slot, sites_at}
 use Rattle.row_net.proofs.Listing.{in_not_in, all_there}

@@ -1,5 +1,5 @@
 -- What rows tell stays told as the builder grows, behind others, and sorted by slots.
-use Rattle.std.proofs.Common.{◌≡◌, ℕ, ◌==◌, Bool, true, false, cond, List, [], ◌∷◌, ◌++◌, Option, Some, None, refl, sym, ap, ◌∙◌, subst}
+use Rattle.std.proofs.Common.{◌≡◌, ℕ, ◌==◌, Bool, true, false, cond, List, [], ◌∷◌, ◌++◌, Option, Some, None, sym, ap}
 use Rattle.std.specs.Prelude.{filter}
 use Rattle.std.specs.List.{flat_map}
 use Rattle.bv_core.specs.declared.reference.NodeId.{NodeId}
@@ -10,10 +10,10 @@ use Rattle.design_core.specs.Design.{Design}
 use Rattle.design_core.specs.Slots.{from}
 use Rattle.net_core.specs.Nodes.{Shape}
 use Rattle.net_core.specs.Builder.{Keeps}
-use Rattle.world_core.specs.Sites.{Site, has_slot}
+use Rattle.world_core.specs.Sites.{Site}
 use Rattle.term_net.proofs.Fitting.{stands_more}
 use Rattle.lower_core.specs.declared.row.FullRow.{FullRow}
-use Rattle.lower_core.specs.Rows.{Spot, CellTold, CellsTold, EnableTold, RowTold, AreTold}
+use Rattle.lower_core.specs.Rows.{Spot, CellTold, CellsTold, RowTold, AreTold}
 use Rattle.row_net.specs.Spots.{is_row_of, rows_at, sorted_rows}
 use Rattle.row_net.proofs.Transposed.{is_spot_of, sorted_spots}
 

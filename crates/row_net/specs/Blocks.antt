@@ -1,5 +1,5 @@
 -- The blocks of an instance as processes, and rows that are put behind others.
-use Rattle.std.specs.Prelude.{◌≡◌, ℕ, ◌+◌, List, [], ◌++◌, length, map, take, Option, Some, option_map, unwrap_or, slice_get}
+use Rattle.std.specs.Prelude.{◌≡◌, ℕ, ◌+◌, List, [], ◌++◌, length, map, take, Some, option_map, unwrap_or, slice_get}
 use Rattle.std.specs.List.{enumerate_from, flat_map}
 use Rattle.exec_core.specs.Block.{Name}
 use Rattle.exec_core.specs.Lists.{IsIn}

@@ -1,5 +1,5 @@
 -- What the rows of a block have at an instance, by nodes that stand for folded whole trees over the names of the instance.
-use Rattle.std.specs.Prelude.{◌≡◌, ℕ, List, [], ◌∷◌, ◌++◌, map, Option, Some, None, Bool, bytes_eq, if◌then◌else◌}
+use Rattle.std.specs.Prelude.{◌≡◌, ℕ, List, [], ◌∷◌, ◌++◌, Option, Some, None, Bool, bytes_eq, if◌then◌else◌}
 use Rattle.bv_core.specs.declared.reference.NodeId.{NodeId}
 use Rattle.tree_core.specs.Tree.{Tree, Whole}
 use Rattle.exec_core.specs.Block.{Name, Now}
@@ -16,7 +16,7 @@ use Rattle.block_net.specs.declared.term.Term.{Term}
 use Rattle.block_net.specs.declared.term.TermId.{TermId}
 use Rattle.block_net.specs.Terms.{tree_for}
 use Rattle.block_net.specs.Walks.{IsHeld, held}
-use Rattle.term_net.specs.Leaves.{leaf_id, leaf_tree, whole_of, IsReady}
+use Rattle.term_net.specs.Leaves.{leaf_tree, whole_of, IsReady}
 use Rattle.ssa_state.specs.Held.{CanHaveNode, NodeTold}
 use Rattle.lower_core.specs.declared.row.FullRow.{FullRow}
 

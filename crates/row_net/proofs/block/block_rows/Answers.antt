@@ -1,5 +1,5 @@
-use Rattle.std.proofs.Common.{◌≡◌, ◌++◌, ◌∙◌, ap, ap₂, map, sym, subst}
-use Rattle.exec_core.specs.Block.{Name, own}
+use Rattle.std.proofs.Common.{◌≡◌, ◌++◌, ◌∙◌, ap, map, sym, subst}
+use Rattle.exec_core.specs.Block.{own}
 use Rattle.exec_core.specs.Lists.{EachOf}
 use Rattle.exec_core.specs.Trees.{block_rows as the_rows}
 use Rattle.design_core.specs.Slots.{lets_of}
@@ -9,7 +9,7 @@ use Rattle.check_core.specs.Maps.{value_of}
 use Rattle.dep_order.specs.Blocks.{assigned_in as the_assigned}
 use Rattle.dep_order.specs.Names.{names_at}
 use Rattle.term_net.specs.Leaves.{leaf_id, leaf_tree}
-use Rattle.row_net.specs.Told.{NameRow, RowReady, RowsHave, name_row, name_rows, names_by, no_own}
+use Rattle.row_net.specs.Told.{RowReady, RowsHave, name_row, name_rows, names_by, no_own}
 use Rattle.row_net.proofs.Replaying.{no_own_held, block_told}
 use Rattle.row_net.proofs.block.block_rows.Goals as goal
 

@@ -1,4 +1,4 @@
-use Rattle.std.proofs.Common.{◌++◌, ◌∷◌, [], ◌∙◌, ap, sym, subst, get_or, take}
+use Rattle.std.proofs.Common.{◌∷◌, [], sym, subst, get_or, take}
 use Rattle.std.proofs.lemmas.List.{take_all}
 use Rattle.check_core.specs.Maps.{value_of}
 use Rattle.dep_order.specs.Names.{names_at}

@@ -1,5 +1,5 @@
-use Rattle.std.proofs.Common.{ℕ, List, ◌≡◌, ◌<◌, ◌++◌, ◌∙◌, length, get_or, drop, map, refl, sym, ap, subst, Some, rules}
-use Rattle.std.specs.Prelude.{slice_get, slice_set, Vec, Option}
+use Rattle.std.proofs.Common.{ℕ, List, ◌≡◌, ◌<◌, ◌∙◌, length, get_or, drop, refl, sym, ap, subst, Some, rules}
+use Rattle.std.specs.Prelude.{slice_get, Vec, Option}
 use Rattle.std.specs.Vec.{with_items}
 use Rattle.std.specs.declared.alloc.Global.{Global}
 use Rattle.std.proofs.Math.ListN.{set}
@@ -49,7 +49,7 @@ block_rows-requires-clause-fits c =
     memo_is p c.requires.parts c.args.number c.args.instance c.args.variant (block_of c.args.block.now) c.requires.key c.index-key.result.now (read c.args.parts.now.keys.items c.args.number c.requires.key.key c.index-key.result.now c.requires.key.found c.index-key.ensures)
     c.args.builder.now c.args.nodes.now (lists_of c.args.memos.now) c.block_of-terms.result.now (value_of c.names_of-places.result.now) c.deref_mut.result.now c.requires.state c.block_of-terms.ensures c.names_of-places.ensures
     (get_map (λ (v : Vec (Option NodeId) Global). v.items) c.args.memos.now c.args.number (get_or c.args.memos.now c.args.number c.index-memos-number.result)
-      (slice_get_read c.args.memos.now (length c.args.memos.now) c.args.number (get_or c.args.memos.now c.args.number c.index-memos-number.result) refl within (ap (get_or c.args.memos.now c.args.number) c.index-memos-number.is))
+    (slice_get_read c.args.memos.now (length c.args.memos.now) c.args.number (get_or c.args.memos.now c.args.number c.index-memos-number.result) refl within (ap (get_or c.args.memos.now c.args.number) c.index-memos-number.is))
     ∙ ap (λ l. Some l) (sym c.deref_mut.ensures.value))
 
 pub block_rows-requires-clause-tells : goal.block_rows-requires-clause-tells
@@ -74,10 +74,10 @@ returns-clause-state c =
     let m = c.requires.state.terms.each c.args.number c.index-key.result.now c.block_of-terms.result.now (read c.args.parts.now.keys.items c.args.number c.requires.key.key c.index-key.result.now c.requires.key.found c.index-key.ensures) c.block_of-terms.ensures in
     let within : c.args.number < length c.args.memos.now = within_lists c.args.memos.now c.args.number m.memo m.found in
     let fits = memo_is p c.requires.parts c.args.number c.args.instance c.args.variant (block_of c.args.block.now) c.requires.key c.index-key.result.now (read c.args.parts.now.keys.items c.args.number c.requires.key.key c.index-key.result.now c.requires.key.found c.index-key.ensures)
-      c.args.builder.now c.args.nodes.now (lists_of c.args.memos.now) c.block_of-terms.result.now (value_of c.names_of-places.result.now) c.deref_mut.result.now c.requires.state c.block_of-terms.ensures c.names_of-places.ensures
-      (get_map (λ (v : Vec (Option NodeId) Global). v.items) c.args.memos.now c.args.number old
-        (slice_get_read c.args.memos.now (length c.args.memos.now) c.args.number old refl within (ap (get_or c.args.memos.now c.args.number) c.index-memos-number.is))
-      ∙ ap (λ l. Some l) (sym c.deref_mut.ensures.value)) in
+    c.args.builder.now c.args.nodes.now (lists_of c.args.memos.now) c.block_of-terms.result.now (value_of c.names_of-places.result.now) c.deref_mut.result.now c.requires.state c.block_of-terms.ensures c.names_of-places.ensures
+    (get_map (λ (v : Vec (Option NodeId) Global). v.items) c.args.memos.now c.args.number old
+    (slice_get_read c.args.memos.now (length c.args.memos.now) c.args.number old refl within (ap (get_or c.args.memos.now c.args.number) c.index-memos-number.is))
+    ∙ ap (λ l. Some l) (sym c.deref_mut.ensures.value)) in
     let long : length new ≡ old.len = c.in_ok-rows.ensures.fits.each ∙ sym fits.each ∙ c.deref_mut.ensures.len in
     let items : (with_items old new).items ≡ new = take_first old.len new (drop (length new) old.items) long in
     subst (HasState p c.block_rows.new.builder c.args.nodes.now)

@@ -6,7 +6,7 @@ use Rattle.block_net.specs.Logs.{AreWithin}
 use Rattle.dep_order.specs.Names.{names_at}
 use Rattle.term_net.specs.Leaves.{leaf_id, leaf_tree}
 use Rattle.term_net.proofs.Overs.{grown_twice}
-use Rattle.row_net.specs.Told.{Names, RowReady, Replayed, after_step, name_rows, names_by, rows_of_step}
+use Rattle.row_net.specs.Told.{Names, RowReady, after_step, name_rows, names_by, rows_of_step}
 use Rattle.row_net.proofs.Growing.{ready_kept}
 use Rattle.row_net.proofs.Replaying.{within_at, left_rows, replay_step}
 use Rattle.row_net.proofs.replay.replay.Goals as goal
@@ -41,7 +41,7 @@ loop-step-preserved c =
     let P = RowReady (leaf_id places c.args.nodes.now) (leaf_tree c.loop-step.builder places c.args.nodes.now) names in
     let later : name_rows terms (drop (i + 1) log) (after_step terms step now) ≡ name_rows terms (drop (i + 1) log) (names_by terms (value_of c.take_step.new.held)) = ap (λ (f : Names). name_rows terms (drop (i + 1) log) f) (sym c.in_ok-take_step.ensures.after) in
     let ready = each_right P (rows_of_step terms step now) (name_rows terms (drop (i + 1) log) (after_step terms step now))
-      (subst (EachOf P) (left_rows terms log i step now c.loop-step-test.true c.step-item.is) c.loop-step.invariant.ready) in
+    (subst (EachOf P) (left_rows terms log i step now c.loop-step-test.true c.step-item.is) c.loop-step.invariant.ready) in
     record {
       fits = c.in_ok-take_step.ensures.fits;
       grown = grown_twice c.args.builder.now c.loop-step.builder c.take_step.new.builder c.loop-step.invariant.grown c.in_ok-take_step.ensures.grown;

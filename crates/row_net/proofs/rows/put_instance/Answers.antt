@@ -1,4 +1,4 @@
-use Rattle.std.proofs.Common.{◌≡◌, ◌+◌, ◌^◌, ◌<◌, ◌≤◌, ◌++◌, ◌∙◌, length, map, take, refl, sym, ap, subst, Some, arith, rules}
+use Rattle.std.proofs.Common.{◌≡◌, ◌+◌, ◌^◌, ◌<◌, ◌≤◌, ◌++◌, ◌∙◌, length, map, take, refl, sym, ap, subst, arith, rules}
 use Rattle.std.specs.Prelude.{slice_get}
 use Rattle.std.proofs.lemmas.List.{length-map, map_push, take_all}
 use Rattle.std.proofs.lemmas.Option.{slice_get_read}
@@ -65,7 +65,7 @@ overflow_add-result c =
     let few : length p.keys.items < 2 ^ 64 = omega arith in
     let now : c.args.first < 2 ^ 64 = omega (arith, c.ranges.first.fits) in
     let fits : c.args.first + length (blocks_in d v) < 2 ^ 64 =
-        room c.args.first (length (blocks_in d v)) (length p.keys.items) (2 ^ 64) now (λ b l. keys_within d p.keys.items c.requires.parts.parts.keys_are c.args.first (c.args.number, c.args.instance.now) c.requires.keys b l) few in
+    room c.args.first (length (blocks_in d v)) (length p.keys.items) (2 ^ 64) now (λ b l. keys_within d p.keys.items c.requires.parts.parts.keys_are c.args.first (c.args.number, c.args.instance.now) c.requires.keys b l) few in
     let same : c.args.first + length blocks < 2 ^ 64 = subst (λ n. c.args.first + n < 2 ^ 64) (sym count) fits in search rules
 
 pub loop-place-preserved : goal.loop-place-preserved
@@ -79,7 +79,7 @@ loop-place-preserved c =
     let place = c.loop-place.place in
     let block = c.index-blocks-place.result in
     let next : blocks_spots d i v (map block_of (take (place + 1) blocks)) ≡ blocks_spots d i v (map block_of (take place blocks)) ++ at_instance i (block_sites d v (block_of block)) =
-        ap (blocks_spots d i v) (ap (map block_of) (more_of blocks place block c.loop-place-test.true c.index-blocks-place.is) ∙ map_push block_of (take place blocks) block) ∙ blocks_next d i v (map block_of (take place blocks)) (block_of block) in
+    ap (blocks_spots d i v) (ap (map block_of) (more_of blocks place block c.loop-place-test.true c.index-blocks-place.is) ∙ map_push block_of (take place blocks) block) ∙ blocks_next d i v (map block_of (take place blocks)) (block_of block) in
     record {
       state = c.in_ok-put_process.ensures.state;
       grown = grown_twice c.args.builder.now c.loop-place.builder c.put_process.new.builder c.loop-place.invariant.grown c.in_ok-put_process.ensures.grown;
