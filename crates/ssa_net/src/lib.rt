@@ -2,5 +2,8 @@
 #![tactic(auto)]
 
 mod lowering;
+mod memo;
+mod outputs;
+mod parts;
 
 pub use lowering::lower;
