@@ -5,5 +5,6 @@ mod lowering;
 mod memo;
 mod outputs;
 mod parts;
+mod signals;
 
 pub use lowering::lower;
