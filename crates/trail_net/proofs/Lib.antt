@@ -1,0 +1,2 @@
+pub mod RowsFit
+pub mod Running
