@@ -1,2 +1,3 @@
 pub mod RowsFit
 pub mod Running
+pub mod States
