@@ -3,3 +3,5 @@ pub mod Running
 pub mod States
 pub mod Listing
 pub mod Status
+pub mod SitesOf
+pub mod Spots
