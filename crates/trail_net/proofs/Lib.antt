@@ -5,3 +5,4 @@ pub mod Listing
 pub mod Status
 pub mod SitesOf
 pub mod Spots
+pub mod Shown

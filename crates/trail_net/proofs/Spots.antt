@@ -147,7 +147,7 @@ not_there d kept s among i r at other = not_in_from s.slot (slots_in (processes_
 
 -- ---- what is told at a statement and an instance
 
-row_slot : (n : ℕ) (rs : List Row) (row : Row) → row_at n rs ≡ Some row → row.slot ≡ n
+pub row_slot : (n : ℕ) (rs : List Row) (row : Row) → row_at n rs ≡ Some row → row.slot ≡ n
 row_slot n [] row e = cc
 row_slot n (r ∷ rs) row e =
     some_if (r.slot == n) r row (row_at n rs) (row.slot ≡ n) (λ t same. ap (λ (q : Row). q.slot) (sym same) ∙ eqb-true r.slot n t) (λ t found. row_slot n rs row found) e
