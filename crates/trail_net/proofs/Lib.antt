@@ -6,3 +6,4 @@ pub mod Status
 pub mod SitesOf
 pub mod Spots
 pub mod Shown
+pub mod Texts

@@ -171,4 +171,5 @@ rows_show_runs d pairs wanted l stim run h =
       rows = λ t inside.
           rows_show d h.sound order ok l.net.nodes run t (state_in l.net stim t) (subst (λ k. CycleAgrees (processes_of d) (length order) (settled_in run t) (state_in l.net stim k)) (let z : 0 + t ≡ t = omega arith in z) (cycles.each t inside))
           (all_spots d) (λ p i. i) l.rows lowered.rows;
+      nothing = λ t inside i slot other. (cycles.each t inside).nothing i slot other;
     }
