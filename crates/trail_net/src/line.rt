@@ -1,6 +1,7 @@
 //! The line of a statement that an instance executes.
 
-ghost use Rattle.std.specs.Prelude.{◌≡◌, ◌<◌, ◌++◌, All, IsSome, OnOk, length};
+ghost use Rattle.std.specs.Prelude.{◌≡◌, ◌<◌, ◌++◌, All, IsSome, OnOk, codes, length};
+ghost use Rattle.std.specs.Fmt.{decimal};
 ghost use Rattle.std.specs.List.{flat_map};
 ghost use Rattle.std.specs.Option.{ForSome};
 ghost use Rattle.world_core.specs.World.{shown_text};
@@ -108,6 +109,15 @@ fn push_cells(
     Ok(())
 }
 
+/// Adds the cycle and the line, with a blank behind each.
+fn push_head(alloc: Global, text: &mut Vec<u8>, cycle: u64, line: u32) -> Result<(), NoMemory>
+    ensures { OnOk result (text.new.items ≡ text.old.items ++ (decimal cycle ++ codes " " ++ decimal line ++ codes " ")) }
+{
+    let head = format!(in alloc; "{cycle} {line} ")?;
+    text.extend_from_slice(head.as_bytes())?;
+    Ok(())
+}
+
 /// Adds the line of a statement, in the cycle at which the trace stands.
 pub(crate) fn push_line(
     alloc: Global,
@@ -123,9 +133,7 @@ pub(crate) fn push_line(
     requires nodes { All (λ cell. ForSome cell (λ id. id.0 < length trace.now.net.nodes)) cells.now }
     ensures { OnOk result (text.new.items ≡ text.old.items ++ line_text cycle slot.now path.now (samples_now trace.now) cells.now) }
 {
-    let line = slot.line;
-    let head = format!(in alloc; "{cycle} {line} ")?;
-    text.extend_from_slice(head.as_bytes())?;
+    push_head(alloc, text, cycle, slot.line)?;
     text.extend_from_slice(path.bytes())?;
     push_variables(alloc, text, slot.gens.items())?;
     push_cells(alloc, text, trace, slot.names.items(), cells)?;
