@@ -7,3 +7,4 @@ pub mod SitesOf
 pub mod Spots
 pub mod Shown
 pub mod Texts
+pub mod Passing

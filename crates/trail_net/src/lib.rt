@@ -4,6 +4,7 @@
 mod end;
 mod laws;
 mod line;
+mod rows;
 mod write;
 
 pub use end::TrailEnd;
