@@ -8,3 +8,4 @@ pub mod Spots
 pub mod Shown
 pub mod Texts
 pub mod Passing
+pub mod Called
