@@ -1,5 +1,5 @@
 -- What the result of lowering gives the functions that write its trail.
-use Rattle.std.proofs.Common.{◌≡◌, ℕ, zero, suc, ◌+◌, ◌<◌, false, List, [], ◌∷◌, length, map, Option, Some, None, option_map, inl, inr, refl, sym, ap, ◌∙◌, subst, arith}
+use Rattle.std.proofs.Common.{◌≡◌, ℕ, suc, ◌<◌, false, List, [], ◌∷◌, length, map, Option, Some, None, option_map, inl, inr, refl, sym, ap, ◌∙◌, subst}
 use Rattle.std.specs.Prelude.{slice_get, All}
 use Rattle.std.specs.Option.{ForSome}
 use Rattle.std.proofs.lemmas.List.{length-map}
@@ -10,7 +10,6 @@ use Rattle.bv_core.specs.declared.reference.NodeId.{NodeId}
 use Rattle.tree_core.specs.Tree.{Tree, Leaf, Origin, Input, Whole}
 use Rattle.exec_core.specs.Block.{Name, Now}
 use Rattle.exec_core.specs.Lists.{IsIn}
-use Rattle.exec_core.specs.Leaves.{EachLeaf}
 use Rattle.exec_core.specs.Trees.{Row}
 use Rattle.exec_core.specs.Whole.{Place}
 use Rattle.exec_core.specs.States.{OverGivens}

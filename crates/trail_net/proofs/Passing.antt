@@ -1,10 +1,10 @@
 -- Laws of a text that waits to be taken, piece after piece.
-use Rattle.std.proofs.Common.{◌≡◌, ℕ, zero, suc, ◌+◌, ◌-◌, ◌<◌, ◌≤◌, List, [], ◌∷◌, ◌++◌, length, take, drop, get_or, Option, Some, None, refl, sym, ap, ◌∙◌, subst, arith, append_assoc, append-nil, add-one}
+use Rattle.std.proofs.Common.{◌≡◌, ℕ, zero, suc, ◌+◌, ◌-◌, ◌<◌, List, [], ◌∷◌, ◌++◌, length, take, drop, get_or, Option, Some, None, refl, sym, ap, ◌∙◌, subst, arith, append_assoc, append-nil}
 use Rattle.std.specs.List.{flat_map}
 use Rattle.std.proofs.lemmas.List.{take_more}
 use Rattle.std.proofs.lemmas.List.Concat.{flat_map-append}
 use Rattle.io_edge.specs.Taken.{Appends, AppendsFront}
-use Rattle.io_edge.proofs.Growth.{grown_twice, front_after, no_growth, front_from_whole, pieces_at}
+use Rattle.io_edge.proofs.Growth.{grown_twice, front_after, pieces_at}
 use Rattle.design_core.specs.Slots.{from}
 use Rattle.net_core.specs.Nets.{NetParts}
 use Rattle.stim_text.specs.Stimulus.{Stimulus}

@@ -1,5 +1,5 @@
 -- The rows of a lowered design show what execution does, in each cycle of a run.
-use Rattle.std.proofs.Common.{◌≡◌, ℕ, zero, suc, ◌+◌, ◌<◌, Bool, true, false, true≢false, List, [], ◌∷◌, length, map, Option, Some, None, inl, inr, refl, sym, ap, ◌∙◌, subst, arith}
+use Rattle.std.proofs.Common.{◌≡◌, ℕ, zero, suc, ◌+◌, ◌<◌, true, false, true≢false, List, [], ◌∷◌, length, map, Option, Some, None, inl, inr, refl, sym, ap, ◌∙◌, subst, arith}
 use Rattle.std.specs.Prelude.{slice_get, slice_index_or, is_some}
 use Rattle.std.proofs.lemmas.Bool.{false_from_ne_true}
 use Rattle.std.proofs.lemmas.List.{length-map}
@@ -11,15 +11,13 @@ use Rattle.bv_core.specs.declared.reference.Sample.{Sample}
 use Rattle.bv_core.specs.declared.reference.Sample.TheVariants as sampled
 use Rattle.tree_core.specs.Tree.{Tree, Origin, value_of}
 use Rattle.exec_core.specs.Block.{Name, Now}
-use Rattle.exec_core.specs.Exec.{Env}
 use Rattle.exec_core.specs.Lists.{EachOf, IsIn}
-use Rattle.exec_core.specs.Trees.{Row}
 use Rattle.exec_core.specs.Agree.{TellsVisit}
 use Rattle.exec_core.specs.Paths.{known_in, known_key, RowChecked}
 use Rattle.exec_core.specs.Whole.{Place}
 use Rattle.exec_core.specs.Design as exec
 use Rattle.exec_core.specs.Design.{Process, signals_of, width_in}
-use Rattle.exec_core.specs.Run.{thread_of, starts}
+use Rattle.exec_core.specs.Run.{starts}
 use Rattle.exec_core.specs.Accepted.{Accepted}
 use Rattle.exec_core.specs.States.{net_value, ProcessTold, CycleAgrees, CyclesAgree, AreStates}
 use Rattle.exec_core.proofs.Lists.{each_member}
@@ -29,8 +27,6 @@ use Rattle.design_core.specs.Ports.{ports_in, top_signals}
 use Rattle.design_core.specs.Slots.{from}
 use Rattle.design_exec.specs.Processes.{Given, process, processes_of}
 use Rattle.net_core.specs.Nodes.{Shape, tree_of}
-use Rattle.stim_text.specs.Stimulus.{Stimulus}
-use Rattle.sim_hist.specs.Run.{run_samples}
 use Rattle.check_exec.specs.Premises.{IsSound}
 use Rattle.check_exec.proofs.Instances.{Stands}
 use Rattle.check_exec.proofs.Ready.{runs_of_accepted_agree}
@@ -39,18 +35,15 @@ use Rattle.dep_order.proofs.Ready.{orders_are_accepted}
 use Rattle.world_core.specs.World.{Value}
 use Rattle.world_core.specs.Sites.{Site, site_body, sites_of, is_unset}
 use Rattle.world_core.specs.Source.{nothing, settled_in, visit_in, name_shown, unset_among, unset_at, rows_named}
-use Rattle.lower_core.specs.declared.mode.Mode.{Mode}
 use Rattle.lower_core.specs.declared.row.FullRow.{FullRow}
-use Rattle.lower_core.specs.declared.row.Lowered as code
 use Rattle.lower_core.specs.Rows.{Spot, all_spots, CellTold, CellsTold, RowTold, AreTold}
 use Rattle.lower_core.specs.Lowered.{IsLowered}
-use Rattle.trail_net.specs.Runs.{RunsOver}
-use Rattle.trail_net.specs.Told.{CellShows, CellsShow, RowShows, RowsShow, IsRunOf, RunShown, RowsShowRuns}
+use Rattle.trail_net.specs.Told.{CellShows, CellsShow, RowShows, RowsShow, RowsShowRuns}
 use Rattle.trail_net.proofs.RowsFit.{Port, IsFirst, inputs_first}
 use Rattle.trail_net.proofs.Running.{rows_of_stimulus}
 use Rattle.trail_net.proofs.States.{state_in, GivensTold, are_states}
 use Rattle.trail_net.proofs.Status.{unset_means, unset_told}
-use Rattle.trail_net.proofs.SitesOf.{SiteIs, sites_are, IsOrdered, ordered, SpotIs, spot_is}
+use Rattle.trail_net.proofs.SitesOf.{SiteIs, sites_are, IsOrdered, ordered, spot_is}
 use Rattle.trail_net.proofs.Spots.{scope_known, process_in, row_slot, enable_value, name_value}
 
 -- each node has the value of its tree

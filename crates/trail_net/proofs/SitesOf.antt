@@ -1,18 +1,17 @@
 -- The statements of a well-formed design: each number below their count is the slot of one, in the order of slots.
-use Rattle.std.proofs.Common.{◌≡◌, ℕ, zero, suc, ◌+◌, ◌<◌, ◌≤◌, ◌==◌, Bool, true, false, cond, List, [], ◌∷◌, ◌++◌, length, map, Option, Some, None, inl, inr, refl, sym, ap, ap₂, ◌∙◌, subst, arith, eqb-true, eq-eqb, ne_eqb, option_map}
+use Rattle.std.proofs.Common.{◌≡◌, ℕ, zero, suc, ◌+◌, ◌<◌, ◌≤◌, ◌==◌, cond, List, [], ◌∷◌, ◌++◌, map, Some, inl, inr, refl, sym, ap, ap₂, ◌∙◌, subst, arith, eqb-true, eq-eqb, ne_eqb, option_map}
 use Rattle.std.specs.Prelude.{slice_get, filter}
 use Rattle.std.specs.List.{enumerate_from, flat_map}
 use Rattle.std.proofs.lemmas.List.{map-append}
-use Rattle.std.proofs.lemmas.Option.{same_Some, none-some, slice_get-map}
-use Rattle.exec_core.specs.Block.{Name}
+use Rattle.std.proofs.lemmas.Option.{slice_get-map}
 use Rattle.exec_core.specs.Lists.{EachOf, IsIn, IsNotIn, AreApart}
 use Rattle.exec_core.proofs.Lists.{each_member}
 use Rattle.design_core.specs.declared.design.Instance.{Instance}
 use Rattle.design_core.specs.Design.{Block, Variant, Design}
-use Rattle.design_core.specs.Slots.{Head, heads, scope, slots_of, variant_heads, from}
+use Rattle.design_core.specs.Slots.{Head, heads, scope, slots_of, from}
 use Rattle.design_core.specs.WellFormed.{IsDesign, all_slots}
 use Rattle.design_exec.specs.Processes.{Numbered, instances_of}
-use Rattle.check_exec.proofs.Facts.{each_map, each_flat, each_joined, from_zero, in_at, in_index}
+use Rattle.check_exec.proofs.Facts.{each_map, each_flat, from_zero, in_index}
 use Rattle.world_core.specs.Sites.{Site, sites_in_block, sites_in, sites_of, slot_count, has_slot, sites_at, sites_in_order, instances_with}
 use Rattle.lower_core.specs.Rows.{Spot, spots_of, all_spots}
 use Rattle.trail_net.proofs.Listing.{map_in, map_from, flat_in, flat_from, filter_from, at_number, in_not_in, from_in, from_at, all_there}

@@ -1,50 +1,37 @@
 -- What the folded whole trees tell of a cycle, at a statement and an instance of its variant.
-use Rattle.std.proofs.Common.{◌≡◌, ℕ, ◌+◌, ◌<◌, ◌==◌, ◌||◌, Bool, true, false, true≢false, bytes_eq, List, [], ◌∷◌, ◌++◌, length, map, Option, Some, None, option_map, unwrap_or, if◌then◌else◌, inl, inr, refl, sym, ap, ap₂, ◌∙◌, subst, eqb-true, eq-eqb}
+use Rattle.std.proofs.Common.{◌≡◌, ℕ, ◌==◌, Bool, true, false, true≢false, bytes_eq, List, [], ◌∷◌, ◌++◌, map, Option, Some, None, option_map, unwrap_or, inl, inr, refl, sym, ap, ap₂, ◌∙◌, subst, eqb-true, eq-eqb}
 use Rattle.std.specs.Prelude.{slice_get, filter, is_some, option_and_then}
-use Rattle.std.specs.List.{enumerate_from, flat_map, list_any}
-use Rattle.std.proofs.lemmas.Bool.{or_left, or_right, false_from_ne_true}
+use Rattle.std.specs.List.{list_any}
+use Rattle.std.proofs.lemmas.Bool.{or_left, or_right}
 use Rattle.std.proofs.lemmas.List.{map-append}
-use Rattle.std.proofs.lemmas.Option.{none-some, same_Some}
+use Rattle.std.proofs.lemmas.Option.{same_Some}
 use Rattle.bv_core.specs.Value.{Bits}
 use Rattle.bv_core.specs.Operators.{flag_of}
-use Rattle.bv_core.specs.declared.reference.NodeId.{NodeId}
-use Rattle.bv_core.specs.declared.reference.Sample.{Sample}
-use Rattle.bv_core.specs.declared.reference.Sample.TheVariants as sampled
-use Rattle.tree_core.specs.Tree.{Tree, Origin, Whole, value_of}
-use Rattle.exec_core.specs.Block as blocks
+use Rattle.tree_core.specs.Tree.{Tree}
 use Rattle.exec_core.specs.Block.{Name, Key, Now, own, body_assigns, assigns, body_slots, slots}
 use Rattle.exec_core.specs.Exec.{Env}
-use Rattle.exec_core.specs.Lists.{EachOf, IsIn, IsNotIn, AreApart}
-use Rattle.exec_core.specs.Trees.{Row, block_rows, row_at}
+use Rattle.exec_core.specs.Lists.{IsIn, IsNotIn}
+use Rattle.exec_core.specs.Trees.{Row, row_at}
 use Rattle.exec_core.specs.Agree.{Shows, TellsVisit}
-use Rattle.exec_core.specs.Paths.{known_in, known_key, IsUnset}
-use Rattle.exec_core.specs.Whole.{Place}
-use Rattle.exec_core.specs.Design.{Process, place, moved, signals_of, folded_tree}
-use Rattle.exec_core.specs.Run.{slots_in, thread_of}
-use Rattle.exec_core.specs.States.{net_value, ProcessTold, CycleAgrees}
-use Rattle.exec_core.specs.Accepted.{Accepted}
+use Rattle.exec_core.specs.Paths.{known_in}
+use Rattle.exec_core.specs.Design.{Process, place, signals_of}
+use Rattle.exec_core.specs.Run.{slots_in}
 use Rattle.exec_core.proofs.Slots.{some_if}
-use Rattle.exec_core.proofs.Sources.{process_checked}
-use Rattle.exec_core.proofs.Lists.{each_member, filter_member}
+use Rattle.exec_core.proofs.Lists.{filter_member}
 use Rattle.design_core.specs.declared.design.Instance.{Instance}
 use Rattle.design_core.specs.declared.variant.Signal.{Signal}
 use Rattle.design_core.specs.Design as design
 use Rattle.design_core.specs.Design.{Variant, Block, Design}
 use Rattle.design_core.specs.Slots.{Head, heads, stmt_heads, else_heads, slots_of, lets_of, let_of, else_lets, scope}
 use Rattle.design_core.specs.WellFormed.{IsDesign}
-use Rattle.design_exec.specs.Processes.{Numbered, instances_of, process, processes_at, processes_of, body_of, stmt_of, else_of, signals_in, blocks_in, is_signal_of}
-use Rattle.net_core.specs.Nodes.{Shape, tree_of}
+use Rattle.design_exec.specs.Processes.{instances_of, process, processes_at, processes_of, body_of, stmt_of, else_of, signals_in, blocks_in, is_signal_of}
 use Rattle.check_exec.proofs.Facts.{in_parts, in_any, name_same}
 use Rattle.check_exec.proofs.Instances.{Stands, signals_are}
-use Rattle.world_core.specs.World.{Shown, Value, Unset}
-use Rattle.world_core.specs.Sites.{Site, site_body, sites_of, sites_in_order, is_unset}
-use Rattle.world_core.specs.Source.{value_shown, name_shown, unset_among, unset_at}
-use Rattle.lower_core.specs.declared.row.FullRow.{FullRow}
-use Rattle.lower_core.specs.Rows.{Spot, StandsIn, CellTold, CellsTold, EnableTold, RowTold}
-use Rattle.trail_net.specs.Told.{cell_shown, sample_shown}
+use Rattle.world_core.specs.World.{Value}
+use Rattle.world_core.specs.Sites.{Site, sites_of, sites_in_order}
+use Rattle.world_core.specs.Source.{value_shown}
 use Rattle.trail_net.proofs.Listing.{map_in, map_from, flat_in, flat_from, filter_from, at_number, not_in_from}
-use Rattle.trail_net.proofs.Status.{unset_means, unset_told}
-use Rattle.trail_net.proofs.SitesOf.{SiteIs, sites_are, SiteOf, site_of, IsOrdered, ordered, SpotIs, at_numbers}
+use Rattle.trail_net.proofs.SitesOf.{SiteOf, site_of, ordered, at_numbers}
 
 -- ---- the names in scope are known
 

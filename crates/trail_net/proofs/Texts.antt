@@ -1,6 +1,6 @@
 -- The text by rows and samples is the trail of the run.
 use Rattle.std.proofs.Common.{◌≡◌, ℕ, zero, suc, ◌+◌, ◌<◌, ◌==◌, Bool, true, false, true≢false, cond, List, [], ◌∷◌, ◌++◌, length, map, codes, Option, Some, None, option_map, if◌then◌else◌, inl, inr, refl, sym, ap, ap₂, ◌∙◌, subst, arith}
-use Rattle.std.specs.Prelude.{slice_get, slice_index_or, is_some, filter}
+use Rattle.std.specs.Prelude.{slice_get, is_some, filter}
 use Rattle.std.specs.List.{enumerate_from, flat_map}
 use Rattle.std.specs.Fmt.{decimal}
 use Rattle.std.proofs.lemmas.List.{length-map}
@@ -21,18 +21,15 @@ use Rattle.design_core.specs.WellFormed.{IsDesign}
 use Rattle.design_exec.specs.Processes.{Numbered, processes_of}
 use Rattle.symtab.specs.declared.parts.Slot.{Slot}
 use Rattle.symtab.specs.declared.parts.InstanceParts.{InstanceParts}
-use Rattle.stim_text.specs.Stimulus.{Stimulus}
 use Rattle.sim_hist.specs.Run.{run_samples}
 use Rattle.world_core.specs.World as world
 use Rattle.world_core.specs.World.{Shown, Shows, shown_text, gen_text, name_text, trail_line, path_in, position_text, trail_text}
 use Rattle.world_core.specs.Sites.{Site, slot_count, sites_in_order, instances_with}
-use Rattle.world_core.specs.Source.{settled_in, visit_in, name_shown, unset_at, shows_of, source_world}
-use Rattle.lower_core.specs.declared.mode.Mode.{Mode}
+use Rattle.world_core.specs.Source.{visit_in, shows_of, source_world}
 use Rattle.lower_core.specs.declared.row.FullRow.{FullRow}
-use Rattle.lower_core.specs.declared.row.Lowered as code
 use Rattle.lower_core.specs.Shape.{gen_part, instance_part, slot_part, shape_of}
-use Rattle.lower_core.specs.Rows.{Spot, spots_of, all_spots, RowTold, AreTold}
-use Rattle.trail_net.specs.Told.{CellsShow, RowShows, RowsShow, no_slot, no_instance, slot_at, path_at, variable_text, cells_text, line_text, is_one, row_text, cycle_text, rows_text, IsRunOf, RunShown, TextsAreTrails}
+use Rattle.lower_core.specs.Rows.{Spot, spots_of, all_spots, AreTold}
+use Rattle.trail_net.specs.Told.{CellsShow, RowShows, RowsShow, no_slot, no_instance, slot_at, path_at, variable_text, cells_text, line_text, is_one, row_text, cycle_text, TextsAreTrails}
 use Rattle.trail_net.proofs.Listing.{from_in, from_length, flat_map_twice, flat_map_same, flat_map_mapped}
 use Rattle.trail_net.proofs.SitesOf.{order_slots, at_slot, SpotIs, spot_is}
 use Rattle.trail_net.proofs.Spots.{not_there}

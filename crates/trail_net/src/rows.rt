@@ -51,7 +51,15 @@ fn push_row(
     }
     let slot = &shape.slots.items()[row.slot as usize];
     let instance = &shape.instances.items()[row.instance as usize];
-    push_line(alloc, text, trace, cycle, slot, &instance.path, row.cells.items())?;
+    push_line(
+        alloc,
+        text,
+        trace,
+        cycle,
+        slot,
+        &instance.path,
+        row.cells.items(),
+    )?;
     Ok(())
 }
 

@@ -35,7 +35,10 @@ pub fn write_trail<S: Sink>(
     ensures later { S.fault_count out.old ≤ S.fault_count out.new }
 {
     let Lowered {
-        net, rows, shape, ..
+        net,
+        rows,
+        shape,
+        ..
     } = lower(alloc, design, order, Mode::Keep)?;
     let cycles = stim.rows();
     let simulator = Simulator::new(alloc, net)?;

@@ -4,7 +4,6 @@ use Rattle.std.proofs.lemmas.Result.{err_from_is_err_and}
 use Rattle.io_edge.specs.Taken.{Appends, AppendsFront}
 use Rattle.design_core.specs.DesignView.{design_of}
 use Rattle.net_core.specs.Nets.{NetParts}
-use Rattle.stim_text.specs.Stimulus.{Stimulus}
 use Rattle.sim_core.specs.State.{Simulated}
 use Rattle.sim_hist.specs.Run.{InputsArePorts, Traced, run_samples}
 use Rattle.check_exec.specs.Premises.{IsSound}
