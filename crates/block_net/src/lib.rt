@@ -18,6 +18,7 @@ mod walk;
 
 pub use block::{BlockTerms, block_terms};
 pub use expression::expr_terms;
+pub use ids::IdMap;
 pub use key::Key;
 pub use laws::tells_the_sample;
 pub use step::Step;
