@@ -19,6 +19,7 @@ mod walk;
 pub use block::{BlockTerms, block_terms};
 pub use expression::expr_terms;
 pub use key::Key;
+pub use keys::assigned_by;
 pub use laws::tells_the_sample;
 pub use step::Step;
 pub use term::{Term, TermId};
