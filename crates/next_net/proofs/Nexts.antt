@@ -1,6 +1,7 @@
 -- Next values of registers, by nodes.
-use Rattle.std.proofs.Common.{◌≡◌, ℕ, zero, suc, ◌+◌, ◌<◌, Bool, true, false, cond, List, [], ◌∷◌, ◌++◌, length, map, take, Option, Some, None, unwrap_or, ◌⊎◌, inl, inr, ⊎_elim, refl, sym, ap, ap₂, ◌∙◌, subst, arith, eqb-true}
+use Rattle.std.proofs.Common.{◌≡◌, ℕ, zero, suc, ◌+◌, ◌<◌, Bool, true, false, cond, List, [], ◌∷◌, ◌++◌, length, map, take, get_or, Option, Some, None, unwrap_or, ◌⊎◌, inl, inr, ⊎_elim, refl, sym, ap, ap₂, ◌∙◌, subst, arith, eqb-true}
 use Rattle.std.specs.Prelude.{slice_get, find, filter, ◌==◌}
+use Rattle.std.proofs.lemmas.List.{map_push}
 use Rattle.std.proofs.lemmas.Option.{same_Some, none-some}
 use Rattle.bv_core.specs.declared.reference.NodeId.{NodeId}
 use Rattle.tree_core.specs.Tree.{Tree, Const, Leaf, One, Two, Mux, Origin, Input, Register, Whole}
@@ -24,9 +25,10 @@ use Rattle.design_exec.specs.Processes.{Given, processes_of, is_signal_of}
 use Rattle.net_core.specs.Nodes.{Shape, tree_of, width_at}
 use Rattle.net_core.specs.Builder.{AreShared, Keeps, Stands}
 use Rattle.net_core.proofs.TreeLists.{trees_length}
-use Rattle.net_core.specs.Nets.{IsNext, NextsFit, is_register}
+use Rattle.net_core.specs.Nets.{IsNext, NextsFit, is_register, nexts_of}
 use Rattle.check_exec.proofs.Facts.{in_at, in_index}
 use Rattle.term_net.proofs.Fitting.{stands_more}
+use Rattle.ssa_core.proofs.Listing.{more_of}
 use Rattle.ssa_core.proofs.Places.{get_map, get_mapped}
 use Rattle.ssa_state.specs.State.{AllOverGivens}
 use Rattle.ssa_nodes.specs.declared.parts.Parts as code
@@ -35,8 +37,9 @@ use Rattle.ssa_nodes.specs.Driving.{AllHave}
 use Rattle.ssa_nodes.proofs.Sources.{accepted, by_node}
 use Rattle.ssa_nodes.proofs.Driven.{key_at}
 use Rattle.next_net.specs.Writers.{IsFirst}
-use Rattle.next_net.specs.Registers.{registers_of}
-use Rattle.next_net.specs.Nexts.{HasNext, NextTold, AllNext, IsNextOf, AreNexts}
+use Rattle.next_net.specs.declared.register.Register as code_register
+use Rattle.next_net.specs.Registers.{register_as, registers_of}
+use Rattle.next_net.specs.Nexts.{HasNext, NextTold, AllNext, IsNextOf, NextStands, AreNexts}
 use Rattle.next_net.proofs.Picking.{filter_in, each_filter}
 use Rattle.next_net.proofs.Registers.{gives_register, registers_in, registers_given}
 
@@ -135,6 +138,14 @@ module _ (p : code.Parts) (h : HasParts p) where
         register = stands_more old new x.0 (folded_of p (Leaf q)) keeps are.0.register;
         next = stands_more old new x.1 (folded_of p (next_tree d q)) keeps are.0.next;
       }, nexts_kept old new qs pairs keeps are.1)
+
+  -- the next register of the list
+  pub nexts_more : (old new : List Shape) (registers : List code_register.Register) (i : ℕ) (r : code_register.Register) (nexts after : List (NodeId × NodeId)) (next : NodeId × NodeId) → i < length registers → r ≡ get_or registers i r → Keeps old new →
+      AreNexts p old (map register_as (take i registers)) (nexts_of nexts) → NextStands p new (register_as r) next → after ≡ nexts ++ next ∷ [] → AreNexts p new (map register_as (take (i + 1) registers)) (nexts_of after)
+  nexts_more old new registers i r nexts after next below at keeps are stands more =
+      subst (λ qs. AreNexts p new qs (nexts_of after)) (sym (ap (map register_as) (more_of registers i r below at) ∙ map_push register_as (take i registers) r))
+      (subst (AreNexts p new (map register_as (take i registers) ++ register_as r ∷ [])) (sym (ap nexts_of more ∙ map_push (λ (n : NodeId × NodeId). (n.0.0, n.1.0)) nexts next))
+      (nexts_push new (map register_as (take i registers)) (nexts_of nexts) (register_as r) (next.0.0, next.1.0) (nexts_kept old new (map register_as (take i registers)) (nexts_of nexts) keeps are) stands))
 
   next_at : (ns : List Shape) (qs : List Place) (pairs : List (ℕ × ℕ)) (k : ℕ) (pair : ℕ × ℕ) → AreNexts p ns qs pairs → slice_get pairs k ≡ Some pair → (q : Place) × ((slice_get qs k ≡ Some q) × IsNextOf p ns q pair)
   next_at ns qs [] k pair are e = absurd (none-some pair e)

@@ -136,13 +136,14 @@ marks_process all d k key block keys old new at are marks b e =
 writer_more : (xs : List Process) (x : Process) (q : Place) (o : Option ℕ) → IsWriter xs q o → IsWriter (xs ++ x ∷ []) q (first_of (writes_to q x) (length xs) o)
 writer_more xs x q o h = by_test (writes_to q x) refl o h
   where
-    by_test : (b : Bool) → writes_to q x ≡ b → (o : Option ℕ) → IsWriter xs q o → IsWriter (xs ++ x ∷ []) q (first_of b (length xs) o)
     kept : (j : ℕ) → IsFirst xs q j → IsFirst (xs ++ x ∷ []) q j
     kept j w = record {
       process = w.process;
       found = get_left xs (x ∷ []) j w.process w.found;
       first = find_push (writes_to q) xs x ∙ ap (λ f. or_else f (if writes_to q x then Some x else None)) w.first;
     }
+
+    by_test : (b : Bool) → writes_to q x ≡ b → (o : Option ℕ) → IsWriter xs q o → IsWriter (xs ++ x ∷ []) q (first_of b (length xs) o)
     by_test false e None h = find_push (writes_to q) xs x ∙ ap₂ or_else h (ap (λ b. if b then Some x else None) e)
     by_test true e None h = record {
       process = x;
@@ -159,8 +160,8 @@ process_of_key d keys bs k key are found =
     let m = get_mapped (λ (b : Process). Some b) bs k (process_at d key) (ap (λ l. slice_get l k) (sym are) ∙ get_map (process_at d) keys k key found) in
     (m.from, (m.found, sym m.is))
 
-pub writers_none : (bs : List Process) (count : ℕ) (all : List Numbers) (list : List (Option ℕ)) → length list ≡ count → ((n : ℕ) → get_or list n None ≡ None) → AreWriters (take 0 bs) count all list
-writers_none bs count all list long none = record {
+pub writers_none : (count : ℕ) (all : List Numbers) (list : List (Option ℕ)) → length list ≡ count → ((n : ℕ) → get_or list n None ≡ None) → AreWriters [] count all list
+writers_none count all list long none = record {
   long = long;
   each = λ q n o at found. subst (IsWriter [] q) (sym (none n) ∙ get_or_from_slice_get list n o None found) refl;
 }

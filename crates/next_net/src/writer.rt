@@ -1,4 +1,4 @@
-ghost use Rattle.std.specs.Prelude.{◌≡◌, ◌<◌, true, None, Some, length, slice_get, slice_set, slice_index_or, IfOk, OnOk};
+ghost use Rattle.std.specs.Prelude.{◌≡◌, ◌<◌, ℕ, [], true, None, Some, length, slice_get, slice_set, slice_index_or, IfOk, OnOk};
 ghost use Rattle.exec_core.specs.Block.{Next, same_key};
 ghost use Rattle.exec_core.specs.Design.{Process, writes_to};
 ghost use Rattle.design_core.specs.DesignView.{design_of};
@@ -16,7 +16,7 @@ use dep_order::{NumberMap, blocks_of};
 use design_core::Design;
 use ssa_core::{ProcessKey, number_of};
 use ssa_nodes::Parts;
-use std::alloc::Global;
+use std::alloc::{AllocError, Global};
 use text_core::NoMemory;
 
 /// A number of 32 bits; at 2^32 it answers that memory ran out.
@@ -24,6 +24,14 @@ fn in_32_bits(number: usize) -> Result<u32, NoMemory>
     ensures { IfOk result (λ found. found ≡ number) }
 {
     u32::try_from(number).map_err(|_| NoMemory)
+}
+
+/// No writers, at so many numbers.
+fn no_writers(alloc: Global, count: usize) -> Result<Vec<Option<u32>>, AllocError>
+    ensures count { IfOk result (λ list. length list.items ≡ count) }
+    ensures none { IfOk result (λ list. (n : ℕ) → slice_index_or list.items n None ≡ None) }
+{
+    vec![in alloc; None; count]
 }
 
 /// Puts a process beside a number, unless another stands there.
@@ -90,15 +98,29 @@ fn put_process(
     Ok(())
 }
 
+/// Puts each process beside the numbers of the registers that it writes.
+fn put_processes(
+    alloc: Global,
+    list: &mut [Option<u32>],
+    parts: &Parts<'_>,
+) -> Result<(), NoMemory>
+    requires parts { HasParts parts.now }
+    requires none { AreWriters [] parts.now.count (all_in parts.now) list.old }
+    ensures { OnOk result (AreWriters (processes_of (design_in parts.now)).processes parts.now.count (all_in parts.now) list.new) }
+{
+    for (place, key) in parts.keys.iter().enumerate() {
+        let process = in_32_bits(place)?;
+        put_process(alloc, list, &parts.maps, parts.design, process, *key)?;
+    }
+    Ok(())
+}
+
 /// The process that writes each signal, by the signals' numbers: the first one where there are several.
 pub(crate) fn writers_of(alloc: Global, parts: &Parts<'_>) -> Result<Vec<Option<u32>>, NoMemory>
     requires { HasParts parts.now }
     ensures { IfOk result (λ list. AreWriters (processes_of (design_in parts.now)).processes parts.now.count (all_in parts.now) list.items) }
 {
-    let mut list = vec![in alloc; None; parts.count]?;
-    for (place, key) in parts.keys.iter().enumerate() {
-        let process = in_32_bits(place)?;
-        put_process(alloc, &mut list, &parts.maps, parts.design, process, *key)?;
-    }
+    let mut list = no_writers(alloc, parts.count)?;
+    put_processes(alloc, &mut list, parts)?;
     Ok(list)
 }
