@@ -1,14 +1,13 @@
 -- Next values of registers, by nodes.
-use Rattle.std.proofs.Common.{◌≡◌, ℕ, zero, suc, ◌+◌, ◌<◌, Bool, true, false, cond, List, [], ◌∷◌, ◌++◌, length, map, take, get_or, Option, Some, None, unwrap_or, ◌⊎◌, inl, inr, ⊎_elim, refl, sym, ap, ap₂, ◌∙◌, subst, arith, eqb-true}
-use Rattle.std.specs.Prelude.{slice_get, find, filter, ◌==◌}
+use Rattle.std.proofs.Common.{◌≡◌, ℕ, zero, suc, ◌+◌, ◌<◌, Bool, true, false, cond, List, [], ◌∷◌, ◌++◌, length, map, take, get_or, Option, Some, None, unwrap_or, refl, sym, ap, ◌∙◌, subst, arith, eqb-true}
+use Rattle.std.specs.Prelude.{slice_get, filter, ◌==◌}
 use Rattle.std.proofs.lemmas.List.{map_push}
 use Rattle.std.proofs.lemmas.Option.{same_Some, none-some}
 use Rattle.bv_core.specs.declared.reference.NodeId.{NodeId}
 use Rattle.tree_core.specs.Tree.{Tree, Const, Leaf, One, Two, Mux, Origin, Input, Register, Whole}
-use Rattle.tree_core.specs.Width.{tree_width, width_of, origin_width, WellFormed}
+use Rattle.tree_core.specs.Width.{tree_width, WellFormed}
 use Rattle.tree_core.proofs.Same.{both_true}
 use Rattle.exec_core.specs.Block.{Name, Next, body_assigns}
-use Rattle.exec_core.specs.Leaves.{EachLeaf}
 use Rattle.exec_core.specs.Lists.{EachOf, IsIn}
 use Rattle.exec_core.specs.Paths.{TreeFits, TreesChecked}
 use Rattle.exec_core.specs.Trees.{block_trees}
@@ -18,7 +17,7 @@ use Rattle.exec_core.specs.States.{OverGivens}
 use Rattle.exec_core.specs.Design as exec
 use Rattle.exec_core.specs.Design.{Process, place, moved, signals_of, width_in, writes_to, next_of, next_tree, folded_tree}
 use Rattle.exec_core.proofs.Lists.{each_member, each_from, find_member, filter_member}
-use Rattle.exec_core.proofs.Moving.{Fits, moved_fits, good_leaves}
+use Rattle.exec_core.proofs.Moving.{moved_fits, good_leaves}
 use Rattle.exec_core.proofs.Sources.{process_checked, next_fits}
 use Rattle.exec_core.proofs.Wholes.{each_leaf}
 use Rattle.design_exec.specs.Processes.{Given, processes_of, is_signal_of}
@@ -32,14 +31,14 @@ use Rattle.ssa_core.proofs.Listing.{more_of}
 use Rattle.ssa_core.proofs.Places.{get_map, get_mapped}
 use Rattle.ssa_state.specs.State.{AllOverGivens}
 use Rattle.ssa_nodes.specs.declared.parts.Parts as code
-use Rattle.ssa_nodes.specs.Parts.{HasParts, IsEnd, EndStands, StandsBy, IsReadyBy, all_in, design_in, folded_of}
+use Rattle.ssa_nodes.specs.Parts.{HasParts, IsEnd, EndStands, StandsBy, IsReadyBy, design_in, folded_of}
 use Rattle.ssa_nodes.specs.Driving.{AllHave}
 use Rattle.ssa_nodes.proofs.Sources.{accepted, by_node}
 use Rattle.ssa_nodes.proofs.Driven.{key_at}
 use Rattle.next_net.specs.Writers.{IsFirst}
 use Rattle.next_net.specs.declared.register.Register as code_register
 use Rattle.next_net.specs.Registers.{register_as, registers_of}
-use Rattle.next_net.specs.Nexts.{HasNext, NextTold, AllNext, IsNextOf, NextStands, AreNexts}
+use Rattle.next_net.specs.Nexts.{NextTold, AllNext, IsNextOf, NextStands, AreNexts}
 use Rattle.next_net.proofs.Picking.{filter_in, each_filter}
 use Rattle.next_net.proofs.Registers.{gives_register, registers_in, registers_given}
 
@@ -133,11 +132,13 @@ module _ (p : code.Parts) (h : HasParts p) where
   nexts_kept old new [] [] keeps are = tt
   nexts_kept old new [] (x ∷ pairs) keeps are = are
   nexts_kept old new (q ∷ qs) [] keeps are = are
-  nexts_kept old new (q ∷ qs) (x ∷ pairs) keeps are =
-      (record {
-        register = stands_more old new x.0 (folded_of p (Leaf q)) keeps are.0.register;
-        next = stands_more old new x.1 (folded_of p (next_tree d q)) keeps are.0.next;
-      }, nexts_kept old new qs pairs keeps are.1)
+  nexts_kept old new (q ∷ qs) (x ∷ pairs) keeps are = (
+    record {
+      register = stands_more old new x.0 (folded_of p (Leaf q)) keeps are.0.register;
+      next = stands_more old new x.1 (folded_of p (next_tree d q)) keeps are.0.next;
+    },
+    nexts_kept old new qs pairs keeps are.1,
+  )
 
   -- the next register of the list
   pub nexts_more : (old new : List Shape) (registers : List code_register.Register) (i : ℕ) (r : code_register.Register) (nexts after : List (NodeId × NodeId)) (next : NodeId × NodeId) → i < length registers → r ≡ get_or registers i r → Keeps old new →

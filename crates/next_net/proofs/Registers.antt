@@ -1,7 +1,7 @@
 -- The registers that a design gives are those that the code lists.
 use Rattle.std.proofs.Common.{◌≡◌, ℕ, Bool, true, false, cond, List, [], ◌∷◌, map, refl}
 use Rattle.std.specs.Prelude.{filter}
-use Rattle.tree_core.specs.Tree.{Leaf, Origin, Input}
+use Rattle.tree_core.specs.Tree.{Leaf, Input}
 use Rattle.exec_core.specs.Block.{Name}
 use Rattle.exec_core.specs.Whole.{Place}
 use Rattle.design_core.specs.declared.variant.Signal.{Signal}

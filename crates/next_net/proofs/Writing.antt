@@ -1,15 +1,14 @@
 -- Processes that write registers, put beside the registers' numbers.
-use Rattle.std.proofs.Common.{◌≡◌, ℕ, zero, suc, ◌+◌, ◌<◌, ◌≤◌, Bool, true, false, ◌||◌, List, [], ◌∷◌, ◌++◌, length, map, take, get_or, Option, Some, None, ◌⊎◌, inl, inr, ⊎_elim, refl, sym, ap, ap₂, ◌∙◌, subst, arith, eqb-true, eq-eqb}
-use Rattle.std.specs.Prelude.{slice_get, find, option_map, bytes_eq, ◌&&◌, ◌==◌, if◌then◌else◌}
+use Rattle.std.proofs.Common.{◌≡◌, ℕ, ◌+◌, ◌<◌, Bool, true, false, ◌||◌, List, [], ◌∷◌, ◌++◌, length, map, take, get_or, Option, Some, None, ⊎_elim, refl, sym, ap, ap₂, ◌∙◌, subst, arith, eqb-true, eq-eqb}
+use Rattle.std.specs.Prelude.{slice_get, option_map, bytes_eq, ◌&&◌, ◌==◌, if◌then◌else◌}
 use Rattle.std.proofs.Math.ListN.{set}
-use Rattle.std.proofs.lemmas.List.{length-set, length-take, take_all}
-use Rattle.std.proofs.lemmas.Option.{same_Some, none-some, slice_get_within, slice_get_read, slice_get-get_or, get_or_from_slice_get}
+use Rattle.std.proofs.lemmas.List.{length-set, length-take}
+use Rattle.std.proofs.lemmas.Option.{same_Some, none-some, slice_get_within, slice_get-get_or, get_or_from_slice_get}
 use Rattle.std.proofs.lemmas.Slice.Eq.{bytes_eq-Decides}
 use Rattle.tree_core.proofs.Same.{both_true}
 use Rattle.exec_core.specs.Block.{Name, Key, Now, Next, same_key, body_assigns}
 use Rattle.exec_core.specs.Whole.{Place}
 use Rattle.exec_core.specs.Design.{Process, place, or_else, writes_to}
-use Rattle.exec_core.specs.Lists.{IsIn}
 use Rattle.design_core.specs.Design as design
 use Rattle.design_exec.specs.Processes.{process, signals_in, blocks_in, body_of}
 use Rattle.block_net.specs.declared.key.Key as code_key
@@ -115,8 +114,8 @@ module _ (all : List Numbers) (k : ℕ) where
           let a = writes_by i (among (take j keys)) q in
           let b = writes_by i (same_key (key_of key)) q in
           let both : (a || b) ≡ writes_by i (among (take (j + 1) keys)) q =
-              sym (and_either (i == q.instance) (among (take j keys) (Next q.name)) (same_key (key_of key) (Next q.name)))
-              ∙ ap (λ c. (i == q.instance) && c) (sym (among_push (take j keys) key (Next q.name)) ∙ ap (λ (l : List code_key.Key). among l (Next q.name)) (sym (more_of keys j key below at))) in
+          sym (and_either (i == q.instance) (among (take j keys) (Next q.name)) (same_key (key_of key) (Next q.name)))
+          ∙ ap (λ c. (i == q.instance) && c) (sym (among_push (take j keys) key (Next q.name)) ∙ ap (λ (l : List code_key.Key). among l (Next q.name)) (sym (more_of keys j key below at))) in
           now.each q n (first_of a k o) is (before.each q n o is found) ∙ ap (λ p. Some p) (first_twice a b k o) ∙ ap (λ c. Some (first_of c k o)) both
 
 -- ---- the process of a key

@@ -1,5 +1,5 @@
 -- Next values of registers, by nodes.
-use Rattle.std.specs.Prelude.{◌≡◌, ℕ, List, [], ◌∷◌, length}
+use Rattle.std.specs.Prelude.{ℕ, List, [], ◌∷◌}
 use Rattle.bv_core.specs.declared.reference.NodeId.{NodeId}
 use Rattle.tree_core.specs.Tree.{Leaf, Origin, Input, Register}
 use Rattle.exec_core.specs.Lists.{EachOf, IsIn}
@@ -9,7 +9,7 @@ use Rattle.design_exec.specs.Processes.{processes_of}
 use Rattle.net_core.specs.Nodes.{Shape}
 use Rattle.net_core.specs.Builder.{Stands}
 use Rattle.ssa_nodes.specs.declared.parts.Parts as code
-use Rattle.ssa_nodes.specs.Parts.{StandsBy, design_in, folded_of}
+use Rattle.ssa_nodes.specs.Parts.{design_in, folded_of}
 
 -- the next value of a register: a node that stands for the folded whole tree of what the register holds next
 pub record HasNext (p : code.Parts) (ns : List Shape) (nexts : List (ℕ × ℕ)) (q : Place) (o : Origin) : Type 0 where

@@ -1,6 +1,6 @@
 -- Which process writes each register.
-use Rattle.std.specs.Prelude.{◌≡◌, ℕ, ◌&&◌, ◌==◌, Bool, true, false, List, length, Option, Some, None, find, slice_get, slice_set, slice_index_or}
-use Rattle.exec_core.specs.Block.{Name, Key, Next}
+use Rattle.std.specs.Prelude.{◌≡◌, ℕ, ◌&&◌, ◌==◌, Bool, true, false, List, length, Option, Some, None, find, slice_get}
+use Rattle.exec_core.specs.Block.{Key, Next}
 use Rattle.exec_core.specs.Whole.{Place}
 use Rattle.exec_core.specs.Design.{Process, writes_to}
 use Rattle.dep_order.specs.Standing.{Numbers}

@@ -2,6 +2,7 @@
 #![tactic(auto)]
 
 mod next;
+mod number;
 mod register;
 mod writer;
 

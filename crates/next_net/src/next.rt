@@ -24,12 +24,7 @@ use std::alloc::Global;
 use text_core::NoMemory;
 
 /// The process that writes a signal, if one does.
-fn writer_at(
-    parts: &Parts<'_>,
-    writers: &[Option<u32>],
-    instance: u32,
-    name: &[u8],
-) -> Option<u32>
+fn writer_at(parts: &Parts<'_>, writers: &[Option<u32>], instance: u32, name: &[u8]) -> Option<u32>
     requires parts { HasParts parts.now }
     requires writers { AreWriters (processes_of (design_in parts.now)).processes parts.now.count (all_in parts.now) writers.now }
     requires signal { is_signal_of (design_in parts.now) (place instance name.now) ≡ true }
@@ -40,12 +35,7 @@ fn writer_at(
 }
 
 /// The node of a signal that has one.
-fn signal_node(
-    parts: &Parts<'_>,
-    nodes: &[Option<NodeId>],
-    instance: u32,
-    name: &[u8],
-) -> NodeId
+fn signal_node(parts: &Parts<'_>, nodes: &[Option<NodeId>], instance: u32, name: &[u8]) -> NodeId
     requires parts { HasParts parts.now }
     requires has { HasNode (all_in parts.now) nodes.now (place instance name.now) }
     ensures { node_of (all_in parts.now) nodes.now (place instance name.now) ≡ Some result }
@@ -107,7 +97,9 @@ fn register_next(
 {
     let id = signal_node(parts, nodes, instance, name);
     let writer = writer_at(parts, writers, instance, name);
-    let next = written_node(alloc, parts, builder, nodes, memos, writer, instance, name, id)?;
+    let next = written_node(
+        alloc, parts, builder, nodes, memos, writer, instance, name, id,
+    )?;
     Ok((id, next))
 }
 

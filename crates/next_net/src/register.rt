@@ -4,6 +4,7 @@ ghost use Rattle.design_core.specs.declared.variant.Signal.{Signal};
 ghost use Rattle.design_core.specs.DesignView.{design_of};
 ghost use Rattle.next_net.specs.Registers.{register_as, register_by, registers_at, registers_of};
 
+use crate::number::in_32_bits;
 use dep_order::signals_of;
 use design_core::{Design, Instance, Kind, Signal};
 use std::alloc::Global;
@@ -14,13 +15,6 @@ use text_core::NoMemory;
 pub(crate) struct Register<'a> {
     pub(crate) instance: u32,
     pub(crate) name: &'a [u8],
-}
-
-/// A number of 32 bits; at 2^32 it answers that memory ran out.
-fn in_32_bits(number: usize) -> Result<u32, NoMemory>
-    ensures { IfOk result (λ found. found ≡ number) }
-{
-    u32::try_from(number).map_err(|_| NoMemory)
 }
 
 /// Puts a signal of an instance last, if it is a register.

@@ -11,6 +11,7 @@ ghost use Rattle.ssa_core.specs.Processes.{process_at};
 ghost use Rattle.ssa_nodes.specs.Parts.{HasParts, all_in, design_in};
 ghost use Rattle.next_net.specs.Writers.{AreWriters, Marks, first_of, writes_by};
 
+use crate::number::in_32_bits;
 use block_net::{Key, assigned_by};
 use dep_order::{NumberMap, blocks_of};
 use design_core::Design;
@@ -18,13 +19,6 @@ use ssa_core::{ProcessKey, number_of};
 use ssa_nodes::Parts;
 use std::alloc::{AllocError, Global};
 use text_core::NoMemory;
-
-/// A number of 32 bits; at 2^32 it answers that memory ran out.
-fn in_32_bits(number: usize) -> Result<u32, NoMemory>
-    ensures { IfOk result (λ found. found ≡ number) }
-{
-    u32::try_from(number).map_err(|_| NoMemory)
-}
 
 /// No writers, at so many numbers.
 fn no_writers(alloc: Global, count: usize) -> Result<Vec<Option<u32>>, AllocError>
@@ -44,13 +38,7 @@ fn put_first(list: &mut [Option<u32>], number: u32, process: u32)
 }
 
 /// Puts a process beside the number of a register of an instance that a key names.
-fn put_key(
-    list: &mut [Option<u32>],
-    maps: &[NumberMap],
-    instance: u32,
-    process: u32,
-    key: &Key,
-)
+fn put_key(list: &mut [Option<u32>], maps: &[NumberMap], instance: u32, process: u32, key: &Key)
     requires { AreApart (length list.old) (numbers_of maps.now) }
     ensures { Marks (numbers_of maps.now) process (writes_by instance (same_key (key_of key.now))) list.old list.new }
 {
@@ -62,13 +50,7 @@ fn put_key(
 }
 
 /// The same of keys in order.
-fn put_keys(
-    list: &mut [Option<u32>],
-    maps: &[NumberMap],
-    instance: u32,
-    process: u32,
-    keys: &[Key],
-)
+fn put_keys(list: &mut [Option<u32>], maps: &[NumberMap], instance: u32, process: u32, keys: &[Key])
     requires { AreApart (length list.old) (numbers_of maps.now) }
     ensures { Marks (numbers_of maps.now) process (writes_by instance (among keys.now)) list.old list.new }
 {
@@ -99,11 +81,7 @@ fn put_process(
 }
 
 /// Puts each process beside the numbers of the registers that it writes.
-fn put_processes(
-    alloc: Global,
-    list: &mut [Option<u32>],
-    parts: &Parts<'_>,
-) -> Result<(), NoMemory>
+fn put_processes(alloc: Global, list: &mut [Option<u32>], parts: &Parts<'_>) -> Result<(), NoMemory>
     requires parts { HasParts parts.now }
     requires none { AreWriters [] parts.now.count (all_in parts.now) list.old }
     ensures { OnOk result (AreWriters (processes_of (design_in parts.now)).processes parts.now.count (all_in parts.now) list.new) }

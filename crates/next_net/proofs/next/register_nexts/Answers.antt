@@ -1,4 +1,4 @@
-use Rattle.std.proofs.Common.{◌≡◌, true, length, get_or, map}
+use Rattle.std.proofs.Common.{◌≡◌, true, get_or, map}
 use Rattle.std.proofs.lemmas.Option.{slice_get-get_or}
 use Rattle.check_exec.proofs.Facts.{each_at}
 use Rattle.design_exec.specs.Processes.{is_signal_of}

@@ -1,4 +1,4 @@
-use Rattle.std.proofs.Common.{◌≡◌, ◌<◌, map, sym, ap, ◌∙◌, ◌++◌, [], length, get_or, arith}
+use Rattle.std.proofs.Common.{◌≡◌, ◌<◌, map, ap, ◌∙◌, ◌++◌, [], length, get_or, arith}
 use Rattle.design_core.specs.DesignView.{design_of}
 use Rattle.ssa_core.proofs.Listing.{plain_more}
 use Rattle.next_net.specs.Registers.{register_as, registers_at}

@@ -1,8 +1,8 @@
-use Rattle.std.proofs.Common.{◌≡◌, ◌<◌, Some, length, get_or, None, sym, ap, ◌∙◌, subst}
+use Rattle.std.proofs.Common.{◌<◌, length, sym, subst}
 use Rattle.exec_core.specs.Block.{Next, same_key}
 use Rattle.exec_core.specs.Design.{place}
 use Rattle.block_net.specs.Logs.{key_of}
-use Rattle.dep_order.specs.Numbering.{number_in, numbers_of}
+use Rattle.dep_order.specs.Numbering.{numbers_of}
 use Rattle.next_net.specs.Writers.{Marks, writes_by}
 use Rattle.next_net.proofs.Writing.{marks_put}
 use Rattle.next_net.proofs.writer.put_key.Goals as goal
