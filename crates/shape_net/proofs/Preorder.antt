@@ -1,6 +1,6 @@
 -- The statements of a body in preorder, by what each is known by.
-use Rattle.std.proofs.Common.{◌≡◌, ℕ, ◌+◌, ◌<◌, Bool, List, [], ◌∷◌, ◌++◌, length, map, drop, get_or, Option, Vec, Global, refl, sym, ap, ap₂, ◌∙◌, append_assoc}
-use Rattle.std.specs.List.{enumerate_from, flat_map}
+use Rattle.std.proofs.Common.{◌≡◌, ℕ, ◌+◌, ◌<◌, List, [], ◌∷◌, ◌++◌, length, map, drop, get_or, Option, Vec, Global, refl, sym, ap, ap₂, ◌∙◌, append_assoc}
+use Rattle.std.specs.List.{flat_map}
 use Rattle.std.proofs.lemmas.List.{append-nil, map-append, drop_more}
 use Rattle.exec_core.specs.Block.{Name}
 use Rattle.design_core.specs.declared.variant.Signal.{Signal}
@@ -9,7 +9,7 @@ use Rattle.design_core.specs.declared.expr.Expr as code_expr
 use Rattle.design_core.specs.declared.statement.Stmt as code_stmt
 use Rattle.design_core.specs.declared.statement.Stmt.TheVariants as code_stmts
 use Rattle.design_core.specs.Design.{Gens, Stmt, Assign, Let, If, Body, Done, Then, Else, NoElse, Otherwise, Block}
-use Rattle.design_core.specs.Slots.{Head, stmt_heads, heads, else_heads, let_of, lets_of, else_lets}
+use Rattle.design_core.specs.Slots.{stmt_heads, heads, else_heads, let_of, lets_of, else_lets}
 use Rattle.design_core.specs.View.{stmt_of, variant_of}
 use Rattle.design_core.proofs.Views.{stmt_assign, stmt_if}
 use Rattle.check_core.specs.Statements.{inside, statements, else_statements}

@@ -39,7 +39,10 @@ fn variant_copy(alloc: Global, variant: &Variant) -> Result<VariantParts, NoMemo
 }
 
 /// The variants of a design, in order.
-pub(crate) fn variants_of(alloc: Global, variants: &[Variant]) -> Result<Listed<VariantParts>, NoMemory>
+pub(crate) fn variants_of(
+    alloc: Global,
+    variants: &[Variant],
+) -> Result<Listed<VariantParts>, NoMemory>
     ensures { IfOk result (λ parts. parts ≡ map variant_part (map variant_of variants.now)) }
 {
     let mut parts = Vec::new(alloc);
@@ -60,7 +63,10 @@ fn instance_copy(alloc: Global, instance: &Instance) -> Result<InstanceParts, No
 }
 
 /// The instances of a design, in order.
-pub(crate) fn instances_of(alloc: Global, instances: &[Instance]) -> Result<Listed<InstanceParts>, NoMemory>
+pub(crate) fn instances_of(
+    alloc: Global,
+    instances: &[Instance],
+) -> Result<Listed<InstanceParts>, NoMemory>
     ensures { IfOk result (λ parts. parts ≡ map instance_part instances.now) }
 {
     let mut parts = Vec::new(alloc);

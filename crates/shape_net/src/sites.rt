@@ -122,7 +122,10 @@ fn put_variant(
 }
 
 /// The statements of all variants with their numbers, variant by variant.
-pub(crate) fn numbered_slots(alloc: Global, variants: &[Variant]) -> Result<Vec<NumberedSlot>, NoMemory>
+pub(crate) fn numbered_slots(
+    alloc: Global,
+    variants: &[Variant],
+) -> Result<Vec<NumberedSlot>, NoMemory>
     requires { length variants.now ≤ 4096 }
     ensures { IfOk result (λ slots. slots.items ≡ design_slots 0 (map variant_of variants.now)) }
 {

@@ -1,4 +1,4 @@
-use Rattle.std.proofs.Common.{◌≡◌, ◌≤◌, ◌∙◌, ap, sym, subst, map, length}
+use Rattle.std.proofs.Common.{◌≤◌, ◌∙◌, ap, sym, subst, map, length}
 use Rattle.std.proofs.lemmas.List.{length-map}
 use Rattle.design_core.specs.DesignView.{design_of}
 use Rattle.design_core.specs.View.{variant_of}
