@@ -20,6 +20,7 @@ pub use block::{BlockTerms, block_terms};
 pub use expression::expr_terms;
 pub use ids::IdMap;
 pub use key::Key;
+pub use keys::assigned_by;
 pub use laws::tells_the_sample;
 pub use step::Step;
 pub use term::{Term, TermId};

@@ -8,5 +8,5 @@ mod source;
 
 pub use parts::{Parts, names_of};
 pub use process::{block_of, next_node, process_node, target_node};
-pub use resolve::resolve_all;
+pub use resolve::{is_placed, resolve_all};
 pub use source::{link_node, no_nodes};

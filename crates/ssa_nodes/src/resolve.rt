@@ -59,7 +59,7 @@ fn driver_node(
 }
 
 /// Whether there is a node at a place.
-fn is_placed(nodes: &[Option<NodeId>], number: u32) -> bool
+pub fn is_placed(nodes: &[Option<NodeId>], number: u32) -> bool
     requires { number < length nodes.now }
     ensures { result ≡ is_some (slice_index_or nodes.now number None) }
 {
