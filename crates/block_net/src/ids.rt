@@ -40,12 +40,7 @@ impl IdMap {
     }
 
     /// Puts a name in, in place of what it had.
-    pub fn put(
-        &mut self,
-        alloc: Global,
-        name: &[u8],
-        id: Option<TermId>,
-    ) -> Result<(), NoMemory>
+    pub fn put(&mut self, alloc: Global, name: &[u8], id: Option<TermId>) -> Result<(), NoMemory>
         ensures { OnOk result (value_of self.new ≡ put_value name.now id (value_of self.old)) }
     {
         self.ids.insert(name.to_vec(alloc)?, id)?;

@@ -1,16 +1,16 @@
 -- The node of a name that is a signal.
-use Rattle.std.proofs.Common.{◌≡◌, ◌<◌, ℕ, List, Option, Some, None, IsSome, length, refl, sym, ap, ◌∙◌, subst}
+use Rattle.std.proofs.Common.{◌≡◌, ◌<◌, ℕ, List, Option, Some, None, IsSome, length, sym, ap, ◌∙◌, subst}
 use Rattle.bv_core.specs.declared.reference.NodeId.{NodeId}
 use Rattle.tree_core.specs.Tree.{Leaf}
 use Rattle.tree_core.specs.Fold.{folded}
 use Rattle.exec_core.specs.Block.{Name}
 use Rattle.net_core.specs.Nodes.{Shape, tree_of}
-use Rattle.net_core.specs.Builder.{AreShared, Stands}
+use Rattle.net_core.specs.Builder.{AreShared}
 use Rattle.block_net.specs.declared.term.Term.{Term}
 use Rattle.block_net.specs.declared.term.TermId.{TermId}
 use Rattle.block_net.specs.Walks.{held}
 use Rattle.term_net.specs.Growth.{AreNodes}
-use Rattle.term_net.specs.Leaves.{node_in, leaf_id, leaf_tree, tree_for, whole_of}
+use Rattle.term_net.specs.Leaves.{node_in, leaf_id, leaf_tree, tree_for}
 use Rattle.term_net.proofs.Wholes.{node_folded, whole_leaf}
 use Rattle.ssa_state.specs.Held.{CanHaveNode, NodeTold}
 

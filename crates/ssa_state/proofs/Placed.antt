@@ -1,5 +1,5 @@
 -- Trees over the names of an instance whose signals have nodes: their nodes stand for folded whole trees of the design.
-use Rattle.std.proofs.Common.{◌≡◌, ℕ, true, List, Option, Some, None, IsSome, length, refl, sym, ap, ap₂, ◌∙◌, subst}
+use Rattle.std.proofs.Common.{◌≡◌, ℕ, true, List, Option, Some, None, IsSome, refl, sym, ap, ap₂, ◌∙◌, subst}
 use Rattle.bv_core.specs.declared.reference.NodeId.{NodeId}
 use Rattle.bv_core.specs.Operators.{Fits1, Fits2, width1_of, width2_of}
 use Rattle.tree_core.specs.Tree.{Tree, Const, Leaf, One, Two, Mux, Whole}
@@ -7,17 +7,15 @@ use Rattle.tree_core.specs.Width.{width_of, WellFormed, tree_width, origin_width
 use Rattle.tree_core.specs.Fold.{folded, fold1, fold2, fold3, same_origin}
 use Rattle.exec_core.specs.Block.{Name}
 use Rattle.exec_core.specs.Leaves.{replace, EachLeaf}
-use Rattle.exec_core.specs.Whole.{Place}
 use Rattle.exec_core.specs.Design as exec
 use Rattle.exec_core.specs.Design.{place, moved, folded_tree}
 use Rattle.exec_core.specs.States.{NodeByNode}
-use Rattle.net_core.specs.Nodes.{Shape, tree_of}
+use Rattle.net_core.specs.Nodes.{Shape}
 use Rattle.net_core.specs.Builder.{AreShared}
 use Rattle.dep_order.specs.Standing.{Numbers}
-use Rattle.dep_order.specs.Numbering.{number_in}
-use Rattle.term_net.specs.Leaves.{node_in, leaf_id, leaf_tree, tree_for, whole_of, IsReady}
+use Rattle.term_net.specs.Leaves.{leaf_id, leaf_tree, tree_for, whole_of, IsReady}
 use Rattle.term_net.proofs.Wholes.{node_folded}
-use Rattle.ssa_state.specs.State.{names_in, node_of, HasNode, SignalsTold, IsReadyIn}
+use Rattle.ssa_state.specs.State.{names_in, HasNode, SignalsTold}
 
 module _ (d : exec.Design) (n : ℕ) (by : NodeByNode d n) (all : List Numbers) (ns : List Shape) (nodes : List (Option NodeId)) (shared : AreShared ns) (told : SignalsTold d n all ns nodes) (i : ℕ) where
   abbrev ids : Name → Option NodeId

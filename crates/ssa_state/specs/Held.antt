@@ -1,5 +1,5 @@
 -- What a name of a block has somewhere, as a node: itself, a term, or nothing.
-use Rattle.std.specs.Prelude.{◌≡◌, List, Option, Some, None}
+use Rattle.std.specs.Prelude.{List, Option, Some, None}
 use Rattle.bv_core.specs.declared.reference.NodeId.{NodeId}
 use Rattle.tree_core.specs.Tree.{Tree, Whole}
 use Rattle.exec_core.specs.Block.{Name}

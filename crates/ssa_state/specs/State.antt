@@ -1,9 +1,8 @@
 -- What lowering has come to: nodes of signals and of the terms of blocks.
-use Rattle.std.specs.Prelude.{◌≡◌, ℕ, ◌<◌, true, List, length, Option, Some, None, IsSome, slice_get}
+use Rattle.std.specs.Prelude.{◌≡◌, ℕ, ◌<◌, true, List, length, Option, Some, IsSome, slice_get}
 use Rattle.bv_core.specs.declared.reference.NodeId.{NodeId}
 use Rattle.tree_core.specs.Tree.{Tree, Leaf}
 use Rattle.tree_core.specs.Width.{WellFormed}
-use Rattle.exec_core.specs.Block.{Name}
 use Rattle.exec_core.specs.Leaves.{EachLeaf}
 use Rattle.exec_core.specs.Whole.{Place}
 use Rattle.exec_core.specs.Design as exec
