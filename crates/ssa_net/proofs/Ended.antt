@@ -4,7 +4,9 @@ use Rattle.std.specs.Prelude.{slice_index_or}
 use Rattle.std.proofs.lemmas.Option.{none-some}
 use Rattle.bv_core.specs.declared.reference.NodeId.{NodeId}
 use Rattle.tree_core.specs.Tree.{Tree, Leaf, Origin, Input, Register}
+use Rattle.exec_core.specs.Block.{Name}
 use Rattle.exec_core.specs.Lists.{EachOf, IsIn}
+use Rattle.exec_core.specs.Design.{next_tree}
 use Rattle.exec_core.specs.Whole.{Place}
 use Rattle.exec_core.proofs.Lists.{each_member}
 use Rattle.design_core.specs.Design as design
@@ -14,7 +16,14 @@ use Rattle.check_exec.proofs.Facts.{in_at, each_index}
 use Rattle.dep_order.specs.Numbering.{number_in}
 use Rattle.net_core.specs.Nodes.{Shape}
 use Rattle.net_core.specs.Builder.{AreShared, Stands}
-use Rattle.lower_core.specs.Lowered.{HasNode}
+use Rattle.net_core.specs.Nets.{NetParts, IsNet}
+use Rattle.lower_core.specs.declared.mode.Mode.{Mode}
+use Rattle.lower_core.specs.declared.row.Lowered as lowered
+use Rattle.lower_core.specs.Shape.{shape_of}
+use Rattle.lower_core.specs.Rows.{AreTold, all_spots}
+use Rattle.lower_core.specs.Lowered.{HasNode, OutputsTold, NextTold as NextIs, IsLowered}
+use Rattle.next_net.specs.Nexts.{NextTold, AllNext}
+use Rattle.dep_order.specs.Results.{Pair}
 use Rattle.term_net.specs.Leaves.{node_at, node_in}
 use Rattle.ssa_state.specs.State.{node_of, AllOverGivens}
 use Rattle.ssa_nodes.specs.declared.parts.Parts as code
@@ -50,3 +59,49 @@ givens_have p h ns nodes memos s all = each_index (HasNode ns) (processes_of (de
           id = id.0;
           stands = subst (Stands ns id.0) (each_member (λ (g : Place × Origin). folded_of p (Leaf g.0) ≡ Leaf g.1) (processes_of (design_in p)).givens (by_node p h).given given m) (s.signals.told given.0 id at);
         }
+
+-- ---- next values
+
+next_of : (p : code.Parts) (net : NetParts) (ns : List Shape) (nexts : List (ℕ × ℕ)) → net.nodes ≡ ns → net.nexts ≡ nexts → (q : Place) (o : Origin) → NextTold p ns nexts q o → NextIs (design_in p) (length p.order.now) net q o
+next_of p net ns nexts e f q (Input name width) h = tt
+next_of p net ns nexts e f q (Register instance name start) h = record {
+  id = h.id;
+  next = h.next;
+  among = subst (IsIn (h.id, h.next)) (sym f) h.among;
+  register = subst (λ s. Stands s h.id (Leaf (Register instance name start))) (sym e) h.register;
+  stands = subst (λ s. Stands s h.next (folded_of p (next_tree (processes_of (design_in p)) q))) (sym e) h.stands;
+}
+
+pub all_next : (p : code.Parts) (net : NetParts) (ns : List Shape) (nexts : List (ℕ × ℕ)) (givens : List (Place × Origin)) → net.nodes ≡ ns → net.nexts ≡ nexts → EachOf (λ given. NextTold p ns nexts given.0 given.1) givens → EachOf (λ given. NextIs (design_in p) (length p.order.now) net given.0 given.1) givens
+all_next p net ns nexts [] e f h = tt
+all_next p net ns nexts (g ∷ givens) e f h = (next_of p net ns nexts e f g.0 g.1 h.0, all_next p net ns nexts givens e f h.1)
+
+-- ---- the whole
+
+pub lowered_by :
+    (p : code.Parts) → HasParts p → (nodes : List (Option NodeId)) (memos : List (List (Option NodeId))) (ns : List Shape) (outputs : List (Name × ℕ)) (nexts : List (ℕ × ℕ)) (wanted : Mode) (l : lowered.Lowered)
+    → HasState p ns nodes memos → AllHave p nodes
+    → l.mode ≡ wanted → l.shape ≡ shape_of (design_in p) → IsNet l.net → l.net ≡ record { nodes = ns; outputs = outputs; nexts = nexts }
+    → AreTold (design_in p) (length p.order.now) ns (all_spots (design_in p)) l.rows
+    → OutputsTold (design_in p) (length p.order.now) ns (ports_in true (top_signals (design_in p))) outputs → AllNext p ns nexts
+    → IsLowered (design_in p) (length p.order.now) wanted l
+lowered_by p h nodes memos ns outputs nexts wanted l s all mode shape net is rows outs next =
+    let e : l.net.nodes ≡ ns = ap (λ (n : NetParts). n.nodes) is in
+    let o : l.net.outputs ≡ outputs = ap (λ (n : NetParts). n.outputs) is in
+    let f : l.net.nexts ≡ nexts = ap (λ (n : NetParts). n.nexts) is in
+    let d = design_in p in
+    let n = length p.order.now in
+    record {
+      mode = mode;
+      shape = shape;
+      is_net = net;
+      rows = subst (λ m. AreTold d n m (all_spots d) l.rows) (sym e) rows;
+      outputs = subst (λ m. OutputsTold d n m (ports_in true (top_signals d)) l.net.outputs) (sym e) (subst (OutputsTold d n ns (ports_in true (top_signals d))) (sym o) outs);
+      givens = subst (λ m. EachOf (HasNode m) (processes_of d).givens) (sym e) (givens_have p h ns nodes memos s all);
+      nexts = all_next p l.net ns nexts (processes_of d).givens e f next;
+      over = subst (AllOverGivens (processes_of d)) (sym e) s.over;
+    }
+
+-- of this design and order
+pub lowered_of : (p : code.Parts) (d : design.Design) (order : List Pair) (wanted : Mode) (l : lowered.Lowered) → design_in p ≡ d → p.order.now ≡ order → IsLowered (design_in p) (length p.order.now) wanted l → IsLowered d (length order) wanted l
+lowered_of p d order wanted l e f h = subst (λ x. IsLowered x (length order) wanted l) e (subst (λ os. IsLowered (design_in p) (length os) wanted l) f h)

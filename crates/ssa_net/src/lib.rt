@@ -1,6 +1,7 @@
 //! An accepted design as a net: the blocks of its instances become choices and enables over inputs and registers.
 #![tactic(auto)]
 
+mod ends;
 mod lowering;
 mod memo;
 mod outputs;

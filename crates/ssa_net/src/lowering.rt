@@ -1,25 +1,41 @@
-ghost use Rattle.std.specs.Prelude.{◌≡◌, None, IfOk, length};
+ghost use Rattle.std.specs.Prelude.{◌≡◌, None, true, IfOk, length};
 ghost use Rattle.design_core.specs.DesignView.{design_of};
 ghost use Rattle.check_core.specs.Verdict.{verdict};
 ghost use Rattle.dep_order.specs.Results.{TellsOrder};
 ghost use Rattle.lower_core.specs.Lowered.{IsLowered};
 
+use crate::ends::ends_of;
+use crate::parts::parts_of;
+use crate::signals::signal_nodes;
 use dep_order::Order;
 use design_core::Design;
 use lower_core::{Lowered, Mode};
+use net_core::NetBuilder;
+use shape_net::shape_of;
 use std::alloc::Global;
-use text_core::NoMemory;
+use text_core::{Listed, NoMemory};
 
-/// An accepted design as a net, along an order of its driven signals.
+/// An accepted design as a net, along an order of its driven signals. Each block is run once for its variant, and each instance of it
+/// evaluates the terms of that run over its own signals; inputs of the top and registers are leaves.
 pub fn lower(
-    _alloc: Global,
-    _design: &Design,
-    _order: &Order,
-    _mode: Mode,
+    alloc: Global,
+    design: &Design,
+    order: &Order,
+    mode: Mode,
 ) -> Result<Lowered, NoMemory>
-    requires accepted { verdict (design_of _design.now) ≡ None }
-    requires order { TellsOrder (design_of _design.now) _order.now }
-    ensures { IfOk result (IsLowered (design_of _design.now) (length _order.now) _mode) }
+    requires accepted { verdict (design_of design.now) ≡ None }
+    requires order { TellsOrder (design_of design.now) order.now }
+    ensures { IfOk result (IsLowered (design_of design.now) (length order.now) mode) }
 {
-    Err(NoMemory)
+    let parts = parts_of(alloc, design, order)?;
+    let mut builder = NetBuilder::new(alloc)?;
+    let (nodes, mut memos) = signal_nodes(alloc, &parts, &mut builder)?;
+    let ends = ends_of(alloc, &parts, &mut builder, &nodes, &mut memos)?;
+    let shape = shape_of(alloc, design)?;
+    Ok(Lowered {
+        net: builder.finish(ends.outputs, ends.nexts),
+        rows: Listed::new(ends.rows),
+        mode,
+        shape,
+    })
 }
