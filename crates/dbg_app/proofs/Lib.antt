@@ -1,3 +1,6 @@
 mod Ending
+mod Asking
 mod Judging
+mod Running
+mod PortsFit
 mod Given
