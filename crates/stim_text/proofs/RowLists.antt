@@ -1,13 +1,15 @@
 -- Rows that lie one behind the other.
-use Rattle.std.proofs.Common.{◌≡◌, ℕ, zero, suc, ◌+◌, ◌*◌, ◌<◌, ◌≤◌, Bool, true, false, List, [], ◌∷◌, ◌++◌, Option, Some, None, Result, Ok, Err, length, take, drop, refl, ap, sym, ◌∙◌, arith, subst, length-append}
+use Rattle.std.proofs.Common.{◌≡◌, ℕ, zero, suc, ◌+◌, ◌*◌, ◌^◌, ◌<◌, ◌≤◌, Bool, true, false, not, nat_lt, nat_le, ltb-true, leb-true, List, [], ◌∷◌, ◌++◌, Option, Some, None, Result, Ok, Err, length, take, drop, refl, ap, sym, ◌∙◌, arith, subst, length-append}
 use Rattle.std.specs.Prelude.{map, All, slice_get, ◌&&◌, if◌then◌else◌}
-use Rattle.std.specs.List.{position_from, zip}
+use Rattle.std.specs.List.{list_all, position_from, zip}
+use Rattle.std.proofs.lemmas.Bool.{and_parts}
 use Rattle.std.specs.Str.Lines.{lines}
 use Rattle.std.proofs.lemmas.List.{drop-drop, length-map, take-append-le, drop-append-le, take_all, length-drop}
 use Rattle.std.proofs.lemmas.List.Elements.{All-cons, All-nil, All-head, All-tail}
 use Rattle.std.proofs.Math.Nat.{mul-le-mul_right}
-use Rattle.bv_core.specs.Value.{Bits}
-use Rattle.stim_text.specs.Fields.{fields, is_number}
+use Rattle.bv_core.specs.Value.{Bits, IsBits}
+use Rattle.design_core.specs.Ports.{has_width}
+use Rattle.stim_text.specs.Fields.{fields, is_number, number_in}
 use Rattle.stim_text.specs.Rows.{Input, after, in_front, unless_too_large, is_too_large, value_in, values_from, are_numbers, row_of, rows_from}
 use Rattle.stim_text.specs.Stimulus.{rows_in}
 use Rattle.stim_text.proofs.RowLemmas.{after-in_front}
@@ -65,6 +67,60 @@ all_widths row inputs [] [] e = All-nil (HasWidths inputs)
 all_widths row inputs [] (x ∷ xs) e = cc
 all_widths row inputs (line ∷ lines) found e =
     rest_widths row inputs line (row_of row inputs line) (rows_from (row + 1) inputs lines) found refl (λ others is. all_widths (row + 1) inputs lines others is) e
+
+-- ---- each value fits its width
+
+pub has_width_is : (input : Input) → has_width input ≡ true → (1 ≤ input.1) × (input.1 ≤ 128)
+has_width_is input e =
+    let both = and_parts (nat_le 1 input.1) (nat_le input.1 128) e in
+    (leb-true 1 input.1 both.0, leb-true input.1 128 both.1)
+
+fits_by : (cell : Input × List ℕ) → nat_lt (number_in cell.1) (2 ^ cell.0.1) ≡ true → has_width cell.0 ≡ true → IsBits (value_in cell)
+fits_by cell e w = let wide = has_width_is cell.0 w in record { some = wide.0; most = wide.1; fits = ltb-true (number_in cell.1) (2 ^ cell.0.1) e }
+
+not_large : (b : Bool) (column : ℕ) (more : Option ℕ) → (if not b then Some column else more) ≡ None → (b ≡ true) × (more ≡ None)
+not_large true column more e = (refl, e)
+not_large false column more e = cc
+
+cell_bits : (inputs : List Input) (fields : List (List ℕ)) (column : ℕ) → list_all has_width inputs ≡ true → position_from is_too_large column (zip inputs fields) ≡ None
+    → All IsBits (map value_in (zip inputs fields))
+cell_bits [] fields column wide e = All-nil IsBits
+cell_bits (input ∷ inputs) [] column wide e = All-nil IsBits
+cell_bits (input ∷ inputs) (field ∷ fields) column wide e =
+    let both = and_parts (has_width input) (list_all has_width inputs) wide in
+    let small = not_large (nat_lt (number_in field) (2 ^ input.1)) column (position_from is_too_large (column + 1) (zip inputs fields)) e in
+    All-cons IsBits (value_in (input, field)) (map value_in (zip inputs fields)) (fits_by (input, field) small.0 both.0) (cell_bits inputs fields (column + 1) both.1 small.1)
+
+bits_unless : (row : ℕ) (column : Option ℕ) (values found : List Bits) → unless_too_large row column values ≡ Ok found → (column ≡ None → All IsBits values) → All IsBits found
+bits_unless row (Some column) values found e h = cc
+bits_unless row None values found e h = subst (All IsBits) (sym (unless_is row None values found e)) (h refl)
+
+row_bits_by : (row : ℕ) (inputs : List Input) (fields : List (List ℕ)) (found : List Bits) (b : Bool) → list_all has_width inputs ≡ true → (if b then values_from row 0 (zip inputs fields) else Err (BadRow row)) ≡ Ok found
+    → All IsBits found
+row_bits_by row inputs fields found true wide e =
+    bits_unless row (position_from is_too_large 0 (zip inputs fields)) (map value_in (zip inputs fields)) found e (cell_bits inputs fields 0 wide)
+row_bits_by row inputs fields found false wide e = cc
+
+row_bits : (row : ℕ) (inputs : List Input) (line : List ℕ) (found : List Bits) → list_all has_width inputs ≡ true → row_of row inputs line ≡ Ok found → All IsBits found
+row_bits row inputs line found wide e = row_bits_by row inputs (fields line) found (are_numbers inputs (fields line)) wide e
+
+rest_bits : (row : ℕ) (inputs : List Input) (line : List ℕ) (first : Result (List Bits) StimFault) (more : Result (List (List Bits)) StimFault) (found : List (List Bits)) → list_all has_width inputs ≡ true
+    → row_of row inputs line ≡ first → ((others : List (List Bits)) → more ≡ Ok others → All (All IsBits) others) → in_front first more ≡ Ok found → All (All IsBits) found
+rest_bits row inputs line (Err fault) more found wide is on e = cc
+rest_bits row inputs line (Ok x) (Err fault) found wide is on e = cc
+rest_bits row inputs line (Ok x) (Ok xs) [] wide is on e = cc
+rest_bits row inputs line (Ok x) (Ok xs) (y ∷ ys) wide is on e =
+    let same : Ok (x ∷ xs) ≡ Ok (y ∷ ys) = e in
+    let head : y ≡ x = cc in
+    let tail : ys ≡ xs = cc in
+    rw (head, tail) (All-cons (All IsBits) x xs (row_bits row inputs line x wide is) (on xs refl))
+
+-- each value of each row is one
+pub all_bits : (row : ℕ) (inputs : List Input) (lines : List (List ℕ)) (found : List (List Bits)) → list_all has_width inputs ≡ true → rows_from row inputs lines ≡ Ok found → All (All IsBits) found
+all_bits row inputs [] [] wide e = All-nil (All IsBits)
+all_bits row inputs [] (x ∷ xs) wide e = cc
+all_bits row inputs (line ∷ lines) found wide e =
+    rest_bits row inputs line (row_of row inputs line) (rows_from (row + 1) inputs lines) found wide refl (λ others is. all_bits (row + 1) inputs lines others wide is) e
 
 -- as many rows as were cut
 pub length-rows_in : {X : Type 0} (len count : ℕ) (xs : List X) → length (rows_in len count xs) ≡ count

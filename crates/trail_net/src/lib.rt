@@ -2,7 +2,9 @@
 #![tactic(auto)]
 
 mod end;
+mod laws;
 mod write;
 
 pub use end::TrailEnd;
+pub use laws::accepted_designs_run;
 pub use write::write_trail;
