@@ -23,7 +23,7 @@ use Rattle.dbg_app.specs.declared.design_fault.DesignFault.TheVariants.{Text, El
 use Rattle.dbg_app.specs.declared.accepted.Accepted.{Accepted}
 use Rattle.dbg_app.specs.Refusals.{refusal_after, told_fault}
 use Rattle.dbg_app.specs.Judged.{IsOrdered, JudgesDesign, JudgesModules, JudgesSource, JudgesStimulus, IsWhole, HasTrail, HoldsBoth}
-use Rattle.dbg_app.proofs.Running.{designs_run}
+use Rattle.trail_net.proofs.Running.{designs_run}
 
 -- ---- a source
 

@@ -1,6 +1,5 @@
 mod Ending
 mod Asking
 mod Judging
-mod Running
 mod PortsFit
 mod Given

@@ -17,7 +17,6 @@ pub(crate) struct Accepted {
 
 impl Accepted {
     /// The top of the design as its surroundings see it.
-    #[tactic(auto, using(crate::proofs::PortsFit::top_fits))]
     pub(crate) fn ports(&self, alloc: Global) -> Result<Ports, NoMemory>
         requires { IsOrdered self.now }
         ensures { IfOk result (ArePortsOf (design_of self.now.design)) }
