@@ -1,4 +1,5 @@
 mod Ending
+mod Writing
 mod Asking
 mod Judging
 mod PortsFit

@@ -132,7 +132,6 @@ fn judge_stimulus<F: Files>(
 }
 
 /// Reads the files of a command in the order of its words, and judges each.
-#[tactic(auto, using(crate::proofs::Judging::has_trail))]
 fn judge_row<F: Files>(alloc: Global, row: &Row<'_>, files: &mut F) -> Result<Judged, Stop>
     ensures judged { IfOk result (λ judged. IfSome (F.told files.old) (λ told. JudgesRow told (row_as row.now) judged)) }
     ensures rows { IfOk result HasRows }

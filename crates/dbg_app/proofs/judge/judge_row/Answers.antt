@@ -1,7 +1,7 @@
 use Rattle.std.proofs.Common.{refl, [], ◌∷◌}
 use Rattle.io_edge.proofs.Growth.{front_after, front_of_front}
 use Rattle.dbg_app.specs.Rows.{row_as}
-use Rattle.dbg_app.proofs.Judging.{accepted_row, refused_row}
+use Rattle.dbg_app.proofs.Judging.{has_trail, accepted_row, refused_row}
 use Rattle.dbg_app.proofs.judge.judge_row.Goals as goal
 
 pub returns-in_err-accepted-clause-front : goal.returns-in_err-accepted-clause-front
@@ -27,3 +27,7 @@ returns-in-Err-2-clause-judged g c =
 pub returns-in-Err-2-clause-front : goal.returns-in-Err-2-clause-front
 returns-in-Err-2-clause-front g c =
     front_after _ _ _ (c.args.row.now.source.now ∷ []) (c.args.row.now.stimulus.now ∷ []) [] _ refl c.in_ok-accepted.ensures.asked c.judge_stimulus.ensures.front
+
+pub returns-in-Ok-2-clause-rows : goal.returns-in-Ok-2-clause-rows
+returns-in-Ok-2-clause-rows g c =
+    has_trail c.in-Ok.accepted c.in_ok-ports.ports c.in-Ok-2.stim (rw c.in-Ok.is at c.in_ok-accepted.ensures.fit) c.in_ok-ports.ensures.inputs (rw c.in-Ok-2.is at c.in_ok-stim.ensures.whole)
