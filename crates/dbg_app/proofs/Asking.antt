@@ -1,5 +1,5 @@
 -- A command asks for one answer, or for the loops of one design; and the text that goes with what was judged is that of each answer.
-use Rattle.std.proofs.Common.{◌≡◌, ℕ, true, List, [], ◌∷◌, Option, Some, None, Result, Ok, Err, length, nat_le, if◌then◌else◌, refl, sym, ◌∙◌, ap, subst, ◌⊎◌, inl, inr}
+use Rattle.std.proofs.Common.{◌≡◌, ℕ, List, [], ◌∷◌, Option, Some, None, Result, Ok, Err, length, nat_le, if◌then◌else◌, refl, sym, ◌∙◌, ap, subst, ◌⊎◌, inl, inr}
 use Rattle.std.specs.Prelude.{option_map}
 use Rattle.std.specs.Str.Lines.{lines}
 use Rattle.io_edge.specs.Taken.{Appends}
@@ -10,7 +10,6 @@ use Rattle.gen_text.proofs.Answers.{one_reading, no_fault, one_fault}
 use Rattle.elab_core.specs.Walk as walk
 use Rattle.elab_core.specs.Design.{elaborated}
 use Rattle.exec_core.specs.Block.{Name}
-use Rattle.exec_core.specs.Whole.{Place}
 use Rattle.design_core.specs.declared.Ports.{Ports}
 use Rattle.design_core.specs.Design.{Design}
 use Rattle.design_core.specs.DesignView.{design_of}
@@ -28,9 +27,8 @@ use Rattle.dbg_app.specs.declared.design_fault.DesignFault.TheVariants.{Text, El
 use Rattle.dbg_app.specs.declared.accepted.Accepted.{Accepted}
 use Rattle.dbg_app.specs.declared.judge.Judged.{Judged}
 use Rattle.dbg_app.specs.declared.judge.Judged.TheVariants as judged
-use Rattle.dbg_app.specs.Loops.{loop_fault}
 use Rattle.dbg_app.specs.Refusals.{refusal_after, refusal_of}
-use Rattle.dbg_app.specs.Answers.{Answer, Contents, Asks, NoDesign, NoStimulus, Trail, IsChecked, IsAccepted, HasLoop, IsRefused, IsDesignCause, ArePortsOf, RefusesDesign, RefusesStimulus, RefusesLoop, ShowsTrail, design_fault, stimulus_fault}
+use Rattle.dbg_app.specs.Answers.{Answer, Contents, Asks, NoDesign, NoStimulus, Trail, IsChecked, IsAccepted, HasLoop, IsRefused, IsDesignCause, ArePortsOf, RefusesDesign, RefusesStimulus, ShowsTrail, design_fault, stimulus_fault}
 use Rattle.dbg_app.specs.Judged.{JudgesRow, HoldsBoth, TakesText, judged_status}
 use Rattle.dbg_app.specs.Outcome.{TakesAnswer}
 
@@ -178,12 +176,12 @@ refusal_taken files row given asked old new r s t =
     elim (one_cause row.top s.source r.fault s.fault cause s.cause) [
       | inl same ↦ inl (subst (λ (text : List ℕ). Appends old new text) (text_of given _ r.is ∙ ap design_fault same ∙ sym (text_of asked _ s.is)) t)
       | inr loops ↦ inr (record {
-          design = loops.design;
-          asked = record { source = s.source; found = s.found; paths = loops.others; loop = loops.other; is = s.is ∙ ap (λ (f : DesignFault). record { status = 3; text = design_fault f }) loops.second };
-          other = given;
-          also_asked = record { source = s.source; found = s.found; paths = loops.paths; loop = loops.one; is = r.is ∙ ap (λ (f : DesignFault). record { status = 3; text = design_fault f }) loops.first };
-          taken = t;
-        })
+        design = loops.design;
+        asked = record { source = s.source; found = s.found; paths = loops.others; loop = loops.other; is = s.is ∙ ap (λ (f : DesignFault). record { status = 3; text = design_fault f }) loops.second };
+        other = given;
+        also_asked = record { source = s.source; found = s.found; paths = loops.paths; loop = loops.one; is = r.is ∙ ap (λ (f : DesignFault). record { status = 3; text = design_fault f }) loops.first };
+        taken = t;
+      })
     ]
   where
     cause : IsDesignCause row.top s.source r.fault

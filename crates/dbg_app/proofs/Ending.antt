@@ -1,5 +1,5 @@
 -- How a run ends, from what was judged and written.
-use Rattle.std.proofs.Common.{◌≡◌, ◌<◌, ◌≤◌, ℕ, Bool, true, false, ◌||◌, ◌==◌, nat_lt, lit<, List, [], Option, Some, None, refl, sym, ◌∙◌, subst, IsTrue, ◌⊎◌, inl, inr, append-nil, arith}
+use Rattle.std.proofs.Common.{◌≡◌, ◌<◌, ℕ, Bool, true, false, ◌||◌, ◌==◌, nat_lt, lit<, List, [], Option, Some, None, refl, sym, ◌∙◌, subst, IsTrue, ◌⊎◌, inl, inr, append-nil, arith}
 use Rattle.std.proofs.lemmas.Bool.Decides.{nat_tests}
 use Rattle.io_edge.specs.Taken.{AppendsFront}
 use Rattle.io_edge.proofs.Growth.{front_from_whole}
@@ -7,7 +7,7 @@ use Rattle.design_core.specs.DesignView.{design_of}
 use Rattle.world_core.specs.World.{trail_text}
 use Rattle.world_core.specs.Source.{source_world}
 use Rattle.dbg_app.specs.Command.{Row}
-use Rattle.dbg_app.specs.Answers.{Contents, Asks, NoDesign, NoStimulus, Trail, ShowsTrail, usage_fault, design_fault, stimulus_fault, IfAsked}
+use Rattle.dbg_app.specs.Answers.{Contents, Asks, NoDesign, NoStimulus, Trail, usage_fault, design_fault, stimulus_fault, IfAsked}
 use Rattle.dbg_app.specs.Judged.{JudgesRow, HasRows, HasTrail, HoldsBoth, TakesText, TakesTextFront, judged_status}
 use Rattle.dbg_app.specs.Outcome.{is_status, TakesDesignLine, TakesStimulusLine, TakesSome, EndsAsAsked, Completes}
 use Rattle.dbg_app.specs.declared.accepted.Accepted.{Accepted}
@@ -149,18 +149,5 @@ written_completes (Some files) (Some row) judged status old new read_rose write_
       | inl h ↦ let found = answer_taken files row judged old new j (early h) answer asks in inl (is h ∙ found.0, found.1)
       | inr (inl e) ↦ absurd (seven e)
       | inr (inr (inl e)) ↦ absurd (no_write (write e))
-      | inr (inr (inr e)) ↦ inr e
-    ]
-
--- nothing was written
-pub stopped_completes : (told : Option Contents) (row : Option Row) (status : ℕ) (old new : Option (List ℕ)) (read_rose write_rose : Type 0) → IsTrue (is_status status) → 7 ≤ status → (status ≡ 7 → read_rose) → (status ≡ 8 → ⊥)
-    → IfAsked told row (λ files row. Completes files row status old new read_rose write_rose)
-stopped_completes None row status old new read_rose write_rose known late read eight = tt
-stopped_completes (Some files) None status old new read_rose write_rose known late read eight = tt
-stopped_completes (Some files) (Some row) status old new read_rose write_rose known late read eight = λ answer asks no_read no_write.
-    elim (late_status status known) [
-      | inl h ↦ absurd (omega (arith, h, late))
-      | inr (inl e) ↦ absurd (no_read (read e))
-      | inr (inr (inl e)) ↦ absurd (eight e)
       | inr (inr (inr e)) ↦ inr e
     ]

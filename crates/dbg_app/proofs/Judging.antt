@@ -1,14 +1,7 @@
 -- What was judged, file by file, is what the command asks for.
-use Rattle.std.proofs.Common.{◌≡◌, ◌≢◌, true, false, List, Option, Some, None, Result, Ok, Err, IfSome, refl, sym, ap, ◌∙◌}
-use Rattle.std.specs.Prelude.{option_map}
+use Rattle.std.proofs.Common.{◌≡◌, ◌≢◌, List, Option, Some, None, Result, Ok, Err, IfSome, refl, ap, ◌∙◌}
 use Rattle.bv_core.specs.Value.{Bits}
-use Rattle.gen_tree.specs.Tree as tree
-use Rattle.elab_core.specs.Results as elab_results
-use Rattle.elab_core.specs.Design.{elaborated}
-use Rattle.elab_core.specs.declared.fault.ElabFault.{ElabFault}
-use Rattle.elab_core.specs.declared.fault.ElabFault.TheVariants as elab_faults
 use Rattle.design_core.specs.declared.Ports.{Ports}
-use Rattle.design_core.specs.Design.{Design}
 use Rattle.design_core.specs.DesignView.{design_of}
 use Rattle.check_exec.specs.Premises.{IsSound}
 use Rattle.stim_text.specs.Rows.{Gives}
@@ -16,42 +9,11 @@ use Rattle.stim_text.specs.Stimulus.{Stimulus}
 use Rattle.stim_text.specs.declared.StimFault.{StimFault}
 use Rattle.stim_text.specs.declared.StimFault.TheVariants.{HeaderMismatch, BadRow, DoesNotFit, TooLong, NoMemory}
 use Rattle.trail_net.specs.Runs.{HasInputs}
-use Rattle.dbg_app.specs.Command.{Top, Row}
+use Rattle.dbg_app.specs.Command.{Row}
 use Rattle.dbg_app.specs.Answers.{Contents, ArePortsOf, RefusesStimulus, stimulus_fault}
-use Rattle.dbg_app.specs.declared.design_fault.DesignFault.{DesignFault}
-use Rattle.dbg_app.specs.declared.design_fault.DesignFault.TheVariants.{Text, Elaboration, Check, CombLoop}
 use Rattle.dbg_app.specs.declared.accepted.Accepted.{Accepted}
-use Rattle.dbg_app.specs.Refusals.{refusal_after, told_fault}
-use Rattle.dbg_app.specs.Judged.{IsOrdered, JudgesDesign, JudgesModules, JudgesSource, JudgesStimulus, IsWhole, HasTrail, HoldsBoth}
+use Rattle.dbg_app.specs.Judged.{IsOrdered, JudgesSource, JudgesStimulus, IsWhole, HasTrail, HoldsBoth}
 use Rattle.trail_net.proofs.Running.{designs_run}
-
--- ---- a source
-
--- modules whose design was judged were judged so
-pub design_so : (top : Top) (modules : List tree.Module) (d : Design) (found : Result Accepted DesignFault) → elaborated modules top.name top.given ≡ Ok d → JudgesDesign d found → JudgesModules top modules found
-design_so top modules d (Ok a) e j = λ source reads.
-    record { checked = record { modules = modules; reads = reads; elaborates = e ∙ ap (λ (x : Design). Ok x) (sym j.0); clean = j.1.clean }; pairs = a.order; order = j.1.order }
-design_so top modules d (Err (Text fault)) e j = absurd j
-design_so top modules d (Err (Elaboration fault)) e j = absurd j
-design_so top modules d (Err (Check fault)) e j = λ source reads.
-    record { modules = modules; reads = reads; refused = ap refusal_after e ∙ ap (option_map (λ f. Check f)) j }
-design_so top modules d (Err (CombLoop paths)) e j = λ source reads.
-    (d, record { checked = record { modules = modules; reads = reads; elaborates = e; clean = j.clean }; pairs = j.pairs; loop = j.loop; told = j.told })
-
--- a faulty event is told as the fault that it is
-told_again : (fault : ElabFault) → elab_results.is_fault fault ≡ true → told_fault (elab_results.fault_of fault) ≡ fault
-told_again (elab_faults.UnknownModule line x) e = refl
-told_again (elab_faults.UnknownParameter line x) e = refl
-told_again (elab_faults.ElabRange line) e = refl
-told_again (elab_faults.TooDeep line x) e = refl
-told_again (elab_faults.TooLarge line what limit) e = refl
-told_again elab_faults.NoMemory e = absurd cc
-
--- modules that are not elaborated were judged so
-pub elaboration_so : (top : Top) (modules : List tree.Module) (fault : ElabFault) → elab_results.is_fault fault ≡ true → elaborated modules top.name top.given ≡ Err (elab_results.fault_of fault)
-    → JudgesModules top modules (Err (Elaboration fault))
-elaboration_so top modules fault known e = λ source reads.
-    record { modules = modules; reads = reads; refused = ap refusal_after e ∙ ap (λ f. Some (Elaboration f)) (told_again fault known) }
 
 -- ---- a stimulus
 

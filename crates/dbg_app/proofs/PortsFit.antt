@@ -1,5 +1,5 @@
 -- The inputs and outputs of the top of an accepted design have widths from 1 to 128.
-use Rattle.std.proofs.Common.{◌≡◌, Bool, true, ◌&&◌, List, [], ◌∷◌, Option, Some, None, option_map, unwrap_or, refl, ap, ap₂, ◌∙◌}
+use Rattle.std.proofs.Common.{◌≡◌, true, ◌&&◌, List, [], ◌∷◌, Option, Some, None, option_map, unwrap_or, refl, ap, ap₂, ◌∙◌}
 use Rattle.std.specs.Prelude.{slice_get}
 use Rattle.exec_core.specs.Lists.{EachOf}
 use Rattle.exec_core.proofs.Lists.{each_from}

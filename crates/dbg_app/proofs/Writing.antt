@@ -1,6 +1,5 @@
 -- What was written is the text that goes with what was judged.
-use Rattle.std.proofs.Common.{◌≡◌, List, ℕ, Option, Result, Ok, Err, OnOk, OnErr, refl, sym, subst}
-use Rattle.bv_core.specs.Value.{Bits}
+use Rattle.std.proofs.Common.{◌≡◌, List, ℕ, Option, Result, Ok, Err, OnErr, refl, sym, subst}
 use Rattle.io_edge.specs.Taken.{Appends}
 use Rattle.io_edge.proofs.Growth.{no_growth}
 use Rattle.design_core.specs.DesignView.{design_of}
@@ -11,10 +10,6 @@ use Rattle.dbg_app.specs.Judged.{TakesText, TakesTextFront}
 use Rattle.dbg_app.specs.declared.accepted.Accepted.{Accepted}
 use Rattle.dbg_app.specs.declared.judge.Judged.{Judged}
 use Rattle.dbg_app.specs.declared.judge.Judged.TheVariants as judged
-
-pub on_ok_so : {A E : Type 0} (r : Result A E) (P Q : Type 0) → (P → Q) → OnOk r P → OnOk r Q
-on_ok_so (Ok a) P Q f p = f p
-on_ok_so (Err e) P Q f p = tt
 
 pub on_err_always : {A E : Type 0} (r : Result A E) (P : Type 0) → P → OnErr r P
 on_err_always (Ok a) P p = tt
