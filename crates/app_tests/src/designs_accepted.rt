@@ -321,11 +321,7 @@ fn sources_that_are_accepted_have_their_lines(rt: HostRuntime) -> Result<(), Fai
 fn sources_that_are_accepted_go_on_to_their_stimulus(rt: HostRuntime) -> Result<(), Fail> {
     for (what, source) in &GO_ON {
         let outcome = trail(rt.alloc(), source.as_bytes(), b"?\n", "P")?;
-        let goes_on = outcome.is(
-            4,
-            "stimulus fault 1 HeaderMismatch\n",
-            &["P.hg", "P.stim"],
-        )?;
+        let goes_on = outcome.is(4, "stimulus fault 1 HeaderMismatch\n", &["P.hg", "P.stim"])?;
         assert!(rt; goes_on, "{what}");
     }
     Ok(())
