@@ -6,3 +6,4 @@ pub mod BodySteps
 pub mod BlockSteps
 pub mod SetSteps
 pub mod Sampled
+pub mod Alone

@@ -1,14 +1,15 @@
 -- A block's terms and log as contracts see them, and what they tell of it.
-use Rattle.std.specs.Prelude.{◌≡◌, Bool, List, Option, Some, None, if◌then◌else◌}
+use Rattle.std.specs.Prelude.{◌≡◌, ◌<◌, Bool, List, length, Option, Some, None, if◌then◌else◌}
 use Rattle.tree_core.specs.Tree as tree
 use Rattle.tree_core.specs.Tree.{Tree}
-use Rattle.exec_core.specs.Block.{Name, Key, Now, Next, Body}
+use Rattle.exec_core.specs.Block.{Name, Expr, Key, Now, Next, Body}
 use Rattle.exec_core.specs.Exec.{Env, start}
 use Rattle.exec_core.specs.Trees.{block_rows, block_trees}
 use Rattle.check_core.specs.Maps.{value_of, put_value}
 use Rattle.block_net.specs.declared.step.Step.{Step}
 use Rattle.block_net.specs.declared.term.Term.{Term}
 use Rattle.block_net.specs.declared.term.TermId.{TermId}
+use Rattle.block_net.specs.Terms.{tree_at, trees_of}
 use Rattle.block_net.specs.Logs.{AreWithin, ends_of, rows_of}
 use Rattle.block_net.specs.Walks.{FitBy, env_by}
 
@@ -33,6 +34,11 @@ pub record Tells (parts : BlockParts) (body : Body) : Type 0 where
   pub rows : rows_of parts.terms parts.log (start body tree.Leaf) ≡ block_rows body
   pub ends : ends_in parts ≡ block_trees body
   pub log_ends : ends_of parts.terms parts.log (start body tree.Leaf) ≡ block_trees body
+
+-- a term has this tree
+pub record TellsExpr (terms : List Term) (id : TermId) (e : Expr) : Type 0 where
+  pub within : id.0 < length terms
+  pub is : tree_at (trees_of terms) id.0 ≡ e
 
 -- names that have no tree: those whose keys are among these
 abbrev pub hidden : (Key → Bool) → Name → Option (Option TermId)

@@ -2,7 +2,7 @@
 use Rattle.std.specs.Prelude.{◌≡◌, List, [], ◌∷◌, ◌++◌, map, Option, Some, None, Bool, false, ◌||◌, if◌then◌else◌}
 use Rattle.tree_core.specs.Tree as tree
 use Rattle.tree_core.specs.Tree.{Tree}
-use Rattle.exec_core.specs.Block.{Name, Key, Now, Next, same_key, Stmt, Body, body_assigns}
+use Rattle.exec_core.specs.Block.{Name, Key, Now, Next, same_key, key_name, Stmt, Body, body_assigns}
 use Rattle.exec_core.specs.Exec.{Env, on_three}
 use Rattle.exec_core.specs.Trees.{Row, rows, body_rows, trees_after, body_trees_after}
 use Rattle.check_core.specs.Maps.{value_of}
@@ -24,6 +24,10 @@ held ns x (Some id) = tree_for ns id
 abbrev pub env_by : List Term → (Name → Option (Option TermId)) → (Name → Option (Option TermId)) → Env (Tree Name)
 env_by ns now next (Now x) = held ns x (now x)
 env_by ns now next (Next x) = held ns x (next x)
+
+-- each name is itself, and so is what each register holds next
+abbrev pub themselves : Env (Tree Name)
+themselves y = Some (tree.Leaf (key_name y))
 
 abbrev pub env_of : Walk → Env (Tree Name)
 env_of w = env_by w.terms (value_of w.now) (value_of w.next)

@@ -42,6 +42,20 @@ impl Model for BlockTerms {
 }
 
 impl BlockTerms {
+    /// What a walk without a log has come to.
+    pub(crate) fn of(walk: Walk) -> BlockTerms
+        requires fits { Fits walk }
+        requires log { walk.log.items ≡ [] }
+        ensures { result.terms ≡ walk.terms }
+    {
+        BlockTerms {
+            terms: walk.terms,
+            log: walk.log,
+            names: walk.now,
+            registers: walk.next,
+        }
+    }
+
     /// The terms, each above its operands.
     pub fn terms(&self) -> &[Term]
         ensures terms { result.now ≡ self.now.terms }
@@ -70,14 +84,16 @@ impl BlockTerms {
 
     /// What a name has at the end; None where it still is what it has settled at, and no term stands for that.
     pub fn name(&self, name: &[u8]) -> Option<Option<TermId>>
-        ensures { result ≡ value_of self.now.names name.now }
+        ensures id { result ≡ value_of self.now.names name.now }
+        ensures linked { AreLinked self.now }
     {
         self.names.get(name)
     }
 
     /// What a register holds in the next cycle; None where it is what it holds now, and no term stands for that.
     pub fn register(&self, name: &[u8]) -> Option<Option<TermId>>
-        ensures { result ≡ value_of self.now.registers name.now }
+        ensures id { result ≡ value_of self.now.registers name.now }
+        ensures linked { AreLinked self.now }
     {
         self.registers.get(name)
     }

@@ -9,7 +9,7 @@ use text_core::NoMemory;
 
 /// What names have: a term, or none. Contracts see the names with their terms; `value_of` tells a name's.
 #[derive(Drop)]
-pub(crate) struct IdMap {
+pub struct IdMap {
     ids: IndexMap<Vec<u8>, Option<TermId>>,
 }
 
@@ -24,7 +24,7 @@ impl Model for IdMap {
 
 impl IdMap {
     /// No names. Takes no memory.
-    pub(crate) fn new(alloc: Global) -> IdMap
+    pub fn new(alloc: Global) -> IdMap
         ensures { value_of result ≡ no_value }
     {
         IdMap {
@@ -40,7 +40,7 @@ impl IdMap {
     }
 
     /// Puts a name in, in place of what it had.
-    pub(crate) fn put(
+    pub fn put(
         &mut self,
         alloc: Global,
         name: &[u8],

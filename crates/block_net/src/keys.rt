@@ -85,7 +85,7 @@ fn collect_else(
 }
 
 /// The keys that statements assign, one for each assignment.
-pub(crate) fn assigned_by(
+pub fn assigned_by(
     alloc: Global,
     clocked: bool,
     stmts: &[Stmt],

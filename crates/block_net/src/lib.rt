@@ -4,6 +4,7 @@
 mod bindings;
 mod block;
 mod body;
+mod expression;
 mod growing;
 mod ids;
 mod key;
@@ -16,7 +17,10 @@ mod terms;
 mod walk;
 
 pub use block::{BlockTerms, block_terms};
+pub use expression::expr_terms;
+pub use ids::IdMap;
 pub use key::Key;
+pub use keys::assigned_by;
 pub use laws::tells_the_sample;
 pub use step::Step;
 pub use term::{Term, TermId};

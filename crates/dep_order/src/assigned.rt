@@ -83,7 +83,7 @@ fn put_body<'a>(
 }
 
 /// The names that a body assigns by `=` or `let`; an assignment of a clocked block is none.
-pub(crate) fn assigned_in<'a>(
+pub fn assigned_in<'a>(
     alloc: Global,
     clocked: bool,
     body: &'a [Stmt],

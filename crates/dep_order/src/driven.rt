@@ -11,7 +11,7 @@ ghost use Rattle.dep_order.specs.Results.{TellsOrder};
 use crate::answer::{Order, OrderFault};
 use crate::instances::{drive_links, drive_processes};
 use crate::maps::NumberMap;
-use crate::numbering::{count_instances, in_32_bits};
+use crate::numbering::{in_32_bits, number_signals};
 use crate::signals::order_signals;
 use design_core::Design;
 use graph_order::{Graph, GraphFault};
@@ -154,8 +154,6 @@ pub fn order(alloc: Global, design: &Design) -> Result<Order, OrderFault>
     ensures order { IfOk result (TellsOrder (design_of design.now)) }
     ensures cycle { IfErr result (TellsFault (design_of design.now)) }
 {
-    let mut maps = Vec::new(alloc);
-    let mut pairs = Vec::new(alloc);
-    count_instances(alloc, design, &mut maps, &mut pairs)?;
+    let (maps, pairs) = number_signals(alloc, design)?;
     order_counted(alloc, design, &maps, &pairs)
 }

@@ -21,7 +21,7 @@ use std::alloc::Global;
 use text_core::NoMemory;
 
 /// The children of a variant, by its number; none where there is no such variant.
-fn children_of(variants: &[Variant], variant: u32) -> &[Child]
+pub fn children_of(variants: &[Variant], variant: u32) -> &[Child]
     ensures { map child_of result.now ≡ children_at variant (map variant_of variants.now) }
 {
     match variants.get(variant as usize) {
@@ -31,7 +31,7 @@ fn children_of(variants: &[Variant], variant: u32) -> &[Child]
 }
 
 /// The blocks of a variant, by its number; none where there is no such variant.
-fn blocks_of(variants: &[Variant], variant: u32) -> &[Block]
+pub fn blocks_of(variants: &[Variant], variant: u32) -> &[Block]
     ensures { map block_of result.now ≡ blocks_at variant (map variant_of variants.now) }
 {
     match variants.get(variant as usize) {
@@ -52,7 +52,7 @@ fn stands_in(parent: Option<u32>, instance: u32) -> bool
 
 /// The numbers of the instances that stand in an instance, in order.
 #[tactic(auto, using(crate::proofs::Linked::next_below, crate::proofs::Linked::last_below))]
-fn numbers_below(alloc: Global, design: &Design, instance: u32) -> Result<Vec<u32>, NoMemory>
+pub fn numbers_below(alloc: Global, design: &Design, instance: u32) -> Result<Vec<u32>, NoMemory>
     ensures { IfOk result (λ below. below.items ≡ numbers_below (design_of design.now) instance) }
 {
     let mut below = Vec::new(alloc);

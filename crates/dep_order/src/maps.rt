@@ -7,9 +7,9 @@ use std::alloc::Global;
 use std::marker::Model;
 use text_core::NoMemory;
 
-/// The vertices of names. Contracts see the names with their vertices; `value_of` tells a name's.
+/// Numbers of names. Contracts see the names with their numbers; `value_of` tells a name's.
 #[derive(Drop)]
-pub(crate) struct NumberMap {
+pub struct NumberMap {
     numbers: IndexMap<Vec<u8>, u32>,
 }
 
@@ -23,7 +23,7 @@ impl Model for NumberMap {
 
 impl NumberMap {
     /// No names. Takes no memory.
-    pub(crate) fn new(alloc: Global) -> NumberMap
+    pub fn new(alloc: Global) -> NumberMap
         ensures { value_of result ≡ no_value }
     {
         NumberMap {
@@ -31,18 +31,18 @@ impl NumberMap {
         }
     }
 
-    /// The vertex of a name.
-    pub(crate) fn get(&self, name: &[u8]) -> Option<u32>
+    /// The number of a name.
+    pub fn get(&self, name: &[u8]) -> Option<u32>
         ensures { result ≡ value_of self.now name.now }
     {
         self.numbers.get(name).copied()
     }
 
-    /// Puts a name in with a vertex, in place of the one that it had.
-    pub(crate) fn put(&mut self, alloc: Global, name: &[u8], vertex: u32) -> Result<(), NoMemory>
-        ensures { OnOk result (value_of self.new ≡ put_value name.now vertex (value_of self.old)) }
+    /// Puts a name in with a number, in place of the one that it had.
+    pub fn put(&mut self, alloc: Global, name: &[u8], number: u32) -> Result<(), NoMemory>
+        ensures { OnOk result (value_of self.new ≡ put_value name.now number (value_of self.old)) }
     {
-        self.numbers.insert(name.to_vec(alloc)?, vertex)?;
+        self.numbers.insert(name.to_vec(alloc)?, number)?;
         Ok(())
     }
 }

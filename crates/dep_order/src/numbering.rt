@@ -3,6 +3,7 @@ ghost use Rattle.design_core.specs.View.{variant_of};
 ghost use Rattle.design_core.specs.DesignView.{design_of};
 ghost use Rattle.design_core.specs.WellFormed.{signals_at};
 ghost use Rattle.check_core.specs.Maps.{no_value, value_of};
+ghost use Rattle.dep_order.specs.Ordering.{AreCounted};
 ghost use Rattle.dep_order.specs.Numbering.{count_signal, count_signals, count_instances, numbers_of};
 
 use crate::maps::NumberMap;
@@ -70,7 +71,7 @@ fn count_instance(
 }
 
 /// The signals of a variant, by its number; none where there is no such variant.
-pub(crate) fn signals_of(variants: &[Variant], variant: u32) -> &[Signal]
+pub fn signals_of(variants: &[Variant], variant: u32) -> &[Signal]
     ensures { result.now ≡ signals_at variant (map variant_of variants.now) }
 {
     match variants.get(variant as usize) {
@@ -96,4 +97,18 @@ pub(crate) fn count_instances(
         maps.push(count_instance(alloc, pairs, number, signals)?)?;
     }
     Ok(())
+}
+
+/// The numbers of the signals of all instances, one for the first of each name, in the order of the design: a map for each
+/// instance, and each number's instance with the place of the signal there.
+pub fn number_signals(
+    alloc: Global,
+    design: &Design,
+) -> Result<(Vec<NumberMap>, Vec<(u32, u32)>), NoMemory>
+    ensures { IfOk result (λ found. AreCounted (design_of design.now) (numbers_of found.0.items, found.1.items)) }
+{
+    let mut maps = Vec::new(alloc);
+    let mut pairs = Vec::new(alloc);
+    count_instances(alloc, design, &mut maps, &mut pairs)?;
+    Ok((maps, pairs))
 }

@@ -18,8 +18,8 @@ fed_op1 (Zext to) = fed.u8 5 ++ fed.u8 to
 -- the variant, which for an operator on two nodes tells the operator too, and what it names
 abbrev pub fed_shape : Shape → fed.HashWrites
 fed_shape (Fixed b) = fed.u8 0 ++ fed.u8 b.width ++ fed.u128 b.value
-fed_shape (TopInput name width) = fed.u8 1 ++ fed.str name
-fed_shape (Register instance name start) = fed.u8 2 ++ fed.str instance ++ fed.str name
+fed_shape (TopInput name width) = fed.u8 1 ++ fed.slice fed.u8 name
+fed_shape (Register instance name start) = fed.u8 2 ++ fed.slice fed.u8 instance ++ fed.slice fed.u8 name
 fed_shape (OfOne op a) = fed.u8 3 ++ fed.u64 a ++ fed_op1 op
 fed_shape (OfTwo op a b) = fed.u8 (4 + op2_number op) ++ fed.u64 a ++ fed.u64 b
 fed_shape (OfMux c a b) = fed.u8 17 ++ fed.u64 c ++ fed.u64 a ++ fed.u64 b

@@ -1,6 +1,5 @@
 -- A net: numbered nodes, the outputs and the next values of registers. It is a system of equations.
-use Rattle.std.specs.Prelude.{◌≡◌, ℕ, ◌<◌, Bool, true, false, List, length, map, slice_get, Some, String, string_bytes}
-use Rattle.std.specs.declared.alloc.Global.{Global}
+use Rattle.std.specs.Prelude.{◌≡◌, ℕ, ◌<◌, Bool, true, false, List, length, map, slice_get, Some}
 use Rattle.bv_core.specs.declared.reference.NodeId.{NodeId}
 use Rattle.bv_core.specs.Value.{Bits}
 use Rattle.bv_core.specs.Operators.{apply1_of, apply2_of, choose_of}
@@ -38,8 +37,8 @@ pub record NetParts : Type 0 where
   pub nexts : List (ℕ × ℕ)
 
 -- the outputs and next values that a program gives, as contracts see them
-abbrev pub outputs_of : List (String Global × NodeId) → List (List ℕ × ℕ)
-outputs_of outputs = map (λ (o : String Global × NodeId). (string_bytes o.0, o.1.0)) outputs
+abbrev pub outputs_of : List (List ℕ × NodeId) → List (List ℕ × ℕ)
+outputs_of outputs = map (λ (o : List ℕ × NodeId). (o.0, o.1.0)) outputs
 
 abbrev pub nexts_of : List (NodeId × NodeId) → List (ℕ × ℕ)
 nexts_of nexts = map (λ (n : NodeId × NodeId). (n.0.0, n.1.0)) nexts

@@ -1,5 +1,5 @@
 -- Numbered nodes, and the tree that each stands for.
-use Rattle.std.specs.Prelude.{ℕ, ◌<◌, Bool, false, ◌&&◌, ◌==◌, bytes_eq, List, [], ◌∷◌, ◌++◌, length, slice_index_or, string_bytes}
+use Rattle.std.specs.Prelude.{ℕ, ◌<◌, Bool, false, ◌&&◌, ◌==◌, bytes_eq, List, [], ◌∷◌, ◌++◌, length, slice_index_or}
 use Rattle.bv_core.specs.Value.{Bits}
 use Rattle.bv_core.specs.declared.operators.Op1.{Op1}
 use Rattle.bv_core.specs.declared.operators.Op2.{Op2}
@@ -20,8 +20,8 @@ pub data Shape : Type 0 where
 
 abbrev pub shape_of : Node → Shape
 shape_of (Const b) = Fixed b
-shape_of (Input name width) = TopInput (string_bytes name) width
-shape_of (Reg instance name start) = Register (string_bytes instance) (string_bytes name) start
+shape_of (Input name width) = TopInput name width
+shape_of (Reg instance name start) = Register instance name start
 shape_of (One op a) = OfOne op a.0
 shape_of (Two op a b) = OfTwo op a.0 b.0
 shape_of (Mux c a b) = OfMux c.0 a.0 b.0

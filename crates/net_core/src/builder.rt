@@ -15,7 +15,7 @@ use bv_core::{Bv, NodeId, Op1, Op2};
 use indexmap::IndexSet;
 use std::alloc::Global;
 use std::marker::Model;
-use text_core::NoMemory;
+use text_core::{NoMemory, Text};
 
 /// Nodes that are made one after another, none of them twice. Contracts see the list of its nodes, in which the id of
 /// each is its place.
@@ -49,7 +49,8 @@ fn constant_of(node: &Node) -> Option<Bv>
 impl NetBuilder {
     /// No nodes.
     pub fn new(alloc: Global) -> Result<NetBuilder, NoMemory>
-        ensures { IfOk result (λ builder. builder ≡ []) }
+        ensures nodes { IfOk result (λ builder. builder ≡ []) }
+        ensures shared { IfOk result AreShared }
     {
         Ok(NetBuilder {
             nodes: IndexSet::new(alloc),
@@ -91,6 +92,7 @@ impl NetBuilder {
         ensures adds { OnOk result (Adds self.old self.new (node_tree (trees_of self.old) (shape_of node))) }
         ensures keeps { OnOk result (Keeps self.old self.new) }
         ensures one_id { OnOk result (HaveOneIdEach (trees_of self.new)) }
+        ensures shared { OnOk result (AreShared self.new) }
         ensures err { OnErr result (self.new ≡ self.old) }
     {
         let (place, _) = self.nodes.insert_full(Entry { node, width })?;
@@ -119,6 +121,7 @@ impl NetBuilder {
         ensures adds { OnOk result (Adds self.old self.new (folded (node_tree (trees_of self.old) (shape_of itself.node)))) }
         ensures keeps { OnOk result (Keeps self.old self.new) }
         ensures one_id { OnOk result (HaveOneIdEach (trees_of self.new)) }
+        ensures shared { OnOk result (AreShared self.new) }
         ensures err { OnErr result (self.new ≡ self.old) }
     {
         match outcome {
@@ -136,36 +139,39 @@ impl NetBuilder {
         ensures adds { OnOk result (Adds self.old self.new (Const v)) }
         ensures keeps { OnOk result (Keeps self.old self.new) }
         ensures one_id { OnOk result (HaveOneIdEach (trees_of self.new)) }
+        ensures shared { OnOk result (AreShared self.new) }
         ensures err { OnErr result (self.new ≡ self.old) }
     {
         self.put(Node::Const(v), v.width())
     }
 
     /// The id of the top's input of this name and width.
-    pub fn input(&mut self, name: &str, width: u8) -> Result<NodeId, NoMemory>
+    pub fn input(&mut self, name: &[u8], width: u8) -> Result<NodeId, NoMemory>
         requires some { 1 ≤ width }
         requires most { width ≤ 128 }
         ensures stands { IfOk result (λ id. Stands self.new id.0 (Leaf (Input name.now width))) }
         ensures adds { OnOk result (Adds self.old self.new (Leaf (Input name.now width))) }
         ensures keeps { OnOk result (Keeps self.old self.new) }
         ensures one_id { OnOk result (HaveOneIdEach (trees_of self.new)) }
+        ensures shared { OnOk result (AreShared self.new) }
         ensures err { OnErr result (self.new ≡ self.old) }
     {
-        let name = String::from_str(*self.nodes.allocator(), name)?;
+        let name = Text::new(*self.nodes.allocator(), name)?;
         self.put(Node::Input(name, width), width)
     }
 
     /// The id of the register of this name, in the instance with this path, that starts with this value.
-    pub fn register(&mut self, instance: &str, name: &str, start: Bv) -> Result<NodeId, NoMemory>
+    pub fn register(&mut self, instance: &[u8], name: &[u8], start: Bv) -> Result<NodeId, NoMemory>
         ensures stands { IfOk result (λ id. Stands self.new id.0 (Leaf (Register instance.now name.now start))) }
         ensures adds { OnOk result (Adds self.old self.new (Leaf (Register instance.now name.now start))) }
         ensures keeps { OnOk result (Keeps self.old self.new) }
         ensures one_id { OnOk result (HaveOneIdEach (trees_of self.new)) }
+        ensures shared { OnOk result (AreShared self.new) }
         ensures err { OnErr result (self.new ≡ self.old) }
     {
         let alloc = *self.nodes.allocator();
-        let instance = String::from_str(alloc, instance)?;
-        let name = String::from_str(alloc, name)?;
+        let instance = Text::new(alloc, instance)?;
+        let name = Text::new(alloc, name)?;
         let width = start.width();
         self.put(
             Node::Reg {
@@ -185,6 +191,7 @@ impl NetBuilder {
         ensures adds { OnOk result (Adds self.old self.new (folded (One op (tree_of self.old a.0)))) }
         ensures keeps { OnOk result (Keeps self.old self.new) }
         ensures one_id { OnOk result (HaveOneIdEach (trees_of self.new)) }
+        ensures shared { OnOk result (AreShared self.new) }
         ensures err { OnErr result (self.new ≡ self.old) }
     {
         let constant = self.constant_at(a);
@@ -206,6 +213,7 @@ impl NetBuilder {
         ensures adds { OnOk result (Adds self.old self.new (folded (Two op (tree_of self.old a.0) (tree_of self.old b.0)))) }
         ensures keeps { OnOk result (Keeps self.old self.new) }
         ensures one_id { OnOk result (HaveOneIdEach (trees_of self.new)) }
+        ensures shared { OnOk result (AreShared self.new) }
         ensures err { OnErr result (self.new ≡ self.old) }
     {
         let left = self.constant_at(a);
@@ -228,6 +236,7 @@ impl NetBuilder {
         ensures adds { OnOk result (Adds self.old self.new (folded (Mux (tree_of self.old c.0) (tree_of self.old a.0) (tree_of self.old b.0)))) }
         ensures keeps { OnOk result (Keeps self.old self.new) }
         ensures one_id { OnOk result (HaveOneIdEach (trees_of self.new)) }
+        ensures shared { OnOk result (AreShared self.new) }
         ensures err { OnErr result (self.new ≡ self.old) }
     {
         let condition = self.constant_at(c);
@@ -243,7 +252,7 @@ impl NetBuilder {
     }
 
     /// The net of the nodes so far, with these outputs, and with these next values of its registers. Takes no memory.
-    pub fn finish(self, outputs: Vec<(String, NodeId)>, nexts: Vec<(NodeId, NodeId)>) -> Net
+    pub fn finish(self, outputs: Vec<(Text, NodeId)>, nexts: Vec<(NodeId, NodeId)>) -> Net
         requires outputs { OutputsFit self (outputs_of outputs.items) }
         requires nexts { NextsFit self (nexts_of nexts.items) }
         ensures parts { result ≡ record { nodes = self; outputs = outputs_of outputs.items; nexts = nexts_of nexts.items } }

@@ -8,13 +8,14 @@ use crate::entry::Entry;
 use bv_core::NodeId;
 use indexmap::IndexSet;
 use std::marker::Model;
+use text_core::Text;
 
 /// Numbered nodes with outputs, and a next value for each register. It is a system of equations, one for each node: each
 /// node is numbered above its operands, so it has exactly one solution under inputs and registers.
 #[derive(Drop)]
 pub struct Net {
     nodes: IndexSet<Entry>,
-    outputs: Vec<(String, NodeId)>,
+    outputs: Vec<(Text, NodeId)>,
     nexts: Vec<(NodeId, NodeId)>,
 }
 
@@ -57,7 +58,7 @@ impl Net {
     }
 
     /// The outputs: names with their nodes, in the order in which they were given.
-    pub fn outputs(&self) -> &[(String, NodeId)]
+    pub fn outputs(&self) -> &[(Text, NodeId)]
         ensures outputs { outputs_of result.now ≡ self.now.outputs }
         ensures fit { OutputsFit self.now.nodes self.now.outputs }
     {
@@ -75,7 +76,7 @@ impl Net {
     /// The net of these nodes, outputs and next values.
     pub(crate) fn new(
         nodes: IndexSet<Entry>,
-        outputs: Vec<(String, NodeId)>,
+        outputs: Vec<(Text, NodeId)>,
         nexts: Vec<(NodeId, NodeId)>,
     ) -> Net
         requires { IsKept nodes.keys outputs.items nexts.items }

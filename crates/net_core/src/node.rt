@@ -4,6 +4,7 @@ ghost use Rattle.net_core.specs.Hashed.{fed_op1};
 
 use bv_core::{Bv, NodeId, Op1, Op2};
 use std::hash::{Hash, Hasher};
+use text_core::Text;
 
 /// A node of a net: an equation for its value over the values of the nodes that it names.
 #[derive(Debug, Drop)]
@@ -11,13 +12,13 @@ pub enum Node {
     /// This value, always.
     Const(Bv),
     /// The top's input of this name, with its width.
-    Input(String, u8),
+    Input(Text, u8),
     /// A register.
     Reg {
         /// The path of its instance.
-        instance: String,
+        instance: Text,
         /// Its name.
-        name: String,
+        name: Text,
         /// The value that it starts with.
         start: Bv,
     },
@@ -112,7 +113,7 @@ impl PartialEq for Node {
     fn eq(&self, other: &Node) -> bool {
         match (self, other) {
             (Node::Const(a), Node::Const(b)) => same_bits(*a, *b),
-            (Node::Input(n, v), Node::Input(m, w)) => n.as_bytes() == m.as_bytes() && v == w,
+            (Node::Input(n, v), Node::Input(m, w)) => n.bytes() == m.bytes() && v == w,
             (
                 Node::Reg {
                     instance: i,
@@ -124,7 +125,7 @@ impl PartialEq for Node {
                     name: m,
                     start: t,
                 },
-            ) => i.as_bytes() == j.as_bytes() && n.as_bytes() == m.as_bytes() && same_bits(*s, *t),
+            ) => i.bytes() == j.bytes() && n.bytes() == m.bytes() && same_bits(*s, *t),
             (Node::One(o, a), Node::One(p, b)) => same_op1(*o, *p) && a.0 == b.0,
             (Node::Two(o, a, b), Node::Two(p, c, d)) => {
                 same_op2(*o, *p) && a.0 == c.0 && b.0 == d.0
@@ -159,12 +160,12 @@ impl Hash for Node {
             }
             Node::Input(name, _) => {
                 state.write_u8(1);
-                name.as_str().hash(state);
+                name.bytes().hash(state);
             }
             Node::Reg { instance, name, .. } => {
                 state.write_u8(2);
-                instance.as_str().hash(state);
-                name.as_str().hash(state);
+                instance.bytes().hash(state);
+                name.bytes().hash(state);
             }
             Node::One(op, a) => {
                 state.write_u8(3);

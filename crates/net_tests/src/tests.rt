@@ -6,6 +6,7 @@ use bv_core::{Bv, NodeId, Op1, Op2, fits_mux, fits1, fits2};
 use net_core::{Net, NetBuilder, Node};
 use std::alloc::Global;
 use std::test::Fail;
+use text_core::Text;
 
 /// A constant.
 fn constant(builder: &mut NetBuilder, width: u8, value: u128) -> Result<NodeId, Fail>
@@ -22,9 +23,9 @@ fn operand(builder: &mut NetBuilder, operand: Operand) -> Result<NodeId, Fail>
     ensures keeps { OnOk result (Keeps builder.old builder.new) }
 {
     match operand {
-        Operand::X => Ok(builder.input("x", 8)?),
-        Operand::Y => Ok(builder.input("y", 8)?),
-        Operand::C => Ok(builder.input("c", 1)?),
+        Operand::X => Ok(builder.input(b"x", 8)?),
+        Operand::Y => Ok(builder.input(b"y", 8)?),
+        Operand::C => Ok(builder.input(b"c", 1)?),
         Operand::K(width, value) => constant(builder, width, value),
     }
 }
@@ -168,12 +169,12 @@ fn keeps_nested(alloc: Global) -> Result<bool, Fail> {
 fn shares_equal_trees(alloc: Global) -> Result<bool, Fail> {
     let mut builder = NetBuilder::new(alloc)?;
     let start = Bv::make(8, 5).ok_or("a value fits its width")?;
-    let first = builder.register("Top.a", "r", start)?;
-    let second = builder.register("Top.b", "r", start)?;
-    let again = builder.register("Top.a", "r", start)?;
-    let wide = builder.input("x", 8)?;
-    let narrow = builder.input("x", 7)?;
-    let known = builder.input("x", 8)?;
+    let first = builder.register(b"Top.a", b"r", start)?;
+    let second = builder.register(b"Top.b", b"r", start)?;
+    let again = builder.register(b"Top.a", b"r", start)?;
+    let wide = builder.input(b"x", 8)?;
+    let narrow = builder.input(b"x", 7)?;
+    let known = builder.input(b"x", 8)?;
     let sum = complement(&mut builder, first)?;
     let same = complement(&mut builder, again)?;
     let other = complement(&mut builder, second)?;
@@ -204,14 +205,14 @@ fn gives_equal_trees_one_id(rt: HostRuntime) -> Result<(), Fail> {
 fn summing(alloc: Global) -> Result<Net, Fail> {
     let mut builder = NetBuilder::new(alloc)?;
     let start = Bv::make(8, 5).ok_or("a value fits its width")?;
-    let data = builder.input("d", 8)?;
-    let register = builder.register("Top", "r", start)?;
+    let data = builder.input(b"d", 8)?;
+    let register = builder.register(b"Top", b"r", start)?;
     if !fits2(Op2::Add, builder.width(register), builder.width(data)) {
         return Err("two operands fit".into());
     }
     let next = builder.apply2(Op2::Add, register, data)?;
     let mut outputs = Vec::new(alloc);
-    outputs.push((String::from_str(alloc, "q")?, register))?;
+    outputs.push((Text::new(alloc, b"q")?, register))?;
     let mut nexts = Vec::new(alloc);
     nexts.push((register, next))?;
     Ok(builder.finish(outputs, nexts))

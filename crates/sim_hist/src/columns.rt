@@ -46,7 +46,7 @@ fn column_of(node: &Node, ports: &[(Text, u8)]) -> Option<usize>
     ensures value { (row : List Bits) → length row ≡ length ports.now → map (bits_at row) (option_to_list result) ≡ map (value_beside (zip (port_origins ports.now) row)) (input_in (shape_of node.now)) }
 {
     match node {
-        Node::Input(name, width) => Some(place_of(ports, name.as_bytes(), *width)),
+        Node::Input(name, width) => Some(place_of(ports, name.bytes(), *width)),
         _ => None,
     }
 }

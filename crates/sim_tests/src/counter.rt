@@ -19,8 +19,8 @@ use text_core::Text;
 pub(crate) fn counter(alloc: Global) -> Result<Net, Fail> {
     let mut builder = NetBuilder::new(alloc)?;
     let start = Bv::make(4, 14).ok_or("a value fits its width")?;
-    let enable = builder.input("en", 1)?;
-    let count = builder.register("Top", "count", start)?;
+    let enable = builder.input(b"en", 1)?;
+    let count = builder.register(b"Top", b"count", start)?;
     if !fits1(Op1::Zext(4), builder.width(enable)) {
         return Err("an operand fits".into());
     }
@@ -30,7 +30,7 @@ pub(crate) fn counter(alloc: Global) -> Result<Net, Fail> {
     }
     let next = builder.apply2(Op2::Add, count, step)?;
     let mut outputs = Vec::new(alloc);
-    outputs.push((String::from_str(alloc, "count")?, count))?;
+    outputs.push((Text::new(alloc, b"count")?, count))?;
     let mut nexts = Vec::new(alloc);
     nexts.push((count, next))?;
     Ok(builder.finish(outputs, nexts))
@@ -82,7 +82,7 @@ fn is_placed(node: &Node, ports: &[(Text, u8)]) -> bool
     ensures { IsTrue result → IsPlaced ports.now (shape_of node.now) }
 {
     match node {
-        Node::Input(name, width) => has_port(ports, name.as_bytes(), *width),
+        Node::Input(name, width) => has_port(ports, name.bytes(), *width),
         _ => true,
     }
 }

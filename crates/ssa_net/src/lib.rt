@@ -2,5 +2,9 @@
 #![tactic(auto)]
 
 mod lowering;
+mod memo;
+mod outputs;
+mod parts;
+mod signals;
 
 pub use lowering::lower;

@@ -3,3 +3,9 @@ pub mod Running
 pub mod States
 pub mod Listing
 pub mod Status
+pub mod SitesOf
+pub mod Spots
+pub mod Shown
+pub mod Texts
+pub mod Passing
+pub mod Called

@@ -1,7 +1,7 @@
 -- A row of a stimulus gives each input of the top a value of its width, and what is looked up of it is the input of that name.
 use Rattle.std.proofs.Common.{◌≡◌, ℕ, ◌==◌, Bool, true, false, ℤ, pos, negsuc, bytes_eq, List, [], ◌∷◌, ◌++◌, map, Option, Some, None, option_map, unwrap_or, if◌then◌else◌, inl, inr, refl, sym, ap, ◌∙◌, subst, eqb-true}
 use Rattle.std.specs.Prelude.{slice_get, All}
-use Rattle.std.specs.List.{flat_map, zip}
+use Rattle.std.specs.List.{flat_map}
 use Rattle.std.proofs.lemmas.Option.{none-some, same_Some}
 use Rattle.std.proofs.lemmas.List.Elements.{All-head, All-tail}
 use Rattle.bv_core.specs.Value.{Bits, IsBits}
@@ -23,7 +23,7 @@ use Rattle.design_exec.specs.Processes.{Numbered, Given, processes_of, given_by,
 use Rattle.check_core.specs.Known.{Known, none, with}
 use Rattle.check_core.specs.Names.{signal_thing}
 use Rattle.check_exec.specs.Premises.{IsSound}
-use Rattle.check_exec.proofs.Facts.{each_flat, name_same, eq_turned, in_parts}
+use Rattle.check_exec.proofs.Facts.{each_flat, name_same, eq_turned}
 use Rattle.check_exec.proofs.Instances.{Stands, clean, each_instance}
 use Rattle.check_exec.proofs.Names.{Differ, other_behind, signals_differ}
 use Rattle.world_core.specs.Source.{value_named, rows_named}
@@ -177,6 +177,7 @@ row_fits d sound row long bits =
 pub rows_fit : (d : Design) → IsSound d → (rows : List (List Bits)) → All (HasWidths (ports_in false (top_signals d))) rows → All (All IsBits) rows
     → EachOf (RowFits (processes_of d)) (rows_named (ports_in false (top_signals d)) rows)
 rows_fit d sound [] long bits = tt
-rows_fit d sound (row ∷ rows) long bits =
-    (row_fits d sound row (All-head (HasWidths (ports_in false (top_signals d))) row rows long) (All-head (All IsBits) row rows bits),
-    rows_fit d sound rows (All-tail (HasWidths (ports_in false (top_signals d))) row rows long) (All-tail (All IsBits) row rows bits))
+rows_fit d sound (row ∷ rows) long bits = (
+  row_fits d sound row (All-head (HasWidths (ports_in false (top_signals d))) row rows long) (All-head (All IsBits) row rows bits),
+  rows_fit d sound rows (All-tail (HasWidths (ports_in false (top_signals d))) row rows long) (All-tail (All IsBits) row rows bits),
+)

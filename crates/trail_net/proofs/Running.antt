@@ -1,16 +1,14 @@
 -- An accepted design with an order has a run over every stimulus for its inputs.
-use Rattle.std.proofs.Common.{◌≡◌, false, List, map, subst}
+use Rattle.std.proofs.Common.{false, List, subst}
 use Rattle.std.specs.Prelude.{All}
-use Rattle.bv_core.specs.Value.{Bits}
 use Rattle.exec_core.specs.Lists.{EachOf}
-use Rattle.exec_core.specs.States.{RowFits, RunAgrees}
+use Rattle.exec_core.specs.States.{RowFits}
 use Rattle.design_core.specs.Design.{Design}
 use Rattle.design_core.specs.Ports.{ports_in, top_signals}
 use Rattle.design_exec.specs.Processes.{processes_of}
 use Rattle.stim_text.specs.Stimulus.{Stimulus, IsStimulus}
 use Rattle.check_exec.specs.Premises.{IsSound}
 use Rattle.check_exec.proofs.Ready.{runs_of_accepted_agree}
-use Rattle.dep_order.specs.Results.{TellsOrder}
 use Rattle.world_core.specs.Source.{rows_named}
 use Rattle.trail_net.specs.Runs.{HasInputs, DesignsRun}
 use Rattle.trail_net.proofs.RowsFit.{Port, HasWidths, rows_fit}

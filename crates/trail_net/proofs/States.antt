@@ -1,13 +1,11 @@
 -- The inputs and registers of a net under a stimulus are the states of the design that was lowered to it.
-use Rattle.std.proofs.Common.{◌≡◌, ℕ, zero, suc, ◌+◌, ◌<◌, ◌≤◌, ◌==◌, ◌&&◌, Bool, true, false, bytes_eq, List, [], ◌∷◌, ◌++◌, length, map, Option, Some, if◌then◌else◌, inl, inr, refl, sym, ap, ap₂, ◌∙◌, subst, arith, eqb-true, eq-eqb}
-use Rattle.std.specs.Prelude.{slice_get, slice_index_or, All}
+use Rattle.std.proofs.Common.{◌≡◌, ℕ, zero, suc, ◌+◌, ◌<◌, ◌≤◌, ◌==◌, ◌&&◌, Bool, true, false, bytes_eq, List, [], ◌∷◌, length, map, Some, if◌then◌else◌, inl, inr, refl, sym, ap, ◌∙◌, arith, eq-eqb}
+use Rattle.std.specs.Prelude.{slice_index_or}
 use Rattle.std.specs.List.{zip}
 use Rattle.std.proofs.lemmas.Option.{none-some, same_Some}
-use Rattle.std.proofs.lemmas.List.{length-map}
 use Rattle.bv_core.specs.Value.{Bits}
 use Rattle.tree_core.specs.Tree as tree
 use Rattle.tree_core.specs.Tree.{Origin, Input, Leaf, Whole, value_of}
-use Rattle.tree_core.specs.Fold.{same_origin}
 use Rattle.exec_core.specs.Block.{Name}
 use Rattle.exec_core.specs.Lists.{EachOf, IsIn}
 use Rattle.exec_core.specs.Whole.{Place}
@@ -19,10 +17,9 @@ use Rattle.exec_core.specs.States.{Gives, AreStates}
 use Rattle.exec_core.proofs.Lists.{each_member, each_from, in_left, in_right}
 use Rattle.exec_core.proofs.Sources.{given_origin}
 use Rattle.design_core.specs.Design.{Design}
-use Rattle.design_core.specs.Ports.{ports_in, top_signals}
 use Rattle.design_core.specs.Slots.{from}
 use Rattle.design_exec.specs.Processes.{Given, processes_of}
-use Rattle.net_core.specs.Nodes.{Shape, Fixed, TopInput, Register, OfOne, OfTwo, OfMux, shape_at, node_tree, trees_of, tree_of}
+use Rattle.net_core.specs.Nodes.{Shape, Fixed, TopInput, Register, OfOne, OfTwo, OfMux, shape_at, node_tree, trees_of}
 use Rattle.net_core.specs.Builder.{Stands}
 use Rattle.net_core.specs.Nets.{NetParts, IsNet}
 use Rattle.net_core.proofs.TreeLists.{tree_is}
@@ -36,7 +33,7 @@ use Rattle.sim_hist.specs.Run.{inputs_in, registers_in, port_origins}
 use Rattle.sim_hist.proofs.Running.{input_widths, register_widths, first_registers, next_registers_in, is_row}
 use Rattle.check_exec.proofs.Facts.{in_index}
 use Rattle.world_core.specs.Source.{value_named, rows_named}
-use Rattle.lower_core.specs.Lowered.{HasNode, HasNext, NextTold}
+use Rattle.lower_core.specs.Lowered.{HasNode, NextTold}
 use Rattle.trail_net.proofs.RowsFit.{Port, first_width, HasWidths, IsFirst}
 
 -- ---- lists
@@ -209,9 +206,10 @@ module _ (d : Design) (n : ℕ) (net : NetParts) (is_net : IsNet net) (s : Stimu
       → AreStates (processes_of d) n registers (rows_named s.ports.inputs rows) (map (state_in net s) (from t (length rows)))
   states_from t [] f registers holds = tt
   states_from t (row ∷ rows) f registers holds =
-      let inside = rows_inside s t row rows f in
-      (gives_row t row inside (rows_head s t row rows f) registers (holds inside),
-      states_from (t + 1) rows (rows_more s t row rows f) (λ p. value_of (state_in net s t) (folded_tree (processes_of d) n (next_tree (processes_of d) p))) (holds_next t))
+      let inside = rows_inside s t row rows f in (
+        gives_row t row inside (rows_head s t row rows f) registers (holds inside),
+        states_from (t + 1) rows (rows_more s t row rows f) (λ p. value_of (state_in net s t) (folded_tree (processes_of d) n (next_tree (processes_of d) p))) (holds_next t),
+      )
 
   module _ (order : List Place) (ok : Accepted (processes_of d) order) where
     holds_first : 0 < length s.rows → AllHold d net s 0 (starts (processes_of d))

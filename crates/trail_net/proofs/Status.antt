@@ -1,5 +1,5 @@
 -- Tests of paths, and what they mean.
-use Rattle.std.proofs.Common.{◌≡◌, ℕ, ◌==◌, Bool, true, false, not, ◌||◌, ◌&&◌, ◌⊎◌, inl, inr, refl, eqb-true, eq-eqb}
+use Rattle.std.proofs.Common.{◌≡◌, ℕ, ◌==◌, true, ◌||◌, ◌&&◌, inl, inr, refl, eqb-true, eq-eqb}
 use Rattle.std.proofs.lemmas.Bool.{and_parts, and_from, or_cases, or_left, or_right, not-true, not_from_false}
 use Rattle.exec_core.specs.Block.{Name, Key, Now, same_key, own, Stmt, Assign, If, Body, Done, Then}
 use Rattle.exec_core.specs.Paths.{Skips, BodySkips, Misses, BodyMisses, IsUnset}

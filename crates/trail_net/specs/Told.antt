@@ -8,9 +8,12 @@ use Rattle.bv_core.specs.declared.reference.NodeId.{NodeId}
 use Rattle.bv_core.specs.declared.reference.Sample.{Sample}
 use Rattle.bv_core.specs.declared.reference.Sample.TheVariants as sampled
 use Rattle.exec_core.specs.Block.{Name}
+use Rattle.exec_core.specs.Lists.{IsNotIn}
 use Rattle.exec_core.specs.Whole.{Place}
+use Rattle.exec_core.specs.Run.{slots_in}
 use Rattle.design_core.specs.Design.{Design}
 use Rattle.design_core.specs.Slots.{from}
+use Rattle.design_exec.specs.Processes.{processes_of}
 use Rattle.symtab.specs.declared.parts.GenVariable.{GenVariable}
 use Rattle.symtab.specs.declared.parts.InstanceParts.{InstanceParts}
 use Rattle.symtab.specs.declared.parts.Slot.{Slot}
@@ -126,10 +129,12 @@ pub record IsRunOf (d : Design) (pairs : List (ℕ × ℕ)) (wanted : Mode) (l :
   pub inputs : HasInputs d stim.ports
   pub run_over : RunsOver d stim.rows run
 
--- there is a cycle for each row of the stimulus, and in each the rows show what execution does
+-- there is a cycle for each row of the stimulus, and in each the rows show what execution does; an instance executes no statement
+-- but those of its variant
 pub record RunShown (d : Design) (l : code.Lowered) (stim : Stimulus) (run : List (Place → Bits)) : Type 0 where
   pub cycles : length run ≡ length stim.rows
   pub rows : (cycle : ℕ) → cycle < length stim.rows → RowsShow d run cycle ((run_samples l.net stim).sample cycle) (all_spots d) l.rows
+  pub nothing : (cycle : ℕ) → cycle < length stim.rows → (i slot : ℕ) → IsNotIn slot (slots_in (processes_of d) i) → visit_in d run cycle slot i ≡ None
 
 abbrev pub RowsShowRuns : Type 0
 RowsShowRuns = (d : Design) (pairs : List (ℕ × ℕ)) (wanted : Mode) (l : code.Lowered) (stim : Stimulus) (run : List (Place → Bits)) → IsRunOf d pairs wanted l stim run → RunShown d l stim run

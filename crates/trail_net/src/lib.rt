@@ -3,8 +3,10 @@
 
 mod end;
 mod laws;
+mod line;
+mod rows;
 mod write;
 
 pub use end::TrailEnd;
-pub use laws::accepted_designs_run;
+pub use laws::{accepted_designs_run, rows_show_runs, texts_are_trails};
 pub use write::write_trail;

@@ -6,9 +6,14 @@ ghost use Rattle.dep_order.specs.Results.{TellsOrder};
 ghost use Rattle.trail_net.specs.Runs.{HasInputs, TakesTrail, TakesTrailFront};
 
 use crate::TrailEnd;
+use crate::rows::write_all;
 use dep_order::Order;
 use design_core::Design;
 use io_edge::Sink;
+use lower_core::{Lowered, Mode};
+use sim_core::Simulator;
+use sim_hist::SimTrace;
+use ssa_net::lower;
 use std::alloc::Global;
 use stim_text::Stim;
 
@@ -29,5 +34,15 @@ pub fn write_trail<S: Sink>(
     ensures failed { IsErrOf result TrailEnd.Failed → Rose (S.fault_count out.old) (S.fault_count out.new) }
     ensures later { S.fault_count out.old ≤ S.fault_count out.new }
 {
-    Err(TrailEnd::NoMemory)
+    let Lowered {
+        net,
+        rows,
+        shape,
+        ..
+    } = lower(alloc, design, order, Mode::Keep)?;
+    let cycles = stim.rows();
+    let simulator = Simulator::new(alloc, net)?;
+    let mut trace = SimTrace::new(alloc, simulator, stim)?;
+    write_all(alloc, &mut trace, cycles, &shape, rows.items(), out)?;
+    Ok(())
 }

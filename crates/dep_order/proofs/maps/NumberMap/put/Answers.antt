@@ -8,5 +8,5 @@ pub returns : goal.returns
 returns c =
     let copied : c.in_ok-to_vec.field-0.items ≡ c.args.name.now = search rules in
     rw (← c.self.view_is) (ap (λ es. value_of (map (named_entry (λ k. k.items)) es)) c.in_ok-insert.ensures.entries
-    ∙ put_found (λ k. k.items) c.self.inside.numbers.entries c.in_ok-to_vec.field-0 c.args.vertex
-    ∙ ap (λ (y : Name). put_value y c.args.vertex (value_of (map (named_entry (λ k. k.items)) c.self.inside.numbers.entries))) copied)
+    ∙ put_found (λ k. k.items) c.self.inside.numbers.entries c.in_ok-to_vec.field-0 c.args.number
+    ∙ ap (λ (y : Name). put_value y c.args.number (value_of (map (named_entry (λ k. k.items)) c.self.inside.numbers.entries))) copied)

@@ -25,3 +25,6 @@ returns-clause-one_id c = (made c).node.shared.trees.one_id
 
 pub returns-clause-keeps : goal.returns-clause-keeps
 returns-clause-keeps c = (made c).node.keeps
+
+pub returns-clause-shared : goal.returns-clause-shared
+returns-clause-shared c = (made c).node.shared

@@ -1,0 +1,16 @@
+use Rattle.std.proofs.Common.{◌≡◌, length, map, take}
+use Rattle.exec_core.specs.Lists.{EachOf}
+use Rattle.design_exec.specs.Processes.{processes_of}
+use Rattle.ssa_state.specs.State.{AllOverGivens, HasNode}
+use Rattle.ssa_nodes.specs.Parts.{HasSignals, all_in, design_in}
+use Rattle.given_net.specs.Givens.{given_as}
+use Rattle.given_net.proofs.Placed.{HaveNodes}
+use Rattle.given_net.proofs.place.place_givens.Given as goal
+
+abbrev pub invariant-loop-given : goal.invariant-loop-given
+invariant-loop-given l = record {
+  long : length l.nodes ≡ l.parts.count;
+  signals : HasSignals l.parts l.builder l.nodes;
+  over : AllOverGivens (processes_of (design_in l.parts)) l.builder;
+  have : HaveNodes l.parts l.nodes (take l.given-index l.given-items);
+}

@@ -1,0 +1,4 @@
+pub mod Picking
+pub mod Writing
+pub mod Registers
+pub mod Nexts

@@ -1,0 +1,9 @@
+//! The next values of the registers of an accepted design, by nodes.
+#![tactic(auto)]
+
+mod next;
+mod number;
+mod register;
+mod writer;
+
+pub use next::nexts_of;

@@ -1,0 +1,14 @@
+pub mod Listing
+pub mod SitesOf
+pub mod Transposed
+pub mod Telling
+pub mod Aligned
+pub mod Scopes
+pub mod Checked
+pub mod Growing
+pub mod Replaying
+pub mod Buckets
+pub mod Puts
+pub mod Here
+pub mod Status
+pub mod Exact

@@ -1,0 +1,211 @@
+-- The log of a block, step by step.
+use Rattle.std.proofs.Common.{◌≡◌, ℕ, zero, suc, ◌+◌, ◌<◌, ◌≤◌, Bool, true, false, ◌||◌, bytes_eq, List, [], ◌∷◌, ◌++◌, length, map, take, drop, get_or, Option, Some, None, IsSome, Vec, Global, if◌then◌else◌, refl, sym, ap, ap₂, ◌∙◌, subst, append_assoc}
+use Rattle.std.specs.List.{flat_map}
+use Rattle.std.specs.Borrow.{Bor}
+use Rattle.std.proofs.lemmas.List.{append-nil, drop_more, map_push}
+use Rattle.std.proofs.lemmas.List.Folds.{list_any-append}
+use Rattle.bv_core.specs.declared.reference.NodeId.{NodeId}
+use Rattle.tree_core.specs.Tree.{Tree, Whole}
+use Rattle.tree_core.specs.Tree as tree
+use Rattle.exec_core.specs.Block.{Name, Now, Body, own}
+use Rattle.exec_core.specs.Exec.{Env, start}
+use Rattle.exec_core.specs.Lists.{EachOf}
+use Rattle.exec_core.specs.Trees.{Row, block_rows}
+use Rattle.design_core.specs.Design.{Stmt, Assign, Let, If, Done, Then, Else, NoElse, Otherwise}
+use Rattle.design_core.specs.Design as design
+use Rattle.design_core.specs.declared.expr.Expr as code_expr
+use Rattle.design_core.specs.declared.statement.Stmt as code_stmt
+use Rattle.design_core.specs.declared.statement.Stmt.TheVariants as code_stmts
+use Rattle.design_core.specs.Design.{Gens}
+use Rattle.design_core.specs.View.{stmt_of}
+use Rattle.design_core.proofs.Views.{stmt_assign, stmt_let, stmt_if}
+use Rattle.design_core.specs.Slots.{let_of, lets_of, else_lets}
+use Rattle.net_core.specs.Nodes.{Shape}
+use Rattle.check_core.specs.Known.{has}
+use Rattle.check_core.specs.Maps.{put_value}
+use Rattle.check_core.specs.Statements.{inside, statements, else_statements}
+use Rattle.check_exec.proofs.Facts.{each_left, each_right, eq_turned}
+use Rattle.block_net.specs.declared.key.Key as code_key
+use Rattle.block_net.specs.declared.key.Key.TheVariants as keys
+use Rattle.block_net.specs.declared.step.Step.{Step}
+use Rattle.block_net.specs.declared.step.Step.TheVariants.{Set, Slot}
+use Rattle.block_net.specs.declared.term.Term.{Term}
+use Rattle.block_net.specs.declared.term.TermId.{TermId}
+use Rattle.block_net.specs.Terms.{IsWithin, tree_for, tree_at, trees_of}
+use Rattle.block_net.specs.Logs.{AreWithin, rows_of}
+use Rattle.block_net.specs.Blocks.{BlockParts, Tells}
+use Rattle.block_net.specs.Walks.{IsHeld, held}
+use Rattle.dep_order.specs.Names.{names_at}
+use Rattle.term_net.specs.Leaves.{leaf_id, leaf_tree, IsReady}
+use Rattle.lower_core.specs.declared.row.FullRow.{FullRow}
+use Rattle.row_net.specs.Told.{Names, NameRow, name_row, names_in, set_name, after_step, rows_of_step, name_rows, names_by, no_own, AreHeld, let_name, EnableReady, RowReady, RowsHave, Replayed, RowsPut}
+use Rattle.row_net.proofs.Growing.{names_more}
+
+-- ---- an enable
+
+pub enable_some : (ids : Name → Option NodeId) (leaves : Name → Whole) (terms : List Term) (enable : Option TermId) → EnableReady ids leaves (tree_for terms enable) → IsSome enable
+enable_some ids leaves terms None h = absurd (let e = h.is in let no : ⊥ = cc in no)
+enable_some ids leaves terms (Some id) h = refl
+
+pub enable_within : (terms : List Term) (enable : Option TermId) (id : TermId) → enable ≡ Some id → IsWithin terms enable → id.0 < length terms
+enable_within terms enable id e h = subst (IsWithin terms) e h
+
+pub enable_can : (ids : Name → Option NodeId) (leaves : Name → Whole) (terms : List Term) (enable : Option TermId) (id : TermId) → enable ≡ Some id → EnableReady ids leaves (tree_for terms enable) → IsReady ids leaves (tree_at (trees_of terms) id.0)
+enable_can ids leaves terms enable id e h =
+    let same : h.tree ≡ tree_at (trees_of terms) id.0 = (let a = h.is in let b : tree_for terms enable ≡ Some (tree_at (trees_of terms) id.0) = ap (tree_for terms) e in let c : Some h.tree ≡ Some (tree_at (trees_of terms) id.0) = sym a ∙ b in cc) in
+    subst (IsReady ids leaves) same h.ready
+
+-- ---- what names have
+
+put_names : (terms : List Term) (ids new : Name → Option (Option TermId)) (x : Name) (id : Option TermId) → new ≡ put_value x id ids → names_by terms new ≡ set_name x (tree_for terms id) (names_by terms ids)
+put_names terms ids new x id e = ap (names_by terms) e ∙ (λ i y. each y i)
+  where
+    by_test : (y : Name) (b : Bool) → held terms y (if b then Some id else ids y) ≡ (if b then tree_for terms id else held terms y (ids y))
+    by_test y true = refl
+    by_test y false = refl
+
+    each : (y : Name) → names_by terms (put_value x id ids) y ≡ set_name x (tree_for terms id) (names_by terms ids) y
+    each y = by_test y (bytes_eq y x) ∙ ap (λ b. if b then tree_for terms id else held terms y (ids y)) (eq_turned y x)
+
+put_held : (terms : List Term) (ids new : Name → Option (Option TermId)) (x : Name) (id : Option TermId) → new ≡ put_value x id ids → IsWithin terms id → AreHeld terms ids → AreHeld terms new
+put_held terms ids new x id e within h = subst (AreHeld terms) (sym e) (λ y. by_test y (bytes_eq y x))
+  where
+    by_test : (y : Name) (b : Bool) → IsHeld terms (if b then Some id else ids y)
+    by_test y true = within
+    by_test y false = h y
+
+-- a key that is set
+pub now_set : (terms : List Term) (ids new : Name → Option (Option TermId)) (key : code_key.Key) (x y : Name) (id : Option TermId) → key ≡ keys.Now x → y ≡ x → new ≡ put_value y id ids → names_by terms new ≡ after_step terms (Set key id) (names_by terms ids)
+now_set terms ids new key x y id is same e =
+    put_names terms ids new y id e ∙ ap (λ z. set_name z (tree_for terms id) (names_by terms ids)) same ∙ sym (ap (λ (k : code_key.Key). after_step terms (Set k id) (names_by terms ids)) is)
+
+pub now_held : (terms : List Term) (ids new : Name → Option (Option TermId)) (y : Name) (id : Option TermId) → new ≡ put_value y id ids → IsWithin terms id → AreHeld terms ids → AreHeld terms new
+now_held terms ids new y id e within h = put_held terms ids new y id e within h
+
+pub next_set : (terms : List Term) (names : Names) (key : code_key.Key) (x : Name) (id : Option TermId) → key ≡ keys.Next x → names ≡ after_step terms (Set key id) names
+next_set terms names key x id is = sym (ap (λ (k : code_key.Key). after_step terms (Set k id) names) is)
+
+-- ---- steps in order
+
+pub next_step : (log : List Step) (i : ℕ) (step : Step) → i < length log → step ≡ get_or log i step → drop i log ≡ step ∷ drop (i + 1) log
+next_step log i step below at = drop_more log i step below ∙ ap (λ s. s ∷ drop (i + 1) log) (sym at)
+
+pub within_at : (terms : List Term) (log : List Step) (i : ℕ) (step : Step) → i < length log → step ≡ get_or log i step → AreWithin terms log → AreWithin terms (step ∷ [])
+within_at terms log i step below at h = first step (subst (AreWithin terms) (next_step log i step below at) (rest log i h))
+  where
+    within_tail : (s : Step) (l : List Step) → AreWithin terms (s ∷ l) → AreWithin terms l
+    within_tail (Set key id) l g = g.1
+    within_tail (Slot slot enable) l g = g.1
+
+    rest : (l : List Step) (k : ℕ) → AreWithin terms l → AreWithin terms (drop k l)
+    rest [] k g = let e : drop k (let none : List Step = [] in none) ≡ [] = none_left k in subst (AreWithin terms) (sym e) tt
+      where
+        none_left : (j : ℕ) → drop j (let none : List Step = [] in none) ≡ []
+        none_left zero = refl
+        none_left (suc j) = refl
+    rest (s ∷ l) zero g = g
+    rest (s ∷ l) (suc k) g = rest l k (within_tail s l g)
+
+    first : (s : Step) → AreWithin terms (s ∷ drop (i + 1) log) → AreWithin terms (s ∷ [])
+    first (Set key id) g = (g.0, tt)
+    first (Slot slot enable) g = (g.0, tt)
+
+-- the rows that are left
+pub left_rows : (terms : List Term) (log : List Step) (i : ℕ) (step : Step) (names : Names) → i < length log → step ≡ get_or log i step →
+    name_rows terms (drop i log) names ≡ rows_of_step terms step names ++ name_rows terms (drop (i + 1) log) (after_step terms step names)
+left_rows terms log i step names below at = ap (λ l. name_rows terms l names) (next_step log i step below at)
+
+pub replay_start : (ns : List Shape) (leaves : Name → Whole) (i : ℕ) (names : List Name) (all : List NameRow) (fulls : List FullRow) → fulls ≡ [] → Replayed ns leaves i names all all fulls
+replay_start ns leaves i names all fulls e = record { done = []; split = refl; have = subst (RowsHave ns leaves i names []) (sym e) tt }
+
+pub replay_step : (old new : List Shape) (places : Name → Option ℕ) (nodes : List (Option NodeId)) (i : ℕ) (names : List Name) (all left now later : List NameRow) (fulls after : List FullRow) → left ≡ now ++ later →
+    Replayed old (leaf_tree old places nodes) i names all left fulls → RowsPut old new places nodes i names now fulls after → Replayed new (leaf_tree new places nodes) i names all later after
+replay_step old new places nodes i names all left now later fulls after e r put = record {
+  done = r.done ++ now;
+  split = append_assoc r.done now later ∙ ap (λ l. r.done ++ l) (sym e) ∙ r.split;
+  have = put r.done r.have;
+}
+
+pub replay_end : (ns : List Shape) (leaves : Name → Whole) (i : ℕ) (names : List Name) (all left : List NameRow) (fulls : List FullRow) → left ≡ [] → Replayed ns leaves i names all left fulls → RowsHave ns leaves i names all fulls
+replay_end ns leaves i names all left fulls e r = subst (λ l. RowsHave ns leaves i names l fulls) (sym (append-nil r.done) ∙ ap (λ l. r.done ++ l) (sym e) ∙ r.split) r.have
+
+-- ---- the names of the log's rows
+
+pub same_rows : (terms : List Term) (log : List Step) (trees : Env (Tree Name)) → name_rows terms log (names_in trees) ≡ map name_row (rows_of terms log trees)
+same_rows terms [] trees = refl
+same_rows terms (Set (keys.Now x) id ∷ log) trees = same_rows terms log _
+same_rows terms (Set (keys.Next x) id ∷ log) trees = same_rows terms log _
+same_rows terms (Slot slot enable ∷ log) trees = ap (λ l. name_row (record { slot = slot; enable = tree_for terms enable; before = trees }) ∷ l) (same_rows terms log trees)
+
+starts_as : (terms : List Term) (body : Body) → names_by terms (no_own (own body)) ≡ names_in (start body tree.Leaf)
+starts_as terms body = λ i x. by_test x (own body x) i
+  where
+    by_test : (x : Name) (b : Bool) → held terms x (if b then Some None else None) ≡ (if b then None else Some (tree.Leaf x))
+    by_test x true = refl
+    by_test x false = refl
+
+pub no_own_held : (terms : List Term) (ids : Name → Option (Option TermId)) (f : Name → Bool) → ids ≡ no_own f → AreHeld terms ids
+no_own_held terms ids f e = subst (AreHeld terms) (sym e) (λ x. by_test (f x))
+  where
+    by_test : (b : Bool) → IsHeld terms (if b then Some None else None)
+    by_test true = tt
+    by_test false = tt
+
+-- the log tells the rows of the block
+pub block_told : (parts : BlockParts) (body : Body) (ids : Name → Option (Option TermId)) → Tells parts body → ids ≡ no_own (own body) → name_rows parts.terms parts.log (names_by parts.terms ids) ≡ map name_row (block_rows body)
+block_told parts body ids tells e =
+    ap (λ f. name_rows parts.terms parts.log (names_by parts.terms f)) e
+    ∙ ap (name_rows parts.terms parts.log) (starts_as parts.terms body)
+    ∙ same_rows parts.terms parts.log (start body tree.Leaf)
+    ∙ ap (map name_row) tells.rows
+
+-- ---- own names
+
+pub own_next : (names : List (Bor Name)) (i : ℕ) (y : Bor Name) (ids new : Name → Option (Option TermId)) → i < length names → y ≡ get_or names i y → ids ≡ no_own (has (names_at (take i names))) → new ≡ put_value y.now None ids →
+    new ≡ no_own (has (names_at (take (i + 1) names)))
+own_next names i y ids new below at e put = put ∙ ap (put_value y.now None) e ∙ (λ j x. each x j)
+  where
+    by_test : (a b : Bool) → (if a then Some None else (if b then Some None else None)) ≡ (if b || (a || false) then Some (let none : Option TermId = None in none) else None)
+    by_test true true = refl
+    by_test true false = refl
+    by_test false true = refl
+    by_test false false = refl
+
+    each : (x : Name) → put_value y.now None (no_own (has (names_at (take i names)))) x ≡ no_own (has (names_at (take (i + 1) names))) x
+    each x =
+        by_test (bytes_eq x y.now) (has (names_at (take i names)) x)
+        ∙ ap (λ b. if b then Some None else None) (sym (list_any-append (bytes_eq x) (names_at (take i names)) (y.now ∷ [])) ∙ ap (λ l. has l x) (sym (names_more names i y below at)))
+
+-- ---- lets
+
+flat_both : (a b : List Stmt) → flat_map let_name (a ++ b) ≡ flat_map let_name a ++ flat_map let_name b
+flat_both [] b = refl
+flat_both (s ∷ a) b = ap (λ l. let_name s ++ l) (flat_both a b) ∙ sym (append_assoc (let_name s) (flat_map let_name a) (flat_map let_name b))
+
+mutual
+  stmt_lets : (s : Stmt) → flat_map let_name (s ∷ inside s) ≡ let_of s
+  stmt_lets (Assign slot line gens x e) = refl
+  stmt_lets (Let slot line gens x e) = refl
+  stmt_lets (If slot line gens c first second) = flat_both (statements first) (else_statements second) ∙ ap₂ (λ a b. a ++ b) (body_lets first) (else_body_lets second)
+
+  pub body_lets : (b : design.Body) → flat_map let_name (statements b) ≡ lets_of b
+  body_lets Done = refl
+  body_lets (Then s rest) = flat_both (s ∷ inside s) (statements rest) ∙ ap₂ (λ a b. a ++ b) (stmt_lets s) (body_lets rest)
+
+  else_body_lets : (e : Else) → flat_map let_name (else_statements e) ≡ else_lets e
+  else_body_lets NoElse = refl
+  else_body_lets (Otherwise body) = body_lets body
+
+-- the statements of the code
+pub let_put : (names after : List (Bor Name)) (y : Bor Name) (s : code_stmt.Stmt) (slot line : ℕ) (gens : Gens) (x : Name) (e : code_expr.Expr) → s ≡ code_stmts.Let slot line gens x e → y.now ≡ x → after ≡ names ++ y ∷ []
+    → names_at after ≡ names_at names ++ let_name (stmt_of s)
+let_put names after y s slot line gens x e is same push =
+    ap names_at push ∙ map_push (λ (r : Bor Name). r.now) names y ∙ ap (λ z. names_at names ++ z ∷ []) same
+    ∙ sym (ap (λ l. names_at names ++ l) (ap (λ t. let_name (stmt_of t)) is ∙ ap let_name (stmt_let slot line gens x e)))
+
+pub no_let_assign : (names : List Name) (s : code_stmt.Stmt) (slot line : ℕ) (gens : Gens) (x : Name) (e : code_expr.Expr) → s ≡ code_stmts.Assign slot line gens x e → names ≡ names ++ let_name (stmt_of s)
+no_let_assign names s slot line gens x e is = sym (ap (λ l. names ++ l) (ap (λ t. let_name (stmt_of t)) is ∙ ap let_name (stmt_assign slot line gens x e)) ∙ append-nil names)
+
+pub no_let_if : (names : List Name) (s : code_stmt.Stmt) (slot line : ℕ) (gens : Gens) (c : code_expr.Expr) (a : Vec code_stmt.Stmt Global) (b : Option (Vec code_stmt.Stmt Global)) → s ≡ code_stmts.If slot line gens c a b
+    → names ≡ names ++ let_name (stmt_of s)
+no_let_if names s slot line gens c a b is = sym (ap (λ l. names ++ l) (ap (λ t. let_name (stmt_of t)) is ∙ ap let_name (stmt_if slot line gens c a b)) ∙ append-nil names)

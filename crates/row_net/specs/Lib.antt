@@ -1,0 +1,4 @@
+pub mod Spots
+pub mod Told
+pub mod Blocks
+pub mod Unset

@@ -1,0 +1,110 @@
+ghost use Rattle.std.specs.Prelude.{◌≡◌, ◌++◌, map, IfOk, OnOk};
+ghost use Rattle.std.specs.List.{flat_map};
+ghost use Rattle.exec_core.specs.Lists.{EachOf};
+ghost use Rattle.exec_core.specs.Trees.{block_rows as the_rows};
+ghost use Rattle.design_core.specs.Slots.{lets_of};
+ghost use Rattle.design_core.specs.View.{block_of, body_of, stmt_of};
+ghost use Rattle.design_exec.specs.Processes as processes;
+ghost use Rattle.check_core.specs.Known.{has};
+ghost use Rattle.check_core.specs.Maps.{value_of};
+ghost use Rattle.check_core.specs.Statements.{stmts_at};
+ghost use Rattle.block_net.specs.Blocks.{Tells};
+ghost use Rattle.dep_order.specs.Blocks.{assigned_in as the_assigned};
+ghost use Rattle.dep_order.specs.Names.{names_at};
+ghost use Rattle.term_net.specs.Growth.{Grown};
+ghost use Rattle.term_net.specs.Leaves.{leaf_id, leaf_tree};
+ghost use Rattle.term_net.specs.Memos.{Fits};
+ghost use Rattle.row_net.specs.Told.{RowReady, RowsHave, let_name, name_row, no_own};
+
+use crate::replay::replay;
+use block_net::{BlockTerms, IdMap};
+use bv_core::NodeId;
+use check_core::statements;
+use dep_order::{NumberMap, assigned_in};
+use design_core::{Block, Stmt};
+use lower_core::FullRow;
+use net_core::NetBuilder;
+use std::alloc::Global;
+use text_core::NoMemory;
+
+/// Puts the name of a statement behind others, if it is a let.
+#[tactic(auto, using(design_core::proofs::Views::design_views))]
+fn put_let<'a>(names: &mut Vec<&'a [u8]>, stmt: &'a Stmt) -> Result<(), NoMemory>
+    ensures { OnOk result (names_at names.new.items ≡ names_at names.old.items ++ let_name (stmt_of stmt.now)) }
+{
+    match stmt {
+        Stmt::Let { name, .. } => {
+            names.push(name.bytes())?;
+            Ok(())
+        }
+        Stmt::Assign { .. } => Ok(()),
+        Stmt::If { .. } => Ok(()),
+    }
+}
+
+/// The names of the lets among statements.
+fn let_names<'a>(alloc: Global, stmts: &[&'a Stmt]) -> Result<Vec<&'a [u8]>, NoMemory>
+    ensures { IfOk result (λ names. names_at names.items ≡ flat_map let_name (stmts_at stmts.now)) }
+{
+    let mut names = Vec::new(alloc);
+    for stmt in stmts {
+        put_let(&mut names, stmt)?;
+    }
+    Ok(names)
+}
+
+/// The names of the lets of a body, in preorder.
+fn lets_in<'a>(alloc: Global, body: &'a [Stmt]) -> Result<Vec<&'a [u8]>, NoMemory>
+    ensures { IfOk result (λ names. names_at names.items ≡ lets_of (body_of body.now)) }
+{
+    let stmts = statements(alloc, body)?;
+    let names = let_names(alloc, &stmts)?;
+    Ok(names)
+}
+
+/// What the names of a list have before a block's first statement, of which they are the own names: nothing.
+fn without_trees(alloc: Global, names: &[&[u8]]) -> Result<IdMap, NoMemory>
+    ensures { IfOk result (λ held. value_of held ≡ no_own (has (names_at names.now))) }
+{
+    let mut held = IdMap::new(alloc);
+    for name in names {
+        held.put(alloc, name, None)?;
+    }
+    Ok(held)
+}
+
+/// What names have before the first statement of a body: its own names have nothing, and others are themselves.
+fn before_first(alloc: Global, clocked: bool, body: &[Stmt]) -> Result<IdMap, NoMemory>
+    ensures { IfOk result (λ held. value_of held ≡ no_own (the_assigned clocked (body_of body.now))) }
+{
+    let names = assigned_in(alloc, clocked, body)?;
+    let held = without_trees(alloc, &names)?;
+    Ok(held)
+}
+
+/// The rows of a block of an instance, in the order of its statements: a cell for each signal, and for each of its lets.
+pub(crate) fn block_rows(
+    alloc: Global,
+    builder: &mut NetBuilder,
+    block: &Block,
+    terms: &BlockTerms,
+    places: &NumberMap,
+    nodes: &[Option<NodeId>],
+    memo: &mut [Option<NodeId>],
+    signals: &[&[u8]],
+    instance: u32,
+) -> Result<Vec<FullRow>, NoMemory>
+    requires fits { Fits builder.old (value_of places.now) nodes.now terms.now.terms memo.old }
+    requires tells { Tells terms.now (processes.body_of block.now.clocked (block_of block.now).body) }
+    requires ready { EachOf (RowReady (leaf_id (value_of places.now) nodes.now) (leaf_tree builder.old (value_of places.now) nodes.now) (names_at signals.now ++ lets_of (block_of block.now).body)) (map name_row (the_rows (processes.body_of block.now.clocked (block_of block.now).body))) }
+    ensures have { IfOk result (λ rows. RowsHave builder.new (leaf_tree builder.new (value_of places.now) nodes.now) instance (names_at signals.now ++ lets_of (block_of block.now).body) (map name_row (the_rows (processes.body_of block.now.clocked (block_of block.now).body))) rows.items) }
+    ensures fits { OnOk result (Fits builder.new (value_of places.now) nodes.now terms.now.terms memo.new) }
+    ensures grown { OnOk result (Grown builder.old builder.new) }
+{
+    let lets = lets_in(alloc, &block.body)?;
+    let mut held = before_first(alloc, block.clocked, &block.body)?;
+    let rows = replay(
+        alloc, builder, terms, places, nodes, memo, &mut held, signals, &lets, instance,
+    )?;
+    Ok(rows)
+}

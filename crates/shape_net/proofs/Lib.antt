@@ -1,0 +1,5 @@
+pub mod Listing
+pub mod Buckets
+pub mod Numbers
+pub mod Preorder
+pub mod InOrder

@@ -1,0 +1,77 @@
+ghost use Rattle.std.specs.Prelude.{◌≡◌, IfOk, map};
+ghost use Rattle.design_core.specs.View.{variant_of};
+ghost use Rattle.lower_core.specs.Shape.{gen_part, instance_part, variant_part};
+
+use design_core::{Instance, Variant};
+use std::alloc::Global;
+use symtab::{GenVariable, InstanceParts, VariantParts};
+use text_core::{Listed, NoMemory, Text};
+
+/// A generator variable with its number, copied.
+fn variable_copy(alloc: Global, variable: &(Text, i64)) -> Result<GenVariable, NoMemory>
+    ensures { IfOk result (λ part. part ≡ gen_part variable.now) }
+{
+    Ok(GenVariable {
+        name: Text::new(alloc, variable.0.bytes())?,
+        value: variable.1,
+    })
+}
+
+/// Generator variables with their numbers, copied.
+pub(crate) fn gens_of(alloc: Global, gens: &[(Text, i64)]) -> Result<Listed<GenVariable>, NoMemory>
+    ensures { IfOk result (λ parts. parts ≡ map gen_part gens.now) }
+{
+    let mut parts = Vec::new(alloc);
+    for variable in gens {
+        parts.push(variable_copy(alloc, variable)?)?;
+    }
+    Ok(Listed::new(parts))
+}
+
+/// A variant: its module, and the parameters that it was made with.
+fn variant_copy(alloc: Global, variant: &Variant) -> Result<VariantParts, NoMemory>
+    ensures { IfOk result (λ part. part ≡ variant_part (variant_of variant.now)) }
+{
+    Ok(VariantParts {
+        module: Text::new(alloc, variant.module.bytes())?,
+        gens: gens_of(alloc, variant.params.items())?,
+    })
+}
+
+/// The variants of a design, in order.
+pub(crate) fn variants_of(
+    alloc: Global,
+    variants: &[Variant],
+) -> Result<Listed<VariantParts>, NoMemory>
+    ensures { IfOk result (λ parts. parts ≡ map variant_part (map variant_of variants.now)) }
+{
+    let mut parts = Vec::new(alloc);
+    for variant in variants {
+        parts.push(variant_copy(alloc, variant)?)?;
+    }
+    Ok(Listed::new(parts))
+}
+
+/// An instance: its path, and the number of its variant.
+fn instance_copy(alloc: Global, instance: &Instance) -> Result<InstanceParts, NoMemory>
+    ensures { IfOk result (λ part. part ≡ instance_part instance.now) }
+{
+    Ok(InstanceParts {
+        path: Text::new(alloc, instance.path.bytes())?,
+        variant: instance.variant,
+    })
+}
+
+/// The instances of a design, in order.
+pub(crate) fn instances_of(
+    alloc: Global,
+    instances: &[Instance],
+) -> Result<Listed<InstanceParts>, NoMemory>
+    ensures { IfOk result (λ parts. parts ≡ map instance_part instances.now) }
+{
+    let mut parts = Vec::new(alloc);
+    for instance in instances {
+        parts.push(instance_copy(alloc, instance)?)?;
+    }
+    Ok(Listed::new(parts))
+}

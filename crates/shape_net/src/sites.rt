@@ -1,0 +1,137 @@
+ghost use Rattle.std.specs.Prelude.{◌≡◌, ◌++◌, ◌≤◌, length, map, IfOk, OnOk};
+ghost use Rattle.design_core.specs.View.{block_of, stmt_of, variant_of};
+ghost use Rattle.check_core.specs.Statements.{stmts_at};
+ghost use Rattle.shape_net.specs.Heads.{head_of, signal_name};
+ghost use Rattle.shape_net.specs.Numbered.{block_slots, design_slots, numbered_stmt, variant_slots};
+
+use crate::ordered::NumberedSlot;
+use crate::parts::gens_of;
+use crate::scopes::{lets_among, scope_names};
+use check_core::statements;
+use design_core::{Block, Signal, Stmt, Variant};
+use std::alloc::Global;
+use symtab::Slot;
+use text_core::{Listed, NoMemory, Text};
+
+/// The number of a statement.
+#[tactic(auto, using(design_core::proofs::Views::design_views))]
+fn number_of(stmt: &Stmt) -> u32
+    ensures { result ≡ (head_of (stmt_of stmt.now)).slot }
+{
+    match stmt {
+        Stmt::Assign { slot, .. } => *slot,
+        Stmt::Let { slot, .. } => *slot,
+        Stmt::If { slot, .. } => *slot,
+    }
+}
+
+/// The line of a statement.
+#[tactic(auto, using(design_core::proofs::Views::design_views))]
+fn line_of(stmt: &Stmt) -> u32
+    ensures { result ≡ (head_of (stmt_of stmt.now)).line }
+{
+    match stmt {
+        Stmt::Assign { line, .. } => *line,
+        Stmt::Let { line, .. } => *line,
+        Stmt::If { line, .. } => *line,
+    }
+}
+
+/// The generator variables at a statement.
+#[tactic(auto, using(design_core::proofs::Views::design_views))]
+fn gens_at(stmt: &Stmt) -> &[(Text, i64)]
+    ensures { result.now ≡ (head_of (stmt_of stmt.now)).gens }
+{
+    match stmt {
+        Stmt::Assign { gens, .. } => gens.items(),
+        Stmt::Let { gens, .. } => gens.items(),
+        Stmt::If { gens, .. } => gens.items(),
+    }
+}
+
+/// A statement of the variant of this number, with its own number, where these signals and lets are in scope.
+fn numbered(
+    alloc: Global,
+    variant: u32,
+    signals: &[Signal],
+    lets: &[Text],
+    stmt: &Stmt,
+) -> Result<NumberedSlot, NoMemory>
+    ensures { IfOk result (λ numbered. numbered ≡ numbered_stmt variant (map signal_name signals.now ++ lets.now) (stmt_of stmt.now)) }
+{
+    let gens = gens_of(alloc, gens_at(stmt))?;
+    let names = scope_names(alloc, signals, lets)?;
+    Ok(NumberedSlot {
+        number: number_of(stmt),
+        slot: Slot {
+            variant,
+            line: line_of(stmt),
+            gens,
+            names,
+            rows: Listed::new(Vec::new(alloc)),
+        },
+    })
+}
+
+/// Puts statements of a block behind others.
+fn put_stmts(
+    alloc: Global,
+    variant: u32,
+    signals: &[Signal],
+    lets: &[Text],
+    stmts: &[&Stmt],
+    slots: &mut Vec<NumberedSlot>,
+) -> Result<(), NoMemory>
+    ensures { OnOk result (slots.new.items ≡ slots.old.items ++ map (numbered_stmt variant (map signal_name signals.now ++ lets.now)) (stmts_at stmts.now)) }
+{
+    for stmt in stmts {
+        slots.push(numbered(alloc, variant, signals, lets, stmt)?)?;
+    }
+    Ok(())
+}
+
+/// Puts the statements of a block of a variant with these signals behind others, in preorder.
+fn put_block(
+    alloc: Global,
+    variant: u32,
+    signals: &[Signal],
+    block: &Block,
+    slots: &mut Vec<NumberedSlot>,
+) -> Result<(), NoMemory>
+    ensures { OnOk result (slots.new.items ≡ slots.old.items ++ block_slots variant signals.now (block_of block.now)) }
+{
+    let stmts = statements(alloc, &block.body)?;
+    let lets = lets_among(alloc, &stmts)?;
+    put_stmts(alloc, variant, signals, &lets, &stmts, slots)?;
+    Ok(())
+}
+
+/// Puts the statements of a variant behind others, block by block.
+fn put_variant(
+    alloc: Global,
+    number: u32,
+    variant: &Variant,
+    slots: &mut Vec<NumberedSlot>,
+) -> Result<(), NoMemory>
+    ensures { OnOk result (slots.new.items ≡ slots.old.items ++ variant_slots number (variant_of variant.now)) }
+{
+    for block in &variant.blocks {
+        put_block(alloc, number, variant.signals.items(), block, slots)?;
+    }
+    Ok(())
+}
+
+/// The statements of all variants with their numbers, variant by variant.
+pub(crate) fn numbered_slots(
+    alloc: Global,
+    variants: &[Variant],
+) -> Result<Vec<NumberedSlot>, NoMemory>
+    requires { length variants.now ≤ 4096 }
+    ensures { IfOk result (λ slots. slots.items ≡ design_slots 0 (map variant_of variants.now)) }
+{
+    let mut slots = Vec::new(alloc);
+    for (number, variant) in variants.iter().enumerate() {
+        put_variant(alloc, number as u32, variant, &mut slots)?;
+    }
+    Ok(slots)
+}

@@ -1,0 +1,5 @@
+pub mod Places
+pub mod Listing
+pub mod Telling
+pub mod Keys
+pub mod Driving

@@ -1,0 +1,90 @@
+-- What the blocks of processes end with, by nodes.
+use Rattle.std.proofs.Common.{◌≡◌, ℕ, List, Option, Some, None, IsSome, refl, sym, ap, ◌∙◌, subst}
+use Rattle.std.specs.Prelude.{slice_get}
+use Rattle.std.proofs.lemmas.Option.{same_Some, none-some}
+use Rattle.bv_core.specs.declared.reference.NodeId.{NodeId}
+use Rattle.tree_core.specs.Tree.{Tree, Whole}
+use Rattle.exec_core.specs.Block as blocks
+use Rattle.exec_core.specs.Block.{Name, Key, Now, Next}
+use Rattle.design_exec.specs.Processes.{body_of}
+use Rattle.exec_core.specs.Design.{Process, moved}
+use Rattle.exec_core.specs.Trees.{block_trees}
+use Rattle.design_core.specs.Design as design
+use Rattle.net_core.specs.Nodes.{Shape}
+use Rattle.net_core.specs.Builder.{Stands}
+use Rattle.block_net.specs.Blocks.{BlockParts, Tells, ends_in}
+use Rattle.block_net.specs.declared.term.TermId.{TermId}
+use Rattle.block_net.specs.Walks.{held}
+use Rattle.check_core.specs.Maps.{value_of}
+use Rattle.term_net.specs.Growth.{Grown}
+use Rattle.term_net.specs.Leaves.{IsReady, leaf_id, leaf_tree, whole_of}
+use Rattle.ssa_core.specs.declared.process.ProcessKey.{ProcessKey}
+use Rattle.ssa_core.specs.Processes.{process_at, terms_at}
+use Rattle.ssa_state.specs.State.{names_in}
+use Rattle.ssa_state.specs.Held.{CanHaveNode, NodeTold}
+use Rattle.ssa_nodes.specs.declared.parts.Parts as code
+use Rattle.ssa_nodes.specs.Parts.{HasParts, HasSignals, HasState, HasNodeBy, CanHave, IsReadyBy, IsEnd, EndStands, StandsBy, all_in, blocks_in, design_in}
+use Rattle.ssa_nodes.proofs.Sources.{ready_here, stands_here, signals_more}
+use Rattle.ssa_nodes.proofs.Looking.{process_terms}
+
+abbrev process_body : design.Block → blocks.Body
+process_body b = body_of b.clocked b.body
+
+module _ (p : code.Parts) (h : HasParts p) where
+  pub signals_of : (ns : List Shape) (nodes : List (Option NodeId)) (memos : List (List (Option NodeId))) → HasState p ns nodes memos → HasSignals p ns nodes
+  signals_of ns nodes memos s = record { shared = s.shared; placed = s.placed; signals = s.signals }
+
+  -- what can have a node, by names that are those of the instance
+  pub can_have : (ns : List Shape) (nodes : List (Option NodeId)) (i : ℕ) (names : Name → Option ℕ) (o : Option (Tree Name)) → names ≡ names_in (all_in p) i → HasSignals p ns nodes → CanHave p nodes i o → CanHaveNode (leaf_id names nodes) (leaf_tree ns names nodes) o
+  can_have ns nodes i names None e s c = c
+  can_have ns nodes i names (Some t) e s c = subst (λ (f : Name → Option ℕ). IsReady (leaf_id f nodes) (leaf_tree ns f nodes) t) (sym e) (ready_here p h ns nodes i t s c)
+
+  pub has_node : (old new : List Shape) (nodes : List (Option NodeId)) (i : ℕ) (names : Name → Option ℕ) (o : Option (Tree Name)) (id : Option NodeId) → names ≡ names_in (all_in p) i → HasSignals p old nodes → Grown old new → CanHave p nodes i o →
+      NodeTold new (leaf_tree new names nodes) o id → HasNodeBy p new i o id
+  has_node old new nodes i names None None e s g c told = told
+  has_node old new nodes i names None (Some id) e s g c told = told
+  has_node old new nodes i names (Some t) None e s g c told = told
+  has_node old new nodes i names (Some t) (Some id) e s g c told = stands_here p h old new nodes i t names id e s g c told
+
+  -- ---- the end of a block
+
+  pub end_now : (parts : BlockParts) (b : Process) (x : Name) → Tells parts b.body → held parts.terms x (value_of parts.names x) ≡ block_trees b.body (Now x)
+  end_now parts b x tells = ap (λ (env : Key → Option (Tree Name)). env (Now x)) tells.ends
+
+  pub end_next : (parts : BlockParts) (b : Process) (x : Name) → Tells parts b.body → held parts.terms x (value_of parts.registers x) ≡ block_trees b.body (Next x)
+  end_next parts b x tells = ap (λ (env : Key → Option (Tree Name)). env (Next x)) tells.ends
+
+  -- the terms of a process's block tell of its body
+  pub tells_of : (key : ProcessKey) (b : Process) (parts : BlockParts) → process_at (design_in p) key ≡ Some b → terms_at (blocks_in p) key.variant key.block ≡ Some parts → Tells parts b.body
+  tells_of key b parts e at =
+      let terms = process_terms (design_in p) (blocks_in p) key b h.parts.terms e in
+      let same : terms.has.parts ≡ parts = same_Some terms.has.parts parts (sym terms.has.found ∙ at) in
+      subst (λ (c : Process). Tells parts c.body) terms.is (subst (λ q. Tells q (process_body terms.block)) same terms.has.tells)
+
+  pub instance_of : (key : ProcessKey) (b : Process) → process_at (design_in p) key ≡ Some b → b.instance ≡ key.instance
+  instance_of key b e = let terms = process_terms (design_in p) (blocks_in p) key b h.parts.terms e in ap (λ (c : Process). c.instance) (sym terms.is)
+
+  -- what stands at the end can have a node, and its node stands for it
+  pub end_can : (nodes : List (Option NodeId)) (k : ℕ) (y : Key) (key : ProcessKey) (o : Option (Tree Name)) (ends : IsEnd p nodes k y) → slice_get p.keys.items k ≡ Some key → o ≡ block_trees ends.process.body y → CanHave p nodes key.instance o
+  end_can nodes k y key o ends found is =
+      let same : ends.key ≡ key = same_Some ends.key key (sym ends.found ∙ found) in
+      let i : ends.process.instance ≡ key.instance = instance_of ends.key ends.process ends.is ∙ ap (λ (q : ProcessKey). q.instance) same in
+      subst (CanHave p nodes key.instance) (sym (is ∙ ends.ends)) (subst (λ n. IsReadyBy p nodes (moved n ends.tree)) i ends.ready)
+
+  pub end_some : (new : List Shape) (nodes : List (Option NodeId)) (k : ℕ) (y : Key) (i : ℕ) (o : Option (Tree Name)) (id : Option NodeId) (ends : IsEnd p nodes k y) → o ≡ block_trees ends.process.body y → HasNodeBy p new i o id → IsSome id
+  end_some new nodes k y i o id ends is has = some_id (o) id (is ∙ ends.ends) has
+    where
+      some_id : (o : Option (Tree Name)) (id : Option NodeId) → o ≡ Some ends.tree → HasNodeBy p new i o id → IsSome id
+      some_id None id e has = absurd (none-some ends.tree e)
+      some_id (Some t) None e has = absurd has
+      some_id (Some t) (Some n) e has = refl
+
+  pub end_stands : (new : List Shape) (nodes : List (Option NodeId)) (k : ℕ) (y : Key) (key : ProcessKey) (o : Option (Tree Name)) (id : Option NodeId) (found : NodeId) (ends : IsEnd p nodes k y) → slice_get p.keys.items k ≡ Some key →
+      o ≡ block_trees ends.process.body y → HasNodeBy p new key.instance o id → id ≡ Some found → EndStands p new k y found
+  end_stands new nodes k y key o id found ends at is has e other b t there its tree =
+      let same_key : key ≡ other = same_Some key other (sym at ∙ there) in
+      let same_ends : ends.key ≡ other = same_Some ends.key other (sym ends.found ∙ there) in
+      let same_process : ends.process ≡ b = same_Some ends.process b (sym ends.is ∙ ap (process_at (design_in p)) same_ends ∙ its) in
+      let o_is : o ≡ Some t = is ∙ ap (λ (c : Process). block_trees c.body y) same_process ∙ tree in
+      let i : key.instance ≡ b.instance = ap (λ (q : ProcessKey). q.instance) same_key ∙ sym (instance_of other b its) in
+      subst (λ n. StandsBy p new (moved n t) found) i (subst (λ (q : Option NodeId). HasNodeBy p new key.instance (Some t) q) e (subst (λ q. HasNodeBy p new key.instance q id) o_is has))

@@ -1,0 +1,40 @@
+ghost use Rattle.std.specs.Prelude.{◌≡◌};
+ghost use Rattle.check_core.specs.Maps.{value_of};
+ghost use Rattle.ssa_state.specs.State.{names_in};
+ghost use Rattle.ssa_nodes.specs.Parts.{HasParts, all_in};
+
+use block_net::BlockTerms;
+use dep_order::{NumberMap, Order};
+use design_core::Design;
+use ssa_core::{Drive, Link, ProcessKey};
+
+/// What lowering looks things up in: the design with an order of its driven signals, the numbers of its signals, its links and
+/// processes, the terms of its blocks, and what drives each signal.
+#[derive(Drop)]
+pub struct Parts<'a> {
+    pub design: &'a Design,
+    pub order: &'a Order,
+    /// A map for each instance.
+    pub maps: Vec<NumberMap>,
+    /// How many signals have numbers.
+    pub count: usize,
+    pub links: Vec<Link<'a>>,
+    pub keys: Vec<ProcessKey>,
+    /// The terms of each block of each variant.
+    pub blocks: Vec<Vec<BlockTerms>>,
+    /// What drives the signal of each number.
+    pub drives: Vec<Option<Drive>>,
+    /// No names.
+    pub nobody: NumberMap,
+}
+
+/// The numbers of the names of an instance.
+pub fn names_of<'p>(parts: &'p Parts<'_>, instance: u32) -> &'p NumberMap
+    requires { HasParts parts.now }
+    ensures { value_of result.now ≡ names_in (all_in parts.now) instance }
+{
+    match parts.maps.get(instance as usize) {
+        Some(map) => map,
+        None => &parts.nobody,
+    }
+}

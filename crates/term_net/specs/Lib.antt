@@ -1,0 +1,4 @@
+pub mod Leaves
+pub mod Growth
+pub mod Memos
+pub mod Pending
