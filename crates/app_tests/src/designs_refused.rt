@@ -240,46 +240,77 @@ static NOT_ACCEPTED: [(&str, &[u8], &str); 30] = [
     ),
 ];
 
-/// Sources that are accepted, and are not of the form that runs today.
-static NOT_YET: [(&str, &[u8]); 11] = [
+/// Sources that the checks accept but in which signals depend on one another, with the line of the loop. The top is X.
+static LOOPS: [(&str, &[u8], &str); 8] = [
     (
-        "two modules",
-        b"module P { input a : 4; output y : 4; comb { y = a; } } module Q { input a : 4; output y : 4; comb { y = a; } }",
+        "two outputs",
+        b"module X { output a : 1; output b : 1; comb { a = b; } comb { b = a; } }",
+        "design fault 20 CombLoop X.a X.b\n",
     ),
     (
-        "parameters",
-        b"module P(W = 4) { input a : 4; output y : 4; wire t : 4; comb { t = (a + 4'h1); y = (t ^ a); } }",
-    ),
-    ("no block", b"module P { input a : 4; }"),
-    (
-        "two blocks",
-        b"module P { input a : 4; output y : 4; wire t : 4; comb { t = (a + 4'h1); } comb { y = (t ^ a); } }",
+        "one of two targets of a block",
+        b"module X { input x : 1; output a : 1; output b : 1; wire c : 1; comb { a = x; b = c; } comb { c = b; } }",
+        "design fault 20 CombLoop X.b X.c\n",
     ),
     (
-        "a let",
-        b"module P { input a : 4; output y : 4; comb { let t = (a + 4'h1); y = (t ^ a); } }",
+        "three signals, told each before the one that it depends on",
+        b"module X { wire a : 1; wire b : 1; wire c : 1; comb { b = a; } comb { c = b; } comb { a = c; } }",
+        "design fault 20 CombLoop X.a X.c X.b\n",
     ),
     (
-        "an if",
-        b"module P { input a : 4; input c : 1; output y : 4; comb { if c { y = a; } else { y = (a + 4'h1); } } }",
+        "a signal that depends on itself through the test of a mux",
+        b"module X { input c : 1; output a : 1; wire t : 1; comb { a = mux(t, c, 1'h0); } comb { t = a; } }",
+        "design fault 20 CombLoop X.a X.t\n",
     ),
     (
-        "a difference",
-        b"module P { input a : 4; output y : 4; comb { y = (a - 4'h1); } }",
+        "a signal that depends on itself through a value of a mux",
+        b"module X { input c : 1; output a : 1; wire t : 1; comb { a = mux(c, t, c); } comb { t = a; } }",
+        "design fault 20 CombLoop X.a X.t\n",
     ),
     (
-        "nested brackets",
-        b"module P { input a : 4; output y : 4; comb { y = ((a + a) + a); } }",
+        "a signal that depends on itself through the condition of an `if`",
+        b"module X { output a : 1; wire t : 1; comb { if t { a = 1'h0; } else { a = 1'h1; } } comb { t = a; } }",
+        "design fault 20 CombLoop X.a X.t\n",
+    ),
+    (
+        "signals of an instance",
+        b"module L { wire w#0 : 1; wire w#1 : 1; comb { w#0 = w#1; } comb { w#1 = w#0; } } module X { inst u : L { } }",
+        "design fault 20 CombLoop X.u.w#0 X.u.w#1\n",
+    ),
+    (
+        "three instances: an output has one path above its instance and in it",
+        b"module L { input i : 1; output o : 1; comb { o = i; } } module X { inst u : L { i = w.o; } inst v : L { i = u.o; } inst w : L { i = v.o; } }",
+        "design fault 20 CombLoop X.u.o X.u.o X.u.i X.w.o X.w.o X.w.i X.v.o X.v.o X.v.i\n",
+    ),
+];
+
+/// A loop of signals beside another refusal, which goes first; and the same signals in an order, where the design is accepted
+/// and its stimulus is refused. The top is X.
+static BESIDE_LOOPS: [(&str, &[u8], u8, &str); 4] = [
+    (
+        "a latch",
+        b"module X { input c : 1; wire a : 1; wire b : 1; wire t : 1; comb { a = b; } comb { b = a; } comb { if c { t = c; } } }",
+        3,
+        "design fault 18 Latch line 1 name t instance X\n",
+    ),
+    (
+        "a signal that its own block reads",
+        b"module X { input c : 1; output a : 1; comb { a = mux(c, a, c); } }",
+        3,
+        "design fault 19 ReadBeforeWrite line 1 name a instance X\n",
+    ),
+    (
+        "each block has a target that the other one reads",
+        b"module X { input x : 1; output a : 1; output b : 1; wire c : 1; comb { a = x; b = c; } comb { c = a; } }",
+        4,
+        "stimulus fault 1 HeaderMismatch\n",
     ),
     (
         "a register",
-        b"module P { input a : 4; output y : 4; reg r : 4 = 4'h0; comb { y = r; } ff { r <= a; } }",
+        b"module X { output a : 1; reg r : 1 = 1'h0; comb { a = r; } ff { r <= a; } }",
+        4,
+        "stimulus fault 1 HeaderMismatch\n",
     ),
-    (
-        "a number of bits that is computed",
-        b"module P { input a : (2 + 2); output y : 4; comb { y = a; } }",
-    ),
-    ("an empty module", b"module P { }"),
 ];
 
 /// A loop whose bound is a parameter.
@@ -287,12 +318,9 @@ const LOOP: &[u8] =
     b"module P(N = 3) {\n  input a : 4;\n  output s : 4;\n  comb { s = 4'h0; for i in 0..N {\n    s = (s + a);\n  } }\n}\n";
 
 /// Arguments of the top of that source, and the line of its refusal.
-static ARGUMENTS: [(&[&str], &str); 9] = [
+static ARGUMENTS: [(&[&str], &str); 6] = [
     (&["N=4097"], "design fault 7 ElabRange line 4\n"),
-    (&["N=4096"], "design fault 0 NotYet\n"),
     (&["N=0004097"], "design fault 7 ElabRange line 4\n"),
-    (&["N=-5"], "design fault 0 NotYet\n"),
-    (&["N=-0"], "design fault 0 NotYet\n"),
     (
         &["N=4611686018427387904"],
         "design fault 7 ElabRange line 4\n",
@@ -339,9 +367,29 @@ fn sources_that_are_not_accepted_are_refused_before_the_stimulus_is_asked_for(
         let refused = is_refused(rt.alloc(), source, line)?;
         assert!(rt; refused, "{why}");
     }
-    for (why, source) in &NOT_YET {
-        let refused = is_refused(rt.alloc(), source, "design fault 0 NotYet\n")?;
+    Ok(())
+}
+
+/// Whether a command with the top X ends with this status and this line, by a stimulus that no inputs take. A refused source
+/// ends it before the stimulus is asked for.
+fn ends_with(alloc: Global, source: &[u8], status: u8, line: &str) -> Result<bool, NoMemory> {
+    let outcome = trail(alloc, source, b"?\n", "X")?;
+    if status == 3 {
+        outcome.is(status, line, &["P.hg"])
+    } else {
+        outcome.is(status, line, &["P.hg", "P.stim"])
+    }
+}
+
+#[test]
+fn loops_of_signals_are_told_by_their_paths(rt: HostRuntime) -> Result<(), Fail> {
+    for (why, source, line) in &LOOPS {
+        let refused = ends_with(rt.alloc(), source, 3, line)?;
         assert!(rt; refused, "{why}");
+    }
+    for (why, source, status, line) in &BESIDE_LOOPS {
+        let ended = ends_with(rt.alloc(), source, *status, line)?;
+        assert!(rt; ended, "{why}");
     }
     Ok(())
 }

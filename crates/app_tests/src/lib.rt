@@ -11,11 +11,7 @@ mod designs_refused;
 #[cfg(test)]
 mod failing_outside;
 #[cfg(test)]
-mod memory;
-#[cfg(test)]
 mod outcome;
-#[cfg(test)]
-mod reading;
 #[cfg(test)]
 mod stimuli_accepted;
 #[cfg(test)]

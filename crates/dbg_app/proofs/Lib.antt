@@ -1,3 +1,6 @@
 mod Ending
+mod Writing
+mod Asking
 mod Judging
+mod PortsFit
 mod Given

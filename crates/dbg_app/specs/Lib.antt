@@ -1,4 +1,5 @@
 pub mod Command
+pub mod Loops
 pub mod Refusals
 pub mod Answers
 pub mod Judged

@@ -6,7 +6,8 @@ use Rattle.stim_text.specs.declared.StimFault.TheVariants as stim_faults
 use Rattle.dbg_app.specs.declared.design_fault.DesignFault.{DesignFault}
 use Rattle.dbg_app.specs.Command.{Row}
 use Rattle.dbg_app.specs.Refusals.{is_no_memory}
-use Rattle.dbg_app.specs.Answers.{Answer, Contents, Asks, design_fault, stimulus_fault}
+use Rattle.design_core.specs.Design.{Design}
+use Rattle.dbg_app.specs.Answers.{Answer, Contents, Asks, RefusesLoop, design_fault, stimulus_fault}
 use Rattle.dbg_app.specs.declared.stop.Stop.{Stop}
 use Rattle.dbg_app.specs.declared.stop.Stop.TheVariants.{ReadFault, WriteFault, NoMemory}
 
@@ -52,8 +53,20 @@ pub record TakesFront (files : Contents) (row : Row) (old new : Option (List ℕ
 abbrev pub TakesSome : Contents → Row → Option (List ℕ) → Option (List ℕ) → Type 0
 TakesSome files row old new = (new ≡ old) ⊎ TakesFront files row old new
 
--- where the files ask for an answer, and neither count has risen, the run ended with its status and the whole of its text was
--- taken, or memory ran out
+-- the answer tells a loop of a design, and the sink took the whole text of an answer that tells a loop of the same design
+pub record TakesOtherLoop (files : Contents) (row : Row) (answer : Answer) (old new : Option (List ℕ)) : Type 0 where
+  pub design : Design
+  pub asked : RefusesLoop files row design answer
+  pub other : Answer
+  pub also_asked : RefusesLoop files row design other
+  pub taken : Appends old new other.text
+
+-- the sink took the whole text of an answer; where it tells a loop, that of this loop or of another one
+abbrev pub TakesAnswer : Contents → Row → Answer → Option (List ℕ) → Option (List ℕ) → Type 0
+TakesAnswer files row answer old new = Appends old new answer.text ⊎ TakesOtherLoop files row answer old new
+
+-- where the files ask for an answer, and neither count has risen, the run ended with its status and its whole text was taken, or
+-- memory ran out
 abbrev pub Completes : Contents → Row → ℕ → Option (List ℕ) → Option (List ℕ) → Type 0 → Type 0 → Type 0
 Completes files row status old new read_rose write_rose =
-    (answer : Answer) → Asks files row answer → (read_rose → ⊥) → (write_rose → ⊥) → ((status ≡ answer.status) × Appends old new answer.text) ⊎ (status ≡ 9)
+    (answer : Answer) → Asks files row answer → (read_rose → ⊥) → (write_rose → ⊥) → ((status ≡ answer.status) × TakesAnswer files row answer old new) ⊎ (status ≡ 9)

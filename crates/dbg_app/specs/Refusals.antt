@@ -18,9 +18,9 @@ use Rattle.check_core.specs.Faults as check_results
 use Rattle.check_core.specs.Verdict.{verdict}
 use Rattle.dbg_app.specs.Command.{Top}
 use Rattle.dbg_app.specs.declared.design_fault.DesignFault.{DesignFault}
-use Rattle.dbg_app.specs.declared.design_fault.DesignFault.TheVariants.{Text, Elaboration, Check, NotYet}
+use Rattle.dbg_app.specs.declared.design_fault.DesignFault.TheVariants.{Text, Elaboration, Check, CombLoop}
 
--- ---- why a source that is read is refused, whatever its form
+-- ---- why a source that is read is refused, before its signals are put in order
 
 -- a faulty event of the walk, as the code tells it
 abbrev pub told_fault : walk.Fault → ElabFault
@@ -35,7 +35,7 @@ abbrev pub refusal_after : Result Design walk.Fault → Option DesignFault
 refusal_after (Ok d) = option_map (λ fault. Check fault) (verdict d)
 refusal_after (Err fault) = Some (Elaboration (told_fault fault))
 
--- the first refusal of the design of these modules from their top with what it is given
+-- the first refusal of the design of these modules from their top with what it is given, by elaboration and the checks
 abbrev pub refusal_of : List wide.Module → Top → Option DesignFault
 refusal_of modules top = refusal_after (elaborated modules top.name top.given)
 
@@ -48,7 +48,7 @@ is_no_memory (Text (text_faults.Syntax line)) = false
 is_no_memory (Text text_faults.NoMemory) = true
 is_no_memory (Elaboration fault) = not (elab_results.is_fault fault)
 is_no_memory (Check fault) = not (check_results.is_fault fault)
-is_no_memory NotYet = false
+is_no_memory (CombLoop paths) = false
 
 -- ---- their lines
 

@@ -6,31 +6,19 @@ ghost use Rattle.io_edge.specs.Taken.{Appends, AppendsFront};
 ghost use Rattle.dbg_app.specs.Command.{row_of, names_of};
 ghost use Rattle.dbg_app.specs.Answers.{IfAsked};
 ghost use Rattle.dbg_app.specs.Rows.{row_as};
-ghost use Rattle.gen_tree.specs.View.{source_of};
-ghost use Rattle.elab_laws.specs.Laws.{IsReadFromText};
-ghost use Rattle.design_core.specs.DesignView.{design_of as elaborated_design};
-ghost use Rattle.check_core.specs.Verdict.{verdict};
-ghost use Rattle.dbg_app.specs.Refusals.{is_no_memory, refusal_of as the_refusal_of};
-ghost use Rattle.dbg_app.specs.declared.design_fault.DesignFault.TheVariants.{Check};
-ghost use Rattle.dbg_app.specs.Judged.{IsOneOrNone, IsAcceptedOrNot, IsDesignOrNot, HasLine, Finds, JudgesSource, JudgesText, IsWhole, JudgesStimulus, HasRows, JudgesRow, judged_status};
+ghost use Rattle.dbg_app.specs.Judged.{IsFit, Finds, JudgesSource, JudgesText, IsWhole, JudgesStimulus, HasRows, JudgesRow, judged_status};
 ghost use Rattle.dbg_app.specs.Outcome.{is_status};
 
+use crate::accepted::Accepted;
 use crate::arguments::given_in;
 use crate::row::{Row, read_row};
+use crate::source::judge_text;
 use crate::{DesignFault, Stop};
-use check_core::CheckFault;
-use design_core::{Design, Ports};
-use elab_core::ElabFault;
-use first_form::FirstForm;
-use first_tree::narrow;
-use gen_check::check;
-use gen_elab::{Given, elaborate};
-use gen_text::{TextFault, read_source};
-use gen_tree::Source;
+use design_core::Ports;
+use gen_text::TextFault;
 use io_edge::{FileEnd, Files, Words};
 use std::alloc::Global;
 use stim_text::{Stim, StimFault, read_stim};
-use text_core::NoMemory;
 
 /// A command, judged: the words are none, the source or the stimulus is refused, or both are accepted.
 #[derive(Drop)]
@@ -38,7 +26,7 @@ pub(crate) enum Judged {
     NoCommand,
     NoDesign(DesignFault),
     NoStimulus(StimFault),
-    Accepted(FirstForm, Stim),
+    Accepted(Accepted, Stim),
 }
 
 impl Judged {
@@ -86,90 +74,14 @@ fn read<F: Files>(
     }
 }
 
-/// The form of a source that was read, where it is one module of the first form with this name.
-fn form_of(alloc: Global, source: &Source, top: &[u8]) -> Result<Option<FirstForm>, NoMemory>
-    ensures { IfOk result (IsOneOrNone top.now (source_of source.now)) }
-{
-    match narrow(alloc, source)? {
-        Some(tree) => FirstForm::accept(alloc, tree, top),
-        None => Ok(None),
-    }
-}
-
-/// Why the checks refuse a design, if they do.
-fn check_refusal(alloc: Global, design: &Design) -> Result<Option<DesignFault>, NoMemory>
-    ensures refusal { IfOk result (λ refusal. refusal ≡ option_map (λ fault. Check fault) (verdict (elaborated_design design.now))) }
-    ensures line { IfOk result (λ refusal. IfSome refusal (λ fault. is_no_memory fault ≡ false)) }
-{
-    match check(alloc, design) {
-        Ok(()) => Ok(None),
-        Err(CheckFault::NoMemory) => Err(NoMemory),
-        Err(fault) => Ok(Some(DesignFault::Check(fault))),
-    }
-}
-
-/// Why the design of a source that was read is refused, if it is: elaboration goes before the checks.
-fn refusal_of(
-    alloc: Global,
-    source: &Source,
-    top: &[u8],
-    given: &Given,
-) -> Result<Option<DesignFault>, NoMemory>
-    requires { IsReadFromText (source_of source.now) }
-    ensures refusal { IfOk result (λ refusal. refusal ≡ the_refusal_of (source_of source.now) (record { name = top.now; given = given.now })) }
-    ensures line { IfOk result (λ refusal. IfSome refusal (λ fault. is_no_memory fault ≡ false)) }
-{
-    match elaborate(alloc, source, top, given) {
-        Ok(design) => check_refusal(alloc, &design),
-        Err(ElabFault::NoMemory) => Err(NoMemory),
-        Err(fault) => Ok(Some(DesignFault::Elaboration(fault))),
-    }
-}
-
-/// The form of a source that was read, or why it is refused.
-fn accepted_of(
-    alloc: Global,
-    source: &Source,
-    top: &[u8],
-    given: &Given,
-) -> Result<Result<FirstForm, DesignFault>, NoMemory>
-    requires { IsReadFromText (source_of source.now) }
-    ensures design { IfOk result (IsAcceptedOrNot (record { name = top.now; given = given.now }) (source_of source.now)) }
-    ensures line { IfOk result HasLine }
-{
-    match refusal_of(alloc, source, top, given)? {
-        Some(fault) => Ok(Err(fault)),
-        None => Ok(form_of(alloc, source, top)?.ok_or(DesignFault::NotYet)),
-    }
-}
-
-/// The design of a source, or why it is refused.
-fn design_of(
-    alloc: Global,
-    source: &[u8],
-    top: &[u8],
-    given: &Given,
-) -> Result<Result<FirstForm, DesignFault>, Stop>
-    ensures design { IfOk result (IsDesignOrNot (record { name = top.now; given = given.now }) source.now) }
-    ensures line { IfOk result HasLine }
-    ensures no_read { IsErrOf result Stop.ReadFault → ⊥ }
-    ensures no_write { IsErrOf result Stop.WriteFault → ⊥ }
-{
-    match read_source(alloc, source) {
-        Ok(tree) => Ok(accepted_of(alloc, &tree, top, given)?),
-        Err(TextFault::NoMemory) => Err(Stop::NoMemory),
-        Err(fault) => Ok(Err(DesignFault::Text(fault))),
-    }
-}
-
 /// Reads the source, and judges it.
 fn judge_source<F: Files>(
     alloc: Global,
     row: &Row<'_>,
     files: &mut F,
-) -> Result<Result<FirstForm, DesignFault>, Stop>
+) -> Result<Result<Accepted, DesignFault>, Stop>
     ensures judged { IfOk result (λ found. IfSome (F.told files.old) (λ told. JudgesSource (told row.now.source.now) (row_as row.now).top found)) }
-    ensures line { IfOk result HasLine }
+    ensures fit { IfOk result IsFit }
     ensures same { F.told files.new ≡ F.told files.old }
     ensures asked { OnOk result (Appends (F.asked files.old) (F.asked files.new) (row.now.source.now ∷ [])) }
     ensures front { AppendsFront (F.asked files.old) (F.asked files.new) (row.now.source.now ∷ []) }
@@ -179,7 +91,7 @@ fn judge_source<F: Files>(
 {
     let given = given_in(alloc, row.words)?;
     match read(alloc, files, row.source, MOST_SOURCE)? {
-        Some(source) => design_of(alloc, &source, row.top.as_bytes(), &given),
+        Some(source) => judge_text(alloc, &source, row.top.as_bytes(), &given),
         None => Ok(Err(DesignFault::Text(TextFault::TooLong))),
     }
 }
@@ -220,7 +132,6 @@ fn judge_stimulus<F: Files>(
 }
 
 /// Reads the files of a command in the order of its words, and judges each.
-#[tactic(auto, using(crate::proofs::Judging::has_rows))]
 fn judge_row<F: Files>(alloc: Global, row: &Row<'_>, files: &mut F) -> Result<Judged, Stop>
     ensures judged { IfOk result (λ judged. IfSome (F.told files.old) (λ told. JudgesRow told (row_as row.now) judged)) }
     ensures rows { IfOk result HasRows }
@@ -230,13 +141,13 @@ fn judge_row<F: Files>(alloc: Global, row: &Row<'_>, files: &mut F) -> Result<Ju
     ensures no_write { IsErrOf result Stop.WriteFault → ⊥ }
     ensures later { F.fault_count files.old ≤ F.fault_count files.new }
 {
-    let form = match judge_source(alloc, row, files)? {
-        Ok(form) => form,
+    let accepted = match judge_source(alloc, row, files)? {
+        Ok(accepted) => accepted,
         Err(fault) => return Ok(Judged::NoDesign(fault)),
     };
-    let ports = form.ports(alloc)?;
+    let ports = accepted.ports(alloc)?;
     match judge_stimulus(alloc, row.stimulus, &ports, files)? {
-        Ok(stim) => Ok(Judged::Accepted(form, stim)),
+        Ok(stim) => Ok(Judged::Accepted(accepted, stim)),
         Err(fault) => Ok(Judged::NoStimulus(fault)),
     }
 }

@@ -2,6 +2,7 @@
 
 ghost use Rattle.std.specs.Prelude.{◌≡◌, ◌++◌, codes, string_bytes, IfOk};
 ghost use Rattle.dbg_app.specs.Answers.{text_fault, design_fault, stimulus_fault};
+ghost use Rattle.dbg_app.specs.Loops.{loop_fault};
 ghost use Rattle.dbg_app.specs.Refusals.{at_line as the_at_line, check_fault, count_name as the_count_name, elab_fault, first_driver as the_first_driver, placed as the_placed, widths as the_widths};
 
 use crate::DesignFault;
@@ -20,7 +21,7 @@ pub(crate) fn design_line(alloc: Global, fault: &DesignFault) -> Result<Vec<u8>,
         DesignFault::Text(fault) => text_line(alloc, *fault),
         DesignFault::Elaboration(fault) => elab_line(alloc, fault),
         DesignFault::Check(fault) => check_line(alloc, fault),
-        DesignFault::NotYet => Ok(b"design fault 0 NotYet\n".to_vec(alloc)?),
+        DesignFault::CombLoop(paths) => loop_line(alloc, paths.items()),
     }
 }
 
@@ -155,6 +156,19 @@ fn check_line(alloc: Global, fault: &CheckFault) -> Result<Vec<u8>, NoMemory>
         CheckFault::ReadBeforeWrite(at) => place_line(alloc, "19 ReadBeforeWrite", at, "\n"),
         CheckFault::NoMemory => Err(NoMemory),
     }
+}
+
+/// The line of a loop, by the paths of its signals.
+fn loop_line(alloc: Global, paths: &[Text]) -> Result<Vec<u8>, NoMemory>
+    ensures { IfOk result (λ line. line.items ≡ loop_fault paths.now) }
+{
+    let mut line = b"design fault 20 CombLoop".to_vec(alloc)?;
+    for path in paths {
+        line.extend_from_slice(b" ")?;
+        line.extend_from_slice(path.bytes())?;
+    }
+    line.extend_from_slice(b"\n")?;
+    Ok(line)
 }
 
 /// The line of a stimulus that is refused. Want of memory has none.

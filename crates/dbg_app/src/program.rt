@@ -11,6 +11,7 @@ use crate::judge::{Judged, judge};
 use crate::lines::{design_line, stimulus_line};
 use io_edge::{Files, Sink, Words};
 use std::alloc::Global;
+use trail_net::write_trail;
 
 /// How a run ended: its status, which is 0, 2, 3, 4, 7, 8 or 9.
 #[derive(Clone, Copy, Debug, PartialEq, Eq)]
@@ -27,7 +28,7 @@ pub struct Ended {
 /// |---|---|---|
 /// | 0 | none of the rest | the whole trail |
 /// | 2 | the words are no command | `usage fault` |
-/// | 3 | SRC is no source, or its design from the module TOP is refused, or is accepted and not of the form that runs today | `design fault`, with the number and name of the refusal, and its fields |
+/// | 3 | SRC is no source, or its design from the module TOP is refused | `design fault`, with the number and name of the refusal, and its fields |
 /// | 4 | STIM is refused for the design's ports | `stimulus fault`, with the number and name of the refusal, and its row and column |
 /// | 7 | a file was not read | nothing |
 /// | 8 | the output failed | a front of it |
@@ -48,7 +49,8 @@ pub fn run<F: Files, S: Sink>(alloc: Global, words: &Words, files: &mut F, out: 
     ensures done { result.status < 7
         → IfAsked (F.told files.old) (row_of words.now) (λ told row. EndsAsAsked told row result.status (S.taken out.old) (S.taken out.new)) }
 
-    // Where the files ask for an answer and nothing fails: its status and the whole of its text, or want of memory.
+    // Where the files ask for an answer and nothing fails: its status and the whole of its text, or want of memory. Where the
+    // design has several loops, it may be the text of another of them.
     ensures complete { IfAsked (F.told files.old) (row_of words.now) (λ told row.
         Completes told row result.status (S.taken out.old) (S.taken out.new)
         (Rose (F.fault_count files.old) (F.fault_count files.new)) (Rose (S.fault_count out.old) (S.fault_count out.new))) }
@@ -79,6 +81,9 @@ fn act<F: Files, S: Sink>(alloc: Global, words: &Words, files: &mut F, out: &mut
     ensures stimulus_line { result.status ≡ 4 → TakesStimulusLine (S.taken out.old) (S.taken out.new) }
     ensures done { result.status < 7
         → IfAsked (F.told files.old) (row_of words.now) (λ told row. EndsAsAsked told row result.status (S.taken out.old) (S.taken out.new)) }
+    ensures complete { IfAsked (F.told files.old) (row_of words.now) (λ told row.
+        Completes told row result.status (S.taken out.old) (S.taken out.new)
+        (Rose (F.fault_count files.old) (F.fault_count files.new)) (Rose (S.fault_count out.old) (S.fault_count out.new))) }
     ensures asked { AppendsFront (F.asked files.old) (F.asked files.new) (names_of (row_of words.now)) }
     ensures read { result.status ≡ 7 → Rose (F.fault_count files.old) (F.fault_count files.new) }
     ensures nothing { result.status ≡ 7 → S.taken out.new ≡ S.taken out.old }
@@ -88,7 +93,7 @@ fn act<F: Files, S: Sink>(alloc: Global, words: &Words, files: &mut F, out: &mut
     ensures usage_front { row_of words.now ≡ None → AppendsFront (S.taken out.old) (S.taken out.new) usage_fault }
 {
     match judge(alloc, words, files) {
-        Ok(judged) => end(alloc, &judged, out),
+        Ok(judged) => end(alloc, judged, out),
         Err(stop) => Ended {
             status: stop.status(),
         },
@@ -96,19 +101,18 @@ fn act<F: Files, S: Sink>(alloc: Global, words: &Words, files: &mut F, out: &mut
 }
 
 /// Writes the text that goes with what was judged.
-fn end<S: Sink>(alloc: Global, judged: &Judged, out: &mut S) -> Ended
-    requires { HasRows judged.now }
+fn end<S: Sink>(alloc: Global, judged: Judged, out: &mut S) -> Ended
+    requires { HasRows judged }
     ensures statuses { IsTrue (is_status result.status) }
-    ensures status { result.status < 7 → result.status ≡ judged_status judged.now }
-    ensures done { result.status < 7 → TakesText judged.now (S.taken out.old) (S.taken out.new) }
+    ensures status { result.status < 7 → result.status ≡ judged_status judged }
+    ensures done { result.status < 7 → TakesText judged (S.taken out.old) (S.taken out.new) }
     ensures no_read { result.status ≡ 7 → ⊥ }
     ensures write { result.status ≡ 8 → Rose (S.fault_count out.old) (S.fault_count out.new) }
-    ensures front { 7 < result.status → TakesTextFront judged.now (S.taken out.old) (S.taken out.new) }
+    ensures front { 7 < result.status → TakesTextFront judged (S.taken out.old) (S.taken out.new) }
 {
+    let status = judged.status();
     match write(alloc, judged, out) {
-        Ok(()) => Ended {
-            status: judged.status(),
-        },
+        Ok(()) => Ended { status },
         Err(stop) => Ended {
             status: stop.status(),
         },
@@ -116,19 +120,19 @@ fn end<S: Sink>(alloc: Global, judged: &Judged, out: &mut S) -> Ended
 }
 
 /// Writes the text that goes with what was judged.
-fn write<S: Sink>(alloc: Global, judged: &Judged, out: &mut S) -> Result<(), Stop>
-    requires { HasRows judged.now }
-    ensures ok { OnOk result (TakesText judged.now (S.taken out.old) (S.taken out.new)) }
-    ensures front { OnErr result (TakesTextFront judged.now (S.taken out.old) (S.taken out.new)) }
+fn write<S: Sink>(alloc: Global, judged: Judged, out: &mut S) -> Result<(), Stop>
+    requires { HasRows judged }
+    ensures ok { OnOk result (TakesText judged (S.taken out.old) (S.taken out.new)) }
+    ensures front { OnErr result (TakesTextFront judged (S.taken out.old) (S.taken out.new)) }
     ensures write { IsErrOf result Stop.WriteFault → Rose (S.fault_count out.old) (S.fault_count out.new) }
     ensures no_read { IsErrOf result Stop.ReadFault → ⊥ }
 {
     match judged {
         Judged::NoCommand => write_line(b"usage fault\n", out),
-        Judged::NoDesign(fault) => write_line(&design_line(alloc, fault)?, out),
-        Judged::NoStimulus(fault) => write_line(&stimulus_line(alloc, *fault)?, out),
-        Judged::Accepted(form, stim) => {
-            form.write_trail(alloc, stim, out)?;
+        Judged::NoDesign(fault) => write_line(&design_line(alloc, &fault)?, out),
+        Judged::NoStimulus(fault) => write_line(&stimulus_line(alloc, fault)?, out),
+        Judged::Accepted(accepted, stim) => {
+            write_trail(alloc, &accepted.design, &accepted.order, stim, out)?;
             Ok(())
         }
     }

@@ -1,5 +1,5 @@
 use Rattle.std.proofs.Common.{◌<◌, lit<}
-use Rattle.dbg_app.proofs.Ending.{usage_taken, design_line_taken, stimulus_line_taken, front_taken, done_taken}
+use Rattle.dbg_app.proofs.Ending.{usage_taken, design_line_taken, stimulus_line_taken, front_taken, done_taken, written_completes}
 use Rattle.dbg_app.proofs.program.act.Goals as goal
 
 pub returns-in-Ok-clause-usage_front : goal.returns-in-Ok-clause-usage_front
@@ -27,3 +27,8 @@ pub returns-in-Ok-clause-done : goal.returns-in-Ok-clause-done
 returns-in-Ok-clause-done g c = λ early.
     let e = c.end.ensures in
     done_taken (g.F.Files.told c.args.files.now) _ c.in-Ok.judged _ _ _ c.in-Ok.ensures.judged c.in-Ok.ensures.rows (e.status early) (e.done early)
+
+pub returns-in-Ok-clause-complete : goal.returns-in-Ok-clause-complete
+returns-in-Ok-clause-complete g c =
+    let e = c.end.ensures in
+    written_completes (g.F.Files.told c.args.files.now) _ c.in-Ok.judged c.end.result.status _ _ _ _ e.statuses c.in-Ok.ensures.judged e.status e.done e.no_read e.write
