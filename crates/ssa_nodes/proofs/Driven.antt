@@ -79,7 +79,7 @@ module _ (p : code.Parts) (h : HasParts p) where
   pub process_in : (k : ℕ) (key : ProcessKey) (b : Process) → slice_get p.keys.items k ≡ Some key → process_at (design_in p) key ≡ Some b → slice_get d.processes k ≡ Some b
   process_in k key b e is =
       let there : slice_get (map (λ (c : Process). Some c) d.processes) k ≡ Some (Some b) =
-          ap (λ ls. slice_get ls k) (sym h.parts.keys_are) ∙ get_map (process_at (design_in p)) p.keys.items k key e ∙ ap (λ o. Some o) is in
+      ap (λ ls. slice_get ls k) (sym h.parts.keys_are) ∙ get_map (process_at (design_in p)) p.keys.items k key e ∙ ap (λ o. Some o) is in
       let m = get_mapped (λ (c : Process). Some c) d.processes k (Some b) there in
       m.found ∙ ap (λ c. Some c) (same_Some m.from b m.is)
 
@@ -234,7 +234,7 @@ module _ (p : code.Parts) (h : HasParts p) where
   at_pair : (k : ℕ) (pair : Pair) → slice_get p.order.now k ≡ Some pair → AtPair k pair
   at_pair k pair e =
       let there : slice_get (map (λ (q : Place). Some q) h.parts.told.order) k ≡ Some (signal_at (design_in p) pair) =
-          ap (λ ls. slice_get ls k) (sym h.parts.told.signals) ∙ get_map (signal_at (design_in p)) p.order.now k pair e in
+      ap (λ ls. slice_get ls k) (sym h.parts.told.signals) ∙ get_map (signal_at (design_in p)) p.order.now k pair e in
       let m = get_mapped (λ (q : Place). Some q) h.parts.told.order k (signal_at (design_in p) pair) there in
       record { signal = m.from; here = sym m.is; there = m.found }
 

@@ -49,7 +49,7 @@ module _ (d : exec.Design) (n : ℕ) (keys : List ProcessKey) (blocks : List (Li
               let same_key : key ≡ other = same_Some key other (sym found ∙ ap (slice_get keys) (sym e) ∙ there) in
               let same_parts : parts ≡ its = same_Some parts its (sym at ∙ ap (λ (q : ProcessKey). terms_at blocks q.variant q.block) same_key ∙ is) in
               let its_fits : Fits ns (names_in all other.instance) nodes its.terms memo =
-                  subst (λ (q : BlockParts). Fits ns (names_in all other.instance) nodes q.terms memo) same_parts (subst (λ (q : ProcessKey). Fits ns (names_in all q.instance) nodes parts.terms memo) same_key fits) in
+              subst (λ (q : BlockParts). Fits ns (names_in all other.instance) nodes q.terms memo) same_parts (subst (λ (q : ProcessKey). Fits ns (names_in all q.instance) nodes parts.terms memo) same_key fits) in
               record { memo = memo; found = ap (slice_get (set memos k memo)) e ∙ get_set_same memos k memo within; fits = its_fits }
 
           elsewhere : (j ≡ k → ⊥) → MemoFits ns all nodes (set memos k memo) j other.instance its
