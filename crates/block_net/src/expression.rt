@@ -3,11 +3,11 @@ ghost use Rattle.block_net.specs.Blocks.{TellsExpr};
 ghost use Rattle.block_net.specs.Source.{expr_in};
 ghost use Rattle.block_net.specs.Walks.{Fits, env_of, themselves};
 
+use crate::TermId;
 use crate::block::BlockTerms;
 use crate::ids::IdMap;
 use crate::terms::Terms;
 use crate::walk::Walk;
-use crate::TermId;
 use design_core::Expr;
 use std::alloc::Global;
 use text_core::NoMemory;

@@ -85,11 +85,7 @@ fn collect_else(
 }
 
 /// The keys that statements assign, one for each assignment.
-pub fn assigned_by(
-    alloc: Global,
-    clocked: bool,
-    stmts: &[Stmt],
-) -> Result<Vec<Key>, NoMemory>
+pub fn assigned_by(alloc: Global, clocked: bool, stmts: &[Stmt]) -> Result<Vec<Key>, NoMemory>
     ensures { IfOk result (λ keys. among keys.items ≡ body_assigns (body_in clocked stmts.now)) }
 {
     let mut keys = Vec::new(alloc);
