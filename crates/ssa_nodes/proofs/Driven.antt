@@ -1,22 +1,20 @@
 -- Signals that are driven, and what drives them.
-use Rattle.std.proofs.Common.{◌≡◌, ℕ, zero, suc, ◌+◌, ◌<◌, Bool, true, false, List, [], ◌∷◌, ◌++◌, length, map, take, get_or, Option, Some, None, IsSome, ◌⊎◌, inl, inr, ⊎_elim, refl, sym, ap, ◌∙◌, subst, arith}
+use Rattle.std.proofs.Common.{◌≡◌, ℕ, zero, suc, ◌+◌, ◌<◌, Bool, true, false, List, [], ◌∷◌, length, map, take, get_or, Option, Some, None, IsSome, ◌⊎◌, inl, inr, ⊎_elim, refl, sym, ap, ◌∙◌, subst}
 use Rattle.std.specs.Prelude.{slice_get, option_map, is_some, ◌≢◌}
 use Rattle.std.proofs.Math.ListN.{set}
 use Rattle.std.proofs.lemmas.List.{get_or-set_same, get_or-set_other, length-set, take-map}
-use Rattle.std.proofs.lemmas.Option.{same_Some, none-some, slice_get_within}
+use Rattle.std.proofs.lemmas.Option.{same_Some, none-some}
 use Rattle.bv_core.specs.declared.reference.NodeId.{NodeId}
 use Rattle.tree_core.specs.Tree.{Tree, Leaf}
-use Rattle.exec_core.specs.Block.{Name, Now, own}
+use Rattle.exec_core.specs.Block.{Name, Now}
 use Rattle.exec_core.specs.Leaves.{EachLeaf}
 use Rattle.exec_core.specs.Lists.{EachOf, IsIn}
 use Rattle.exec_core.specs.Trees.{block_trees}
-use Rattle.exec_core.specs.Whole.{Place, Drivers, IsGiven, or_itself, StandsInOrder, IsOrder}
+use Rattle.exec_core.specs.Whole.{Place, Drivers, IsGiven, or_itself, StandsInOrder}
 use Rattle.exec_core.specs.Design as exec
 use Rattle.exec_core.specs.Design.{Process, place, moved, driver_of, process_tree, folded_tree}
-use Rattle.exec_core.proofs.Lists.{each_member}
 use Rattle.exec_core.proofs.Wholes.{each_leaf}
 use Rattle.exec_core.proofs.Sources.{link_source, target_source, driver_cases, driver_formed, Driver, by_link, by_process}
-use Rattle.design_core.specs.Design as design
 use Rattle.design_exec.specs.Processes.{processes_of, is_signal_of}
 use Rattle.net_core.specs.Nodes.{Shape}
 use Rattle.net_core.specs.Builder.{Stands}
@@ -35,11 +33,11 @@ use Rattle.ssa_core.specs.Processes.{process_at}
 use Rattle.ssa_core.specs.Drives.{LinkDrives, ProcessDrives, HasDrive}
 use Rattle.ssa_core.proofs.Listing.{more_of}
 use Rattle.ssa_core.proofs.Places.{get_map, get_mapped, same_or_not}
-use Rattle.ssa_state.specs.State.{names_in, node_of, HasNode, MemoFits, IsState, IsReadyIn}
+use Rattle.ssa_state.specs.State.{names_in, node_of, HasNode, MemoFits}
 use Rattle.ssa_nodes.specs.declared.parts.Parts as code
-use Rattle.ssa_nodes.specs.Parts.{HasParts, HasState, IsReadyBy, IsEnd, EndStands, StandsBy, all_in, design_in, blocks_in, folded_of}
-use Rattle.ssa_nodes.specs.Driving.{HasDriver, DriverStands, Resolved, IsSignalAt, IsPair, PairResolved, GivenHave, AllHave}
-use Rattle.ssa_nodes.proofs.Sources.{accepted, by_node, order_length}
+use Rattle.ssa_nodes.specs.Parts.{HasParts, HasState, IsReadyBy, IsEnd, EndStands, StandsBy, all_in, design_in, folded_of}
+use Rattle.ssa_nodes.specs.Driving.{HasDriver, DriverStands, Resolved, IsPair, PairResolved, GivenHave, AllHave}
+use Rattle.ssa_nodes.proofs.Sources.{accepted, by_node}
 
 heads : {A : Type 0} (x y : A) (xs ys : List A) → x ∷ xs ≡ y ∷ ys → x ≡ y
 heads x y xs ys e = cc

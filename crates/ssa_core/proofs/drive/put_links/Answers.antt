@@ -1,5 +1,3 @@
-use Rattle.std.proofs.Common.{length}
-use Rattle.exec_core.specs.Design.{place}
 use Rattle.design_core.specs.DesignView.{design_of}
 use Rattle.dep_order.specs.Numbering.{numbers_of}
 use Rattle.ssa_core.specs.Links.{link_as}

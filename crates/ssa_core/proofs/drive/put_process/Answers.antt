@@ -1,8 +1,8 @@
-use Rattle.std.proofs.Common.{◌≡◌, map, length, Some, refl, sym, ap, subst, ◌∙◌}
+use Rattle.std.proofs.Common.{◌≡◌, map, length, Some, refl, sym, ap, ◌∙◌}
 use Rattle.std.specs.Prelude.{slice_get}
 use Rattle.std.proofs.lemmas.Option.{slice_get_read}
 use Rattle.check_core.specs.Known.{has}
-use Rattle.exec_core.specs.Block.{Name, Now, body_assigns, own}
+use Rattle.exec_core.specs.Block.{own}
 use Rattle.design_exec.specs.Processes as processes
 use Rattle.design_exec.specs.Processes.{blocks_in, process, signals_in}
 use Rattle.dep_order.specs.Linking.{blocks_at}
