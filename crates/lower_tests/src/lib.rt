@@ -6,6 +6,8 @@ mod lowering;
 #[cfg(test)]
 mod nodes;
 #[cfg(test)]
+mod operators;
+#[cfg(test)]
 mod shapes;
 #[cfg(test)]
 mod small;
