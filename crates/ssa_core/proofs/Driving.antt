@@ -1,9 +1,8 @@
 -- What drives signals, put beside their numbers.
-use Rattle.std.proofs.Common.{◌≡◌, ℕ, ◌+◌, ◌<◌, ◌≤◌, zero, suc, Bool, true, false, ◌||◌, List, ◌++◌, map, take, get_or, [], ◌∷◌, length, Option, Some, None, ◌⊎◌, inl, inr, ⊎_elim, refl, sym, ap, ◌∙◌, subst, arith}
+use Rattle.std.proofs.Common.{◌≡◌, ℕ, ◌+◌, ◌<◌, zero, suc, Bool, true, false, ◌||◌, List, ◌++◌, take, get_or, [], ◌∷◌, length, Option, Some, None, ◌⊎◌, inl, inr, ⊎_elim, refl, sym, ap, ◌∙◌, subst, arith}
 use Rattle.std.specs.Prelude.{slice_get, bytes_eq, option_map}
 use Rattle.std.specs.Borrow.{Bor}
-use Rattle.std.specs.List.{list_any}
-use Rattle.std.proofs.lemmas.List.{map_push, take_all}
+use Rattle.std.proofs.lemmas.List.{map_push}
 use Rattle.std.proofs.lemmas.Slice.Eq.{bytes_eq-Decides}
 use Rattle.std.proofs.Math.ListN.{set}
 use Rattle.std.proofs.lemmas.List.{length-set}
@@ -23,7 +22,6 @@ use Rattle.ssa_core.specs.declared.drive.Drive.{Drive}
 use Rattle.ssa_core.specs.declared.drive.Drive.TheVariants as drives
 use Rattle.ssa_core.specs.Links.{link_as}
 use Rattle.ssa_core.specs.Drives.{AreApart, DrivesPlace, HasDrive, IsDriven, AreSound, AreDrives, Grows, Covers, IsDrivenBy, LinksBefore, ProcessesBefore, put_at}
-use Rattle.ssa_core.specs.Processes.{process_at}
 use Rattle.ssa_core.proofs.Places.{get_set_same, get_set_other, same_or_not}
 use Rattle.ssa_core.proofs.Listing.{more_of}
 

@@ -1,12 +1,12 @@
 -- The terms of blocks, one after another.
-use Rattle.std.proofs.Common.{◌≡◌, ℕ, zero, suc, ◌+◌, ◌<◌, List, [], ◌∷◌, ◌++◌, length, map, take, get_or, Option, Some, None, refl, sym, ap, ◌∙◌, subst}
-use Rattle.std.specs.Prelude.{slice_get, option_map, option_and_then, unwrap_or}
+use Rattle.std.proofs.Common.{◌≡◌, ℕ, zero, suc, ◌+◌, ◌<◌, List, [], ◌∷◌, ◌++◌, length, map, take, get_or, Some, refl, sym, ap, ◌∙◌, subst}
+use Rattle.std.specs.Prelude.{slice_get, option_map, unwrap_or}
 use Rattle.std.proofs.lemmas.List.{map_push}
 use Rattle.std.proofs.lemmas.Option.{same_Some, none-some}
 use Rattle.design_core.specs.Design as design
-use Rattle.design_exec.specs.Processes.{body_of, blocks_in}
+use Rattle.design_exec.specs.Processes.{body_of}
 use Rattle.block_net.specs.Blocks.{BlockParts, Tells}
-use Rattle.ssa_core.specs.Processes.{HasTerms, HaveTerms, TellBlocks, TellVariants, terms_at}
+use Rattle.ssa_core.specs.Processes.{HasTerms, HaveTerms, TellBlocks, TellVariants}
 use Rattle.ssa_core.proofs.Listing.{more_of}
 
 blocks_push : (ts : List BlockParts) (bs : List design.Block) (t : BlockParts) (b : design.Block) → TellBlocks ts bs → Tells t (body_of b.clocked b.body) → TellBlocks (ts ++ t ∷ []) (bs ++ b ∷ [])

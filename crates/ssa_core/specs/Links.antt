@@ -1,5 +1,5 @@
 -- The links of a design, as the code lists them.
-use Rattle.std.specs.Prelude.{ℕ, List}
+use Rattle.std.specs.Prelude.{ℕ}
 use Rattle.tree_core.specs.Tree.{Tree, Leaf}
 use Rattle.exec_core.specs.Whole.{Place}
 use Rattle.exec_core.specs.Design.{place, moved}

@@ -20,10 +20,7 @@ fn terms_of(alloc: Global, blocks: &[Block]) -> Result<Vec<BlockTerms>, NoMemory
 }
 
 /// The terms of the blocks of variants in order.
-fn terms_of_variants(
-    alloc: Global,
-    variants: &[Variant],
-) -> Result<Vec<Vec<BlockTerms>>, NoMemory>
+fn terms_of_variants(alloc: Global, variants: &[Variant]) -> Result<Vec<Vec<BlockTerms>>, NoMemory>
     ensures { IfOk result (λ terms. TellVariants (lists_of terms.items) (map variant_of variants.now)) }
 {
     let mut all = Vec::new(alloc);

@@ -17,12 +17,7 @@ use text_core::{Listed, NoMemory};
 
 /// An accepted design as a net, along an order of its driven signals. Each block is run once for its variant, and each instance of it
 /// evaluates the terms of that run over its own signals; inputs of the top and registers are leaves.
-pub fn lower(
-    alloc: Global,
-    design: &Design,
-    order: &Order,
-    mode: Mode,
-) -> Result<Lowered, NoMemory>
+pub fn lower(alloc: Global, design: &Design, order: &Order, mode: Mode) -> Result<Lowered, NoMemory>
     requires accepted { verdict (design_of design.now) ≡ None }
     requires order { TellsOrder (design_of design.now) order.now }
     ensures { IfOk result (IsLowered (design_of design.now) (length order.now) mode) }

@@ -20,7 +20,12 @@ use std::alloc::Global;
 use text_core::{NoMemory, Text};
 
 /// The node of a signal of the top.
-fn top_node(parts: &Parts<'_>, builder: &NetBuilder, nodes: &[Option<NodeId>], name: &[u8]) -> NodeId
+fn top_node(
+    parts: &Parts<'_>,
+    builder: &NetBuilder,
+    nodes: &[Option<NodeId>],
+    name: &[u8],
+) -> NodeId
     requires parts { HasParts parts.now }
     requires signals { HasSignals parts.now builder.now nodes.now }
     requires all { AllHave parts.now nodes.now }

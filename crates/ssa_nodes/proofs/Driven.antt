@@ -1,22 +1,20 @@
 -- Signals that are driven, and what drives them.
-use Rattle.std.proofs.Common.{◌≡◌, ℕ, zero, suc, ◌+◌, ◌<◌, Bool, true, false, List, [], ◌∷◌, ◌++◌, length, map, take, get_or, Option, Some, None, IsSome, ◌⊎◌, inl, inr, ⊎_elim, refl, sym, ap, ◌∙◌, subst, arith}
+use Rattle.std.proofs.Common.{◌≡◌, ℕ, zero, suc, ◌+◌, ◌<◌, Bool, true, false, List, [], ◌∷◌, length, map, take, get_or, Option, Some, None, IsSome, ◌⊎◌, inl, inr, ⊎_elim, refl, sym, ap, ◌∙◌, subst}
 use Rattle.std.specs.Prelude.{slice_get, option_map, is_some, ◌≢◌}
 use Rattle.std.proofs.Math.ListN.{set}
 use Rattle.std.proofs.lemmas.List.{get_or-set_same, get_or-set_other, length-set, take-map}
-use Rattle.std.proofs.lemmas.Option.{same_Some, none-some, slice_get_within}
+use Rattle.std.proofs.lemmas.Option.{same_Some, none-some}
 use Rattle.bv_core.specs.declared.reference.NodeId.{NodeId}
 use Rattle.tree_core.specs.Tree.{Tree, Leaf}
-use Rattle.exec_core.specs.Block.{Name, Now, own}
+use Rattle.exec_core.specs.Block.{Name, Now}
 use Rattle.exec_core.specs.Leaves.{EachLeaf}
 use Rattle.exec_core.specs.Lists.{EachOf, IsIn}
 use Rattle.exec_core.specs.Trees.{block_trees}
-use Rattle.exec_core.specs.Whole.{Place, Drivers, IsGiven, or_itself, StandsInOrder, IsOrder}
+use Rattle.exec_core.specs.Whole.{Place, Drivers, IsGiven, or_itself, StandsInOrder}
 use Rattle.exec_core.specs.Design as exec
 use Rattle.exec_core.specs.Design.{Process, place, moved, driver_of, process_tree, folded_tree}
-use Rattle.exec_core.proofs.Lists.{each_member}
 use Rattle.exec_core.proofs.Wholes.{each_leaf}
 use Rattle.exec_core.proofs.Sources.{link_source, target_source, driver_cases, driver_formed, Driver, by_link, by_process}
-use Rattle.design_core.specs.Design as design
 use Rattle.design_exec.specs.Processes.{processes_of, is_signal_of}
 use Rattle.net_core.specs.Nodes.{Shape}
 use Rattle.net_core.specs.Builder.{Stands}
@@ -35,11 +33,11 @@ use Rattle.ssa_core.specs.Processes.{process_at}
 use Rattle.ssa_core.specs.Drives.{LinkDrives, ProcessDrives, HasDrive}
 use Rattle.ssa_core.proofs.Listing.{more_of}
 use Rattle.ssa_core.proofs.Places.{get_map, get_mapped, same_or_not}
-use Rattle.ssa_state.specs.State.{names_in, node_of, HasNode, MemoFits, IsState, IsReadyIn}
+use Rattle.ssa_state.specs.State.{names_in, node_of, HasNode, MemoFits}
 use Rattle.ssa_nodes.specs.declared.parts.Parts as code
-use Rattle.ssa_nodes.specs.Parts.{HasParts, HasState, IsReadyBy, IsEnd, EndStands, StandsBy, all_in, design_in, blocks_in, folded_of}
-use Rattle.ssa_nodes.specs.Driving.{HasDriver, DriverStands, Resolved, IsSignalAt, IsPair, PairResolved, GivenHave, AllHave}
-use Rattle.ssa_nodes.proofs.Sources.{accepted, by_node, order_length}
+use Rattle.ssa_nodes.specs.Parts.{HasParts, HasState, IsReadyBy, IsEnd, EndStands, StandsBy, all_in, design_in, folded_of}
+use Rattle.ssa_nodes.specs.Driving.{HasDriver, DriverStands, Resolved, IsPair, PairResolved, GivenHave, AllHave}
+use Rattle.ssa_nodes.proofs.Sources.{accepted, by_node}
 
 heads : {A : Type 0} (x y : A) (xs ys : List A) → x ∷ xs ≡ y ∷ ys → x ≡ y
 heads x y xs ys e = cc
@@ -79,7 +77,7 @@ module _ (p : code.Parts) (h : HasParts p) where
   pub process_in : (k : ℕ) (key : ProcessKey) (b : Process) → slice_get p.keys.items k ≡ Some key → process_at (design_in p) key ≡ Some b → slice_get d.processes k ≡ Some b
   process_in k key b e is =
       let there : slice_get (map (λ (c : Process). Some c) d.processes) k ≡ Some (Some b) =
-          ap (λ ls. slice_get ls k) (sym h.parts.keys_are) ∙ get_map (process_at (design_in p)) p.keys.items k key e ∙ ap (λ o. Some o) is in
+      ap (λ ls. slice_get ls k) (sym h.parts.keys_are) ∙ get_map (process_at (design_in p)) p.keys.items k key e ∙ ap (λ o. Some o) is in
       let m = get_mapped (λ (c : Process). Some c) d.processes k (Some b) there in
       m.found ∙ ap (λ c. Some c) (same_Some m.from b m.is)
 
@@ -234,7 +232,7 @@ module _ (p : code.Parts) (h : HasParts p) where
   at_pair : (k : ℕ) (pair : Pair) → slice_get p.order.now k ≡ Some pair → AtPair k pair
   at_pair k pair e =
       let there : slice_get (map (λ (q : Place). Some q) h.parts.told.order) k ≡ Some (signal_at (design_in p) pair) =
-          ap (λ ls. slice_get ls k) (sym h.parts.told.signals) ∙ get_map (signal_at (design_in p)) p.order.now k pair e in
+      ap (λ ls. slice_get ls k) (sym h.parts.told.signals) ∙ get_map (signal_at (design_in p)) p.order.now k pair e in
       let m = get_mapped (λ (q : Place). Some q) h.parts.told.order k (signal_at (design_in p) pair) there in
       record { signal = m.from; here = sym m.is; there = m.found }
 

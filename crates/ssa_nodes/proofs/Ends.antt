@@ -3,7 +3,7 @@ use Rattle.std.proofs.Common.{◌≡◌, ℕ, List, Option, Some, None, IsSome, 
 use Rattle.std.specs.Prelude.{slice_get}
 use Rattle.std.proofs.lemmas.Option.{same_Some, none-some}
 use Rattle.bv_core.specs.declared.reference.NodeId.{NodeId}
-use Rattle.tree_core.specs.Tree.{Tree, Whole}
+use Rattle.tree_core.specs.Tree.{Tree}
 use Rattle.exec_core.specs.Block as blocks
 use Rattle.exec_core.specs.Block.{Name, Key, Now, Next}
 use Rattle.design_exec.specs.Processes.{body_of}
@@ -11,20 +11,18 @@ use Rattle.exec_core.specs.Design.{Process, moved}
 use Rattle.exec_core.specs.Trees.{block_trees}
 use Rattle.design_core.specs.Design as design
 use Rattle.net_core.specs.Nodes.{Shape}
-use Rattle.net_core.specs.Builder.{Stands}
-use Rattle.block_net.specs.Blocks.{BlockParts, Tells, ends_in}
-use Rattle.block_net.specs.declared.term.TermId.{TermId}
+use Rattle.block_net.specs.Blocks.{BlockParts, Tells}
 use Rattle.block_net.specs.Walks.{held}
 use Rattle.check_core.specs.Maps.{value_of}
 use Rattle.term_net.specs.Growth.{Grown}
-use Rattle.term_net.specs.Leaves.{IsReady, leaf_id, leaf_tree, whole_of}
+use Rattle.term_net.specs.Leaves.{IsReady, leaf_id, leaf_tree}
 use Rattle.ssa_core.specs.declared.process.ProcessKey.{ProcessKey}
 use Rattle.ssa_core.specs.Processes.{process_at, terms_at}
 use Rattle.ssa_state.specs.State.{names_in}
 use Rattle.ssa_state.specs.Held.{CanHaveNode, NodeTold}
 use Rattle.ssa_nodes.specs.declared.parts.Parts as code
 use Rattle.ssa_nodes.specs.Parts.{HasParts, HasSignals, HasState, HasNodeBy, CanHave, IsReadyBy, IsEnd, EndStands, StandsBy, all_in, blocks_in, design_in}
-use Rattle.ssa_nodes.proofs.Sources.{ready_here, stands_here, signals_more}
+use Rattle.ssa_nodes.proofs.Sources.{ready_here, stands_here}
 use Rattle.ssa_nodes.proofs.Looking.{process_terms}
 
 abbrev process_body : design.Block → blocks.Body

@@ -1,12 +1,12 @@
 -- What lowering looks up.
-use Rattle.std.proofs.Common.{◌≡◌, ℕ, zero, suc, ◌<◌, ◌≤◌, List, [], ◌∷◌, Option, Some, None, length, map, get_or, refl, sym, ap, ◌∙◌, subst, arith}
+use Rattle.std.proofs.Common.{◌≡◌, ℕ, zero, suc, ◌<◌, ◌≤◌, List, [], ◌∷◌, Option, Some, None, length, map, get_or, refl, sym, ap, ◌∙◌, arith}
 use Rattle.std.specs.Prelude.{slice_get, option_map, option_and_then, Vec}
 use Rattle.std.specs.declared.alloc.Global.{Global}
 use Rattle.std.proofs.Math.ListN.{set}
 use Rattle.std.proofs.lemmas.List.{length-map}
-use Rattle.std.proofs.lemmas.Option.{same_Some, none-some, slice_get_within, slice_get_past, slice_get_read, slice_get-map, get_or_from_slice_get}
+use Rattle.std.proofs.lemmas.Option.{same_Some, none-some, slice_get_within, slice_get_past, slice_get-map}
 use Rattle.exec_core.specs.Block.{Name}
-use Rattle.exec_core.specs.Design.{Process, place}
+use Rattle.exec_core.specs.Design.{Process}
 use Rattle.design_core.specs.Design as design
 use Rattle.design_exec.specs.Processes.{process, signals_in, blocks_in}
 use Rattle.bv_core.specs.declared.reference.NodeId.{NodeId}
@@ -18,7 +18,7 @@ use Rattle.term_net.specs.Growth.{AreNodes}
 use Rattle.term_net.specs.Memos.{Fits}
 use Rattle.check_core.specs.Maps.{value_of, no_value}
 use Rattle.dep_order.specs.Standing.{Numbers}
-use Rattle.dep_order.specs.Numbering.{numbers_of, number_in}
+use Rattle.dep_order.specs.Numbering.{numbers_of}
 use Rattle.ssa_core.specs.declared.process.ProcessKey.{ProcessKey}
 use Rattle.ssa_core.specs.Processes.{process_at, terms_at, lists_of, HasTerms, HaveTerms}
 use Rattle.ssa_state.specs.State.{names_in}

@@ -1,11 +1,10 @@
 -- Nodes of the terms of blocks, as more are added.
-use Rattle.std.proofs.Common.{◌≡◌, ℕ, ◌<◌, List, Option, Some, None, length, refl, sym, ap, ◌∙◌, subst, ◌⊎◌, inl, inr, ⊎_elim}
+use Rattle.std.proofs.Common.{◌≡◌, ℕ, ◌<◌, List, Option, Some, length, sym, ap, ◌∙◌, subst, ⊎_elim}
 use Rattle.std.specs.Prelude.{slice_get}
 use Rattle.std.proofs.Math.ListN.{set}
 use Rattle.std.proofs.lemmas.Option.{same_Some, slice_get_within}
 use Rattle.bv_core.specs.declared.reference.NodeId.{NodeId}
-use Rattle.tree_core.specs.Tree.{Tree, Leaf}
-use Rattle.exec_core.specs.Block.{Name}
+use Rattle.tree_core.specs.Tree.{Leaf}
 use Rattle.exec_core.specs.Design as exec
 use Rattle.exec_core.specs.Design.{moved, folded_tree}
 use Rattle.net_core.specs.Nodes.{Shape}
@@ -17,7 +16,7 @@ use Rattle.term_net.proofs.Fitting.{fits_more, stands_more, nodes_more}
 use Rattle.ssa_core.specs.declared.process.ProcessKey.{ProcessKey}
 use Rattle.ssa_core.specs.Processes.{terms_at}
 use Rattle.ssa_core.proofs.Places.{get_set_same, get_set_other, same_or_not}
-use Rattle.ssa_state.specs.State.{names_in, MemoFits, MemosFit, IsState}
+use Rattle.ssa_state.specs.State.{names_in, MemoFits, IsState}
 use Rattle.ssa_nodes.proofs.Over.{over_more}
 
 module _ (d : exec.Design) (n : ℕ) (keys : List ProcessKey) (blocks : List (List BlockParts)) (all : List Numbers) where
@@ -49,7 +48,7 @@ module _ (d : exec.Design) (n : ℕ) (keys : List ProcessKey) (blocks : List (Li
               let same_key : key ≡ other = same_Some key other (sym found ∙ ap (slice_get keys) (sym e) ∙ there) in
               let same_parts : parts ≡ its = same_Some parts its (sym at ∙ ap (λ (q : ProcessKey). terms_at blocks q.variant q.block) same_key ∙ is) in
               let its_fits : Fits ns (names_in all other.instance) nodes its.terms memo =
-                  subst (λ (q : BlockParts). Fits ns (names_in all other.instance) nodes q.terms memo) same_parts (subst (λ (q : ProcessKey). Fits ns (names_in all q.instance) nodes parts.terms memo) same_key fits) in
+              subst (λ (q : BlockParts). Fits ns (names_in all other.instance) nodes q.terms memo) same_parts (subst (λ (q : ProcessKey). Fits ns (names_in all q.instance) nodes parts.terms memo) same_key fits) in
               record { memo = memo; found = ap (slice_get (set memos k memo)) e ∙ get_set_same memos k memo within; fits = its_fits }
 
           elsewhere : (j ≡ k → ⊥) → MemoFits ns all nodes (set memos k memo) j other.instance its

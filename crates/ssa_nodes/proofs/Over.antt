@@ -1,5 +1,5 @@
 -- Nodes over what is given, as more are added.
-use Rattle.std.proofs.Common.{◌≡◌, ℕ, ◌<◌, Bool, true, false, ◌||◌, List, [], ◌∷◌, length, map, ◌⊎◌, inl, inr, ⊎_elim, refl, sym, ap, ◌∙◌, subst}
+use Rattle.std.proofs.Common.{◌≡◌, Bool, true, false, ◌||◌, List, [], ◌∷◌, map, ◌⊎◌, inl, inr, ⊎_elim, refl, ap, subst}
 use Rattle.std.specs.List.{list_any}
 use Rattle.tree_core.specs.Tree.{Leaf, Origin, Whole}
 use Rattle.tree_core.specs.Fold.{same_origin}
@@ -12,7 +12,7 @@ use Rattle.exec_core.specs.States.{OverGivens}
 use Rattle.exec_core.proofs.Wholes.{each_leaf}
 use Rattle.net_core.specs.Nodes.{Shape, tree_of}
 use Rattle.net_core.specs.Builder.{Adds}
-use Rattle.term_net.specs.Growth.{AreOver, Grown}
+use Rattle.term_net.specs.Growth.{Grown}
 use Rattle.term_net.proofs.Overs.{adds_over}
 use Rattle.ssa_state.specs.State.{AllOverGivens}
 

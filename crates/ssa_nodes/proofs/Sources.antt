@@ -1,26 +1,23 @@
 -- What stands at the source of a link, by nodes.
-use Rattle.std.proofs.Common.{◌≡◌, ℕ, List, Option, Some, None, IsSome, length, map, refl, sym, ap, ◌∙◌, subst}
+use Rattle.std.proofs.Common.{◌≡◌, ℕ, List, Option, Some, IsSome, length, map, sym, ap, ◌∙◌, subst}
 use Rattle.std.proofs.lemmas.List.{length-map}
 use Rattle.bv_core.specs.declared.reference.NodeId.{NodeId}
-use Rattle.tree_core.specs.Tree.{Tree, Leaf, Whole}
+use Rattle.tree_core.specs.Tree.{Tree, Leaf}
 use Rattle.exec_core.specs.Block.{Name}
-use Rattle.exec_core.specs.Whole.{Place}
-use Rattle.exec_core.specs.Design.{place, moved, folded_tree}
+use Rattle.exec_core.specs.Design.{place, moved}
 use Rattle.exec_core.specs.States.{NodeByNode}
 use Rattle.exec_core.specs.Accepted.{Accepted}
 use Rattle.exec_core.proofs.Folded.{nodes_by_node}
 use Rattle.design_core.specs.Design as design
 use Rattle.design_exec.specs.Processes.{processes_of}
-use Rattle.net_core.specs.Nodes.{Shape, tree_of}
-use Rattle.net_core.specs.Builder.{Stands, Keeps}
+use Rattle.net_core.specs.Nodes.{Shape}
+use Rattle.net_core.specs.Builder.{Stands}
 use Rattle.dep_order.specs.Results.{Pair, TellsOrder, signal_at}
-use Rattle.dep_order.specs.Standing.{Numbers}
-use Rattle.check_exec.specs.Premises.{IsSound}
 use Rattle.dep_order.proofs.Ready.{orders_are_accepted}
-use Rattle.term_net.specs.Growth.{AreNodes, Grown}
-use Rattle.term_net.specs.Leaves.{IsReady, leaf_id, leaf_tree, whole_of, node_in}
-use Rattle.term_net.proofs.Fitting.{stands_more, nodes_more, leaves_same}
-use Rattle.ssa_state.specs.State.{names_in, node_of, HasNode, SignalsTold, IsReadyIn}
+use Rattle.term_net.specs.Growth.{Grown}
+use Rattle.term_net.specs.Leaves.{IsReady, leaf_id, leaf_tree, whole_of}
+use Rattle.term_net.proofs.Fitting.{stands_more, nodes_more}
+use Rattle.ssa_state.specs.State.{names_in}
 use Rattle.ssa_state.proofs.Placed.{folds_to, ready_from}
 use Rattle.ssa_nodes.specs.declared.parts.Parts as code
 use Rattle.ssa_nodes.specs.Parts.{HasParts, HasSignals, IsReadyBy, StandsBy, all_in, design_in, folded_of}

@@ -1,8 +1,7 @@
 -- Signals that are driven, along an order of them.
-use Rattle.std.specs.Prelude.{◌≡◌, ℕ, true, List, length, take, Option, Some}
+use Rattle.std.specs.Prelude.{◌≡◌, true, List, length, Option, Some}
 use Rattle.bv_core.specs.declared.reference.NodeId.{NodeId}
 use Rattle.tree_core.specs.Tree.{Tree}
-use Rattle.exec_core.specs.Lists.{IsIn}
 use Rattle.exec_core.specs.Whole.{Place, IsGiven}
 use Rattle.exec_core.specs.Design.{driver_of}
 use Rattle.design_exec.specs.Processes.{processes_of, is_signal_of}
@@ -10,7 +9,7 @@ use Rattle.dep_order.specs.Results.{Pair, signal_at}
 use Rattle.net_core.specs.Nodes.{Shape}
 use Rattle.ssa_state.specs.State.{HasNode}
 use Rattle.ssa_nodes.specs.declared.parts.Parts as code
-use Rattle.ssa_nodes.specs.Parts.{HasParts, IsReadyBy, StandsBy, all_in, design_in}
+use Rattle.ssa_nodes.specs.Parts.{IsReadyBy, StandsBy, all_in, design_in}
 
 -- a signal with the tree that drives it, which is over signals that have nodes
 pub record HasDriver (p : code.Parts) (nodes : List (Option NodeId)) (q : Place) : Type 0 where

@@ -1,12 +1,11 @@
 -- What lowering looks things up in, and what it has come to.
 use Rattle.std.specs.Prelude.{◌≡◌, ℕ, true, List, length, map, Option, Some, None, slice_get}
 use Rattle.bv_core.specs.declared.reference.NodeId.{NodeId}
-use Rattle.tree_core.specs.Tree.{Tree, Leaf, Whole}
+use Rattle.tree_core.specs.Tree.{Tree, Whole}
 use Rattle.exec_core.specs.Block.{Name, Key}
 use Rattle.exec_core.specs.Trees.{block_trees}
 use Rattle.exec_core.specs.Whole.{Place}
-use Rattle.exec_core.specs.Design as exec
-use Rattle.exec_core.specs.Design.{Process, moved, driver_of, folded_tree}
+use Rattle.exec_core.specs.Design.{Process, moved, folded_tree}
 use Rattle.design_core.specs.Design as design
 use Rattle.design_core.specs.DesignView.{design_of}
 use Rattle.design_exec.specs.Processes.{processes_of, is_signal_of}
@@ -25,7 +24,7 @@ use Rattle.ssa_core.specs.declared.drive.Drive.{Drive}
 use Rattle.ssa_core.specs.Links.{link_as}
 use Rattle.ssa_core.specs.Processes.{process_at, HaveTerms, lists_of}
 use Rattle.ssa_core.specs.Drives.{AreApart, AreDrives}
-use Rattle.ssa_state.specs.State.{SignalsTold, MemosFit, AllOverGivens, IsState, IsReadyIn, HasNode}
+use Rattle.ssa_state.specs.State.{SignalsTold, IsState, IsReadyIn}
 use Rattle.ssa_nodes.specs.declared.parts.Parts as code
 
 -- an accepted design with an order of its driven signals; its links and processes, the terms of its blocks, the numbers of its

@@ -102,7 +102,9 @@ pub fn target_node(
     let key = parts.keys[number as usize];
     let block = block_of(parts, key);
     let held = block.name(name);
-    let id = process_node(alloc, parts, builder, nodes, memos, number, key, block, name, held)?;
+    let id = process_node(
+        alloc, parts, builder, nodes, memos, number, key, block, name, held,
+    )?;
     Ok(id.unwrap())
 }
 
@@ -126,6 +128,8 @@ pub fn next_node(
     let key = parts.keys[number as usize];
     let block = block_of(parts, key);
     let held = block.register(name);
-    let id = process_node(alloc, parts, builder, nodes, memos, number, key, block, name, held)?;
+    let id = process_node(
+        alloc, parts, builder, nodes, memos, number, key, block, name, held,
+    )?;
     Ok(id.unwrap())
 }

@@ -102,7 +102,9 @@ fn name_at<'p>(parts: &'p Parts<'_>, instance: u32, signal: u32) -> &'p [u8]
     ensures { signal_at (design_in parts.now) (instance, signal) ≡ Some (place instance result.now) }
 {
     let variant = parts.design.instances.items()[instance as usize].variant;
-    signals_of(&parts.design.variants, variant)[signal as usize].name.bytes()
+    signals_of(&parts.design.variants, variant)[signal as usize]
+        .name
+        .bytes()
 }
 
 /// The same of a pair of an instance and the place of a signal there.

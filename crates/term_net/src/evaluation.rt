@@ -7,11 +7,11 @@ ghost use Rattle.term_net.specs.Growth.{Grown, Stay};
 ghost use Rattle.term_net.specs.Memos.{Fits};
 ghost use Rattle.term_net.specs.Pending.{AreKnown, Fall, FallTo, IsMissing, IsPending, term_at, unknown_count, work, GetsNode};
 
-use dep_order::NumberMap;
 use crate::node::node_of;
 use crate::pending::{missing, next};
 use block_net::{BlockTerms, Term, TermId};
 use bv_core::NodeId;
+use dep_order::NumberMap;
 use net_core::NetBuilder;
 use std::alloc::Global;
 use text_core::NoMemory;

@@ -11,10 +11,10 @@ ghost use Rattle.term_net.specs.Growth.{Grown};
 ghost use Rattle.term_net.specs.Memos.{Fits};
 ghost use Rattle.term_net.specs.Pending.{AreKnown, term_at};
 
-use dep_order::NumberMap;
 use crate::operators::{binary, bits, constant, unary};
 use block_net::{Term, TermId};
 use bv_core::{Bv, NodeId, Op1, Op2};
+use dep_order::NumberMap;
 use net_core::NetBuilder;
 use text_core::NoMemory;
 

@@ -1,5 +1,3 @@
-use Rattle.std.proofs.Common.{length}
-use Rattle.exec_core.specs.Design.{place}
 use Rattle.design_core.specs.DesignView.{design_of}
 use Rattle.dep_order.specs.Numbering.{numbers_of}
 use Rattle.ssa_core.specs.Links.{link_as}
@@ -16,5 +14,5 @@ put-requires c =
 pub loop-place-preserved : goal.loop-place-preserved
 loop-place-preserved c =
     let step = link_step (design_of c.args.design.now) c.args.links.now c.args.keys.now (numbers_of c.args.maps.now) c.args.list.now c.loop-place.list c.put.new.list c.loop-place.place c.in_ok-in_32_bits.field-0 c.index-links-place.result c.number_of.result
-      c.requires.apart c.loop-place.invariant.grows c.loop-place.invariant.driven c.loop-place-test.true c.index-links-place.is c.in_ok-in_32_bits.ensures c.number_of.ensures c.put.ensures in
+    c.requires.apart c.loop-place.invariant.grows c.loop-place.invariant.driven c.loop-place-test.true c.index-links-place.is c.in_ok-in_32_bits.ensures c.number_of.ensures c.put.ensures in
     record { grows = step.0; driven = step.1 }

@@ -1,12 +1,7 @@
-use Rattle.std.proofs.Common.{◌≤◌, ◌∙◌, length, get_or, take, refl, subst, arith}
-use Rattle.std.proofs.lemmas.List.{take_all}
+use Rattle.std.proofs.Common.{get_or}
 use Rattle.std.proofs.lemmas.Option.{slice_get-get_or}
-use Rattle.exec_core.specs.Design.{place}
 use Rattle.design_core.specs.DesignView.{design_of}
-use Rattle.check_core.specs.Known.{has}
-use Rattle.dep_order.specs.Names.{names_at}
 use Rattle.dep_order.specs.Numbering.{numbers_of}
-use Rattle.ssa_core.specs.Drives.{Covers}
 use Rattle.ssa_core.proofs.Driving.{within, still_apart, name_step, has_at}
 use Rattle.ssa_core.proofs.Listing.{same_get}
 use Rattle.ssa_core.proofs.drive.put_names.Goals as goal

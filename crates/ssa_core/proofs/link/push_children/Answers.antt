@@ -1,5 +1,5 @@
-use Rattle.std.proofs.Common.{map, sym, ap, ◌∙◌, ◌++◌}
-use Rattle.design_core.specs.View.{child_of, conn_of}
+use Rattle.std.proofs.Common.{map, ap, ◌∙◌, ◌++◌}
+use Rattle.design_core.specs.View.{child_of}
 use Rattle.design_exec.specs.Processes.{conn_link, none_or}
 use Rattle.dep_order.specs.Linking.{links_of_child}
 use Rattle.ssa_core.specs.Links.{link_as}

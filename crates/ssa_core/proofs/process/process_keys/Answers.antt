@@ -1,4 +1,4 @@
-use Rattle.std.proofs.Common.{◌≡◌, ◌<◌, Some, map, sym, ap, ◌∙◌, ◌++◌, length, get_or, arith}
+use Rattle.std.proofs.Common.{◌≡◌, ◌<◌, Some, map, ap, ◌∙◌, ◌++◌, length, get_or, arith}
 use Rattle.design_core.specs.DesignView.{design_of}
 use Rattle.design_exec.specs.Processes.{processes_at}
 use Rattle.ssa_core.specs.Processes.{process_at}

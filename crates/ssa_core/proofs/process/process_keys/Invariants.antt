@@ -1,4 +1,4 @@
-use Rattle.std.proofs.Common.{◌≡◌, ◌++◌, Some, [], map, take}
+use Rattle.std.proofs.Common.{◌≡◌, Some, map, take}
 use Rattle.std.specs.List.{enumerate_from, flat_map}
 use Rattle.design_core.specs.DesignView.{design_of}
 use Rattle.design_exec.specs.Processes.{processes_at}

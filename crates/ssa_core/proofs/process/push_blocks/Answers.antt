@@ -1,4 +1,4 @@
-use Rattle.std.proofs.Common.{◌≡◌, ◌<◌, ◌≤◌, Some, map, sym, ap, ◌∙◌, ◌++◌, length, get_or, take, arith}
+use Rattle.std.proofs.Common.{◌≡◌, ◌<◌, ◌≤◌, Some, map, ap, ◌∙◌, ◌++◌, length, arith}
 use Rattle.std.proofs.lemmas.List.{length-map, take_all}
 use Rattle.design_core.specs.DesignView.{design_of}
 use Rattle.design_core.specs.View.{block_of, variant_of}

@@ -1,4 +1,3 @@
-use Rattle.std.proofs.Common.{map, take}
 use Rattle.design_core.specs.View.{block_of}
 use Rattle.ssa_core.proofs.Telling.{blocks_more}
 use Rattle.ssa_core.proofs.terms.terms_of.Goals as goal

@@ -21,7 +21,7 @@ process_node-requires-clause-ready c =
     let at : slice_get p.keys.items c.args.number ≡ Some key = slice_get_read p.keys.items (length p.keys.items) c.args.number key refl (slice_get_within p.keys.items c.args.number e.key e.found) c.index-key.ensures in
     let is_process : process_at (design_in p) key ≡ Some e.process = subst (λ k. process_at (design_in p) k ≡ Some e.process) (same_Some e.key key (sym e.found ∙ at)) e.is in
     let is : held block.terms c.args.name.now c.register-held.result ≡ block_trees e.process.body (Next c.args.name.now) =
-        ap (held block.terms c.args.name.now) c.register-held.ensures.id ∙ end_next p c.requires.parts block e.process c.args.name.now (tells_of p c.requires.parts key e.process block is_process c.block_of-block.ensures) in
+    ap (held block.terms c.args.name.now) c.register-held.ensures.id ∙ end_next p c.requires.parts block e.process c.args.name.now (tells_of p c.requires.parts key e.process block is_process c.block_of-block.ensures) in
     end_can p c.requires.parts c.args.nodes.now c.args.number (Next c.args.name.now) key (held block.terms c.args.name.now c.register-held.result) e at is
 
 pub unwrap-requires : goal.unwrap-requires
@@ -33,7 +33,7 @@ unwrap-requires c =
     let at : slice_get p.keys.items c.args.number ≡ Some key = slice_get_read p.keys.items (length p.keys.items) c.args.number key refl (slice_get_within p.keys.items c.args.number e.key e.found) c.index-key.ensures in
     let is_process : process_at (design_in p) key ≡ Some e.process = subst (λ k. process_at (design_in p) k ≡ Some e.process) (same_Some e.key key (sym e.found ∙ at)) e.is in
     let is : held block.terms c.args.name.now c.register-held.result ≡ block_trees e.process.body (Next c.args.name.now) =
-        ap (held block.terms c.args.name.now) c.register-held.ensures.id ∙ end_next p c.requires.parts block e.process c.args.name.now (tells_of p c.requires.parts key e.process block is_process c.block_of-block.ensures) in
+    ap (held block.terms c.args.name.now) c.register-held.ensures.id ∙ end_next p c.requires.parts block e.process c.args.name.now (tells_of p c.requires.parts key e.process block is_process c.block_of-block.ensures) in
     end_some p c.requires.parts c.process_node.new.builder c.args.nodes.now c.args.number (Next c.args.name.now) key.instance (held block.terms c.args.name.now c.register-held.result) c.in_ok-id.id e is c.in_ok-id.ensures.told
 
 pub returns-clause-told : goal.returns-clause-told
@@ -45,5 +45,5 @@ returns-clause-told c =
     let at : slice_get p.keys.items c.args.number ≡ Some key = slice_get_read p.keys.items (length p.keys.items) c.args.number key refl (slice_get_within p.keys.items c.args.number e.key e.found) c.index-key.ensures in
     let is_process : process_at (design_in p) key ≡ Some e.process = subst (λ k. process_at (design_in p) k ≡ Some e.process) (same_Some e.key key (sym e.found ∙ at)) e.is in
     let is : held block.terms c.args.name.now c.register-held.result ≡ block_trees e.process.body (Next c.args.name.now) =
-        ap (held block.terms c.args.name.now) c.register-held.ensures.id ∙ end_next p c.requires.parts block e.process c.args.name.now (tells_of p c.requires.parts key e.process block is_process c.block_of-block.ensures) in
+    ap (held block.terms c.args.name.now) c.register-held.ensures.id ∙ end_next p c.requires.parts block e.process c.args.name.now (tells_of p c.requires.parts key e.process block is_process c.block_of-block.ensures) in
     end_stands p c.requires.parts c.process_node.new.builder c.args.nodes.now c.args.number (Next c.args.name.now) key (held block.terms c.args.name.now c.register-held.result) c.in_ok-id.id c.unwrap.result e at is c.in_ok-id.ensures.told c.unwrap.ensures

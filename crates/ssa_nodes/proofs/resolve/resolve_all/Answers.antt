@@ -1,12 +1,10 @@
-use Rattle.std.proofs.Common.{◌≡◌, ◌<◌, ◌≤◌, ℕ, List, length, take, get_or, Some, refl, sym, ap, ◌∙◌, subst, arith}
+use Rattle.std.proofs.Common.{◌≡◌, ◌<◌, ◌≤◌, length, take, get_or, Some, sym, ap, ◌∙◌, subst}
 use Rattle.std.specs.Prelude.{slice_get}
 use Rattle.std.proofs.lemmas.List.{take_all}
 use Rattle.std.proofs.lemmas.Option.{slice_get-get_or}
 use Rattle.dep_order.specs.Results.{Pair}
 use Rattle.term_net.proofs.Overs.{grown_none, grown_twice}
-use Rattle.ssa_core.specs.Processes.{lists_of}
 use Rattle.ssa_core.proofs.Listing.{same_get}
-use Rattle.ssa_nodes.specs.Driving.{IsPair}
 use Rattle.ssa_nodes.proofs.Driven.{PairsHave, pair_ready, pairs_more, pair_kept, all_have}
 use Rattle.ssa_nodes.proofs.resolve.resolve_all.Goals as goal
 

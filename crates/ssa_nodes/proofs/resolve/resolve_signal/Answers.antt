@@ -1,4 +1,4 @@
-use Rattle.std.proofs.Common.{◌≡◌, ◌<◌, Some, None, IsSome, length, refl, sym, ap, ◌∙◌, subst}
+use Rattle.std.proofs.Common.{◌≡◌, ◌<◌, Some, IsSome, length, refl, sym, ap, ◌∙◌, subst}
 use Rattle.exec_core.specs.Design.{place}
 use Rattle.dep_order.specs.Numbering.{number_in, numbers_of}
 use Rattle.ssa_core.specs.Processes.{lists_of}

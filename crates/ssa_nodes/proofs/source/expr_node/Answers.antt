@@ -1,5 +1,4 @@
-use Rattle.std.proofs.Common.{◌≡◌, ℕ, None, length, get_or, sym, ap, ◌∙◌, subst}
-use Rattle.std.specs.Prelude.{Option}
+use Rattle.std.proofs.Common.{length, sym, ap, ◌∙◌, subst}
 use Rattle.check_core.specs.Maps.{value_of}
 use Rattle.term_net.specs.Memos.{Fits}
 use Rattle.ssa_nodes.proofs.Looking.{fits_blank}
