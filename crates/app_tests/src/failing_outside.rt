@@ -1,7 +1,9 @@
 //! Files that are not read, and sinks that fail.
 
-use crate::outcome::{ample_sink, command_of, outcome_of, words_of};
-use crate::worked_example::worked_files;
+use crate::outcome::{
+    AMPLE_ROOM, ample_sink, command_of, file_of, files_of, outcome_of, trail, words_of,
+};
+use crate::worked_example::{SOURCE, worked_files};
 use io_edge::MemSink;
 use std::alloc::Global;
 use std::test::Fail;
@@ -42,19 +44,12 @@ fn a_file_that_is_not_read_ends_the_run_before_a_byte_is_written(
 }
 
 /// The words, the number of the put that fails, the room of the sink, what is taken at least, and the whole text.
-static FAILING_SINKS: [(&[&str], &[u64], usize, &str, &str); 4] = [
+static FAILING_SINKS: [(&[&str], &[u64], usize, &str, &str); 3] = [
     (
         &["trail", "keep", "P.hg", "P.stim", "P"],
         &[0],
         1000,
-        "",
-        "0 6 P a=4'hf y=unset t=unset\n0 7 P a=4'hf y=unset t=4'h0\n",
-    ),
-    (
-        &["trail", "keep", "P.hg", "P.stim", "P"],
-        &[1],
-        1000,
-        "0 6 P a=4'hf y=unset t=unset\n",
+        "0 6 P",
         "0 6 P a=4'hf y=unset t=unset\n0 7 P a=4'hf y=unset t=4'h0\n",
     ),
     (
@@ -101,5 +96,53 @@ fn a_sink_that_fails_ends_the_run_within_the_text(rt: HostRuntime) -> Result<(),
         let ends_within = ends_within(rt.alloc(), words, out, front, text)?;
         assert!(rt; ends_within, "case {i}");
     }
+    Ok(())
+}
+
+/// Cycles of the worked example whose lines are more than a sink is handed at once.
+const MANY: u64 = 2_000;
+
+/// The stimulus of the worked example, and its text, with so many cycles.
+fn many_cycles(alloc: Global) -> Result<(String, String), NoMemory> {
+    let mut stimulus = String::from_str(alloc, "a\n")?;
+    let mut text = String::new(alloc);
+    for cycle in 0..MANY {
+        stimulus.push_str("15\n")?;
+        let first = format!(in alloc; "{cycle} 6 P a=4'hf y=unset t=unset\n")?;
+        let second = format!(in alloc; "{cycle} 7 P a=4'hf y=unset t=4'h0\n")?;
+        text.push_str(&first)?;
+        text.push_str(&second)?;
+    }
+    Ok((stimulus, text))
+}
+
+/// Whether the trail over many cycles ends since the second put fails, after a front of the text that has the first piece and is
+/// not the whole of it; and is written to its end where no put fails.
+fn ends_within_the_second_piece(alloc: Global) -> Result<bool, NoMemory> {
+    let (stimulus, text) = many_cycles(alloc)?;
+    let whole = trail(alloc, SOURCE.as_bytes(), stimulus.as_bytes(), "P")?;
+    let is_whole = whole.is(0, &text, &["P.hg", "P.stim"])?;
+    let words = command_of(alloc, "P")?;
+    let source = file_of(alloc, "P.hg", SOURCE.as_bytes())?;
+    let stimulus = file_of(alloc, "P.stim", stimulus.as_bytes())?;
+    let files = files_of(alloc, source, stimulus, &[])?;
+    let outcome = outcome_of(alloc, &words, files, failing_sink(alloc, &[1], AMPLE_ROOM)?);
+    let taken = outcome.out.bytes().len();
+    if outcome.status == 9 && outcome.takes_front(&text) {
+        return Err(NoMemory);
+    }
+    Ok(
+        is_whole
+            && outcome.status == 8
+            && outcome.takes_front(&text)
+            && 65_536 < taken
+            && taken < text.len(),
+    )
+}
+
+#[test]
+fn a_sink_that_fails_late_has_taken_the_lines_before(rt: HostRuntime) -> Result<(), Fail> {
+    let ends_within = ends_within_the_second_piece(rt.alloc())?;
+    assert!(rt; ends_within);
     Ok(())
 }
