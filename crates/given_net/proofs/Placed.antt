@@ -1,28 +1,23 @@
 -- Nodes of what is given.
-use Rattle.std.proofs.Common.{◌≡◌, ℕ, zero, suc, ◌+◌, ◌<◌, ◌≤◌, List, [], ◌∷◌, ◌++◌, length, map, take, get_or, Option, Some, None, IsSome, ◌⊎◌, inl, inr, ⊎_elim, refl, sym, ap, ◌∙◌, subst, arith}
+use Rattle.std.proofs.Common.{◌≡◌, ℕ, zero, suc, ◌+◌, ◌<◌, List, [], ◌∷◌, length, map, take, get_or, Option, Some, None, inl, inr, ⊎_elim, refl, sym, ap, ◌∙◌, subst, arith}
 use Rattle.std.specs.Prelude.{slice_index_or}
 use Rattle.std.proofs.Math.ListN.{set}
-use Rattle.std.proofs.lemmas.List.{get_or-set_same, get_or-set_other, length-set, take_all}
+use Rattle.std.proofs.lemmas.List.{get_or-set_same, get_or-set_other}
 use Rattle.std.proofs.lemmas.Option.{same_Some, none-some}
 use Rattle.bv_core.specs.declared.reference.NodeId.{NodeId}
-use Rattle.tree_core.specs.Tree.{Tree, Leaf, Origin, Whole}
-use Rattle.tree_core.specs.Width.{IsOrigin}
-use Rattle.tree_core.specs.Fold.{same_origin}
+use Rattle.tree_core.specs.Tree.{Leaf, Origin}
 use Rattle.exec_core.specs.Lists.{EachOf, IsIn}
-use Rattle.exec_core.specs.Whole.{Place, IsGiven}
-use Rattle.exec_core.specs.Design.{driver_of, folded_tree}
+use Rattle.exec_core.specs.Whole.{Place}
 use Rattle.exec_core.specs.Accepted.{GivenFits}
 use Rattle.exec_core.proofs.Lists.{each_member}
 use Rattle.exec_core.proofs.Sources.{given_found}
-use Rattle.design_exec.specs.Processes.{processes_of, is_signal_of}
-use Rattle.net_core.specs.Nodes.{Shape, tree_of}
+use Rattle.design_exec.specs.Processes.{processes_of}
+use Rattle.net_core.specs.Nodes.{Shape}
 use Rattle.net_core.specs.Builder.{AreShared, Stands, Adds, Keeps}
-use Rattle.check_exec.proofs.Facts.{in_at, each_joined}
+use Rattle.check_exec.proofs.Facts.{each_joined}
 use Rattle.dep_order.specs.Numbering.{number_in}
-use Rattle.term_net.specs.Growth.{AreNodes, Stay}
 use Rattle.term_net.specs.Leaves.{node_at, node_in}
-use Rattle.term_net.proofs.Overs.{adds_over}
-use Rattle.term_net.proofs.Fitting.{set_stays, stands_more, nodes_more}
+use Rattle.term_net.proofs.Fitting.{stands_more, nodes_more}
 use Rattle.term_net.proofs.Placing.{nodes_set}
 use Rattle.ssa_core.proofs.Listing.{more_of, same_get}
 use Rattle.ssa_core.proofs.Places.{same_or_not}

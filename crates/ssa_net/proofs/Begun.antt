@@ -1,5 +1,5 @@
 -- What lowering begins with.
-use Rattle.std.proofs.Common.{◌≡◌, ℕ, zero, suc, ◌+◌, ◌<◌, true, List, [], ◌∷◌, ◌++◌, length, map, take, Option, Some, None, refl, sym, ap, ◌∙◌, subst, arith}
+use Rattle.std.proofs.Common.{◌≡◌, ℕ, zero, suc, ◌+◌, ◌<◌, true, List, [], ◌∷◌, ◌++◌, length, map, take, Option, Some, refl, sym, ap, ◌∙◌, subst}
 use Rattle.std.specs.Prelude.{slice_get, slice_index_or, Vec}
 use Rattle.std.specs.declared.alloc.Global.{Global}
 use Rattle.std.proofs.lemmas.List.{map-append}
@@ -10,25 +10,19 @@ use Rattle.exec_core.specs.Design.{Process}
 use Rattle.design_core.specs.Design as design
 use Rattle.design_exec.specs.Processes.{processes_of, is_signal_of}
 use Rattle.net_core.specs.Nodes.{Shape}
-use Rattle.net_core.specs.Builder.{AreShared}
 use Rattle.block_net.specs.Blocks.{BlockParts}
-use Rattle.check_exec.specs.Premises.{IsSound}
 use Rattle.dep_order.specs.Ordering.{AreCounted}
-use Rattle.dep_order.specs.Numbering.{AllCounted, number_in, place_at}
-use Rattle.dep_order.specs.Standing.{Numbers}
+use Rattle.dep_order.specs.Numbering.{AllCounted, number_in}
 use Rattle.dep_order.proofs.Numbers.{numbered, at_within}
-use Rattle.term_net.specs.Growth.{AreNodes}
-use Rattle.term_net.specs.Memos.{Fits}
 use Rattle.ssa_core.specs.declared.process.ProcessKey.{ProcessKey}
 use Rattle.ssa_core.specs.Processes.{process_at, terms_at, lists_of}
 use Rattle.ssa_core.specs.Drives.{AreApart}
 use Rattle.ssa_core.proofs.Listing.{more_of, same_get}
-use Rattle.ssa_core.proofs.Places.{get_mapped}
-use Rattle.ssa_state.specs.State.{names_in, MemoFits, MemosFit, AllOverGivens, IsState}
+use Rattle.ssa_state.specs.State.{names_in, MemoFits, AllOverGivens}
 use Rattle.ssa_nodes.specs.declared.parts.Parts as code
 use Rattle.ssa_nodes.specs.Parts.{HasParts, HasSignals, HasState, IsProcess, all_in, design_in, blocks_in}
 use Rattle.ssa_nodes.proofs.Looking.{fits_blank}
-use Rattle.ssa_net.specs.Blank.{HasNone, IsBlank, AreBlank}
+use Rattle.ssa_net.specs.Blank.{IsBlank, AreBlank}
 
 -- ---- numbers
 

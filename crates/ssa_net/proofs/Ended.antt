@@ -1,9 +1,9 @@
 -- What lowering comes to.
-use Rattle.std.proofs.Common.{◌≡◌, ℕ, ◌<◌, true, List, [], ◌∷◌, length, Option, Some, None, IsSome, refl, sym, ap, ◌∙◌, subst, arith}
+use Rattle.std.proofs.Common.{◌≡◌, ℕ, true, List, [], ◌∷◌, length, Option, Some, None, IsSome, refl, sym, ap, ◌∙◌, subst, arith}
 use Rattle.std.specs.Prelude.{slice_index_or}
 use Rattle.std.proofs.lemmas.Option.{none-some}
 use Rattle.bv_core.specs.declared.reference.NodeId.{NodeId}
-use Rattle.tree_core.specs.Tree.{Tree, Leaf, Origin, Input, Register}
+use Rattle.tree_core.specs.Tree.{Leaf, Origin, Input, Register}
 use Rattle.exec_core.specs.Block.{Name}
 use Rattle.exec_core.specs.Lists.{EachOf, IsIn}
 use Rattle.exec_core.specs.Design.{next_tree}
@@ -24,7 +24,7 @@ use Rattle.lower_core.specs.Rows.{AreTold, all_spots}
 use Rattle.lower_core.specs.Lowered.{HasNode, OutputsTold, NextTold as NextIs, IsLowered}
 use Rattle.next_net.specs.Nexts.{NextTold, AllNext}
 use Rattle.dep_order.specs.Results.{Pair}
-use Rattle.term_net.specs.Leaves.{node_at, node_in}
+use Rattle.term_net.specs.Leaves.{node_in}
 use Rattle.ssa_state.specs.State.{node_of, AllOverGivens}
 use Rattle.ssa_nodes.specs.declared.parts.Parts as code
 use Rattle.ssa_nodes.specs.Parts.{HasParts, HasSignals, HasState, all_in, design_in, folded_of}

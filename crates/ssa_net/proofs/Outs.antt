@@ -1,34 +1,31 @@
 -- Outputs of the top.
-use Rattle.std.proofs.Common.{◌≡◌, ℕ, zero, suc, ◌+◌, ◌<◌, true, false, ℤ, pos, negsuc, List, [], ◌∷◌, ◌++◌, length, map, take, get_or, Option, Some, None, IsSome, ◌⊎◌, inl, inr, refl, sym, ap, ◌∙◌, subst, arith, append_assoc, if◌then◌else◌}
-use Rattle.std.specs.Prelude.{slice_get, slice_index_or, option_map, unwrap_or}
+use Rattle.std.proofs.Common.{◌≡◌, ℕ, zero, suc, ◌+◌, ◌<◌, true, ℤ, pos, negsuc, List, [], ◌∷◌, ◌++◌, length, take, get_or, Option, Some, None, inl, inr, refl, sym, ap, ◌∙◌, subst, arith, append_assoc, if◌then◌else◌}
+use Rattle.std.specs.Prelude.{slice_get, option_map, unwrap_or}
 use Rattle.std.proofs.lemmas.List.{map-append, append-nil}
 use Rattle.std.proofs.lemmas.Option.{same_Some, none-some}
 use Rattle.bv_core.specs.declared.reference.NodeId.{NodeId}
-use Rattle.tree_core.specs.Tree.{Tree, Leaf}
+use Rattle.tree_core.specs.Tree.{Leaf}
 use Rattle.tree_core.specs.Width.{tree_width}
 use Rattle.exec_core.specs.Block.{Name}
 use Rattle.exec_core.specs.Lists.{IsIn}
-use Rattle.exec_core.specs.Whole.{Place}
 use Rattle.exec_core.specs.Design.{place}
 use Rattle.design_core.specs.declared.variant.Signal.{Signal}
 use Rattle.design_core.specs.declared.variant.Kind.{Kind}
 use Rattle.design_core.specs.declared.variant.Kind.TheVariants as kind
 use Rattle.design_core.specs.declared.design.Instance.{Instance}
 use Rattle.design_core.specs.Design as design
-use Rattle.design_core.specs.WellFormed.{signals_at}
 use Rattle.design_core.specs.Ports.{bits, is_port, one_port, ports_in, top_signals}
 use Rattle.design_exec.specs.Processes as processes
 use Rattle.design_exec.specs.Processes.{is_signal_of, processes_of}
-use Rattle.check_exec.proofs.Facts.{in_at}
 use Rattle.check_exec.proofs.Instances.{Stands as StandsAt, clean}
 use Rattle.check_exec.proofs.Givens.{IsSignal, signal_of}
 use Rattle.check_exec.specs.Premises.{IsSound}
 use Rattle.lower_core.specs.Lowered.{OutputTold, OutputsTold}
-use Rattle.net_core.specs.Nodes.{Shape, tree_of, width_at}
+use Rattle.net_core.specs.Nodes.{Shape}
 use Rattle.net_core.specs.Nets.{outputs_of, OutputsFit}
 use Rattle.ssa_core.proofs.Listing.{more_of}
 use Rattle.ssa_nodes.specs.declared.parts.Parts as code
-use Rattle.ssa_nodes.specs.Parts.{HasParts, StandsBy, design_in, folded_of}
+use Rattle.ssa_nodes.specs.Parts.{HasParts, StandsBy, design_in}
 use Rattle.ssa_nodes.proofs.Sources.{by_node}
 use Rattle.ssa_net.specs.Outputs.{OneMore}
 

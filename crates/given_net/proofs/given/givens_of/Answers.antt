@@ -1,4 +1,4 @@
-use Rattle.std.proofs.Common.{◌≡◌, ◌<◌, map, sym, ap, ◌∙◌, ◌++◌, [], length, subst, get_or, take, arith}
+use Rattle.std.proofs.Common.{◌≡◌, ◌<◌, map, ap, ◌∙◌, ◌++◌, [], length, get_or, arith}
 use Rattle.design_core.specs.DesignView.{design_of}
 use Rattle.design_exec.specs.Processes.{givens_at}
 use Rattle.ssa_core.proofs.Listing.{plain_more}

@@ -1,5 +1,4 @@
-use Rattle.std.proofs.Common.{◌≡◌, ◌<◌, Some, None, IsSome, length, refl, sym, ap, ◌∙◌, subst}
-use Rattle.exec_core.specs.Design.{place}
+use Rattle.std.proofs.Common.{◌≡◌, ◌<◌, Some, IsSome, length, refl, sym, ap, ◌∙◌, subst}
 use Rattle.dep_order.specs.Numbering.{number_in, numbers_of}
 use Rattle.ssa_nodes.specs.Parts.{all_in}
 use Rattle.ssa_nodes.proofs.Driven.{placed_more, placed_has, not_some}

@@ -1,9 +1,7 @@
-use Rattle.std.proofs.Common.{◌≡◌, length, map, take}
-use Rattle.exec_core.specs.Lists.{EachOf}
+use Rattle.std.proofs.Common.{◌≡◌, length, take}
 use Rattle.design_exec.specs.Processes.{processes_of}
-use Rattle.ssa_state.specs.State.{AllOverGivens, HasNode}
-use Rattle.ssa_nodes.specs.Parts.{HasSignals, all_in, design_in}
-use Rattle.given_net.specs.Givens.{given_as}
+use Rattle.ssa_state.specs.State.{AllOverGivens}
+use Rattle.ssa_nodes.specs.Parts.{HasSignals, design_in}
 use Rattle.given_net.proofs.Placed.{HaveNodes}
 use Rattle.given_net.proofs.place.place_givens.Given as goal
 

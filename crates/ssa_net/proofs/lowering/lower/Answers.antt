@@ -1,8 +1,7 @@
-use Rattle.std.proofs.Common.{◌≡◌, length, refl, sym, ap, ◌∙◌, subst}
+use Rattle.std.proofs.Common.{length, refl, sym, ap, ◌∙◌, subst}
 use Rattle.design_core.specs.DesignView.{design_of}
 use Rattle.lower_core.specs.Shape.{shape_of}
 use Rattle.lower_core.specs.Rows.{AreTold, all_spots}
-use Rattle.ssa_core.specs.Processes.{lists_of}
 use Rattle.ssa_nodes.specs.Parts.{design_in}
 use Rattle.ssa_nodes.specs.Driving.{AllHave}
 use Rattle.ssa_net.proofs.Ended.{lowered_by, lowered_of}

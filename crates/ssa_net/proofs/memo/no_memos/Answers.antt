@@ -1,11 +1,7 @@
-use Rattle.std.proofs.Common.{◌≡◌, ◌<◌, ◌++◌, ◌∷◌, [], ℕ, length, get_or, take, Some, refl, sym, ap, ◌∙◌, subst}
+use Rattle.std.proofs.Common.{sym, ap, ◌∙◌}
 use Rattle.std.specs.Prelude.{slice_get}
-use Rattle.std.proofs.lemmas.List.{map-append}
 use Rattle.std.proofs.lemmas.Option.{slice_get-get_or}
-use Rattle.ssa_core.specs.declared.process.ProcessKey.{ProcessKey}
-use Rattle.ssa_core.specs.Processes.{lists_of}
 use Rattle.ssa_nodes.specs.Parts.{blocks_in}
-use Rattle.ssa_net.specs.Blank.{AreBlank}
 use Rattle.ssa_net.proofs.Begun.{is_process, blank_next}
 use Rattle.ssa_net.proofs.memo.no_memos.Goals as goal
 

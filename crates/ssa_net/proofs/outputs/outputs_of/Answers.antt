@@ -1,12 +1,8 @@
-use Rattle.std.proofs.Common.{◌≡◌, ◌<◌, ◌≤◌, true, length, map, take, get_or, refl, sym, ap, ◌∙◌, subst}
-use Rattle.std.proofs.lemmas.List.{take_all}
-use Rattle.design_core.specs.Ports.{ports_in, top_signals}
+use Rattle.std.proofs.Common.{map, ap, ◌∙◌, subst}
 use Rattle.exec_core.specs.Lists.{IsIn}
 use Rattle.design_core.specs.View.{variant_of}
 use Rattle.design_core.specs.WellFormed.{signals_at}
-use Rattle.lower_core.specs.Lowered.{OutputsTold}
 use Rattle.net_core.specs.Nets.{outputs_of as net_outputs}
-use Rattle.ssa_nodes.specs.Parts.{design_in}
 use Rattle.ssa_net.proofs.Outs.{signal_in, outputs_more, outputs_fit}
 use Rattle.ssa_net.proofs.outputs.outputs_of.Goals as goal
 

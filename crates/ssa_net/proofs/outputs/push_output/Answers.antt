@@ -1,4 +1,4 @@
-use Rattle.std.proofs.Common.{◌≡◌, ◌++◌, ◌∷◌, [], true, refl, sym, ap, ◌∙◌, subst}
+use Rattle.std.proofs.Common.{◌≡◌, ◌++◌, ◌∷◌, [], true, sym, ap, ◌∙◌, subst}
 use Rattle.exec_core.specs.Design.{place}
 use Rattle.design_exec.specs.Processes.{is_signal_of}
 use Rattle.ssa_nodes.specs.Parts.{design_in}

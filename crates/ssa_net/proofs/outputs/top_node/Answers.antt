@@ -1,4 +1,3 @@
-use Rattle.std.proofs.Common.{◌≡◌, refl, sym, ap, ◌∙◌}
 use Rattle.exec_core.specs.Design.{place}
 use Rattle.check_core.specs.Maps.{value_of}
 use Rattle.ssa_nodes.proofs.Sources.{leaf_some, leaf_stands}

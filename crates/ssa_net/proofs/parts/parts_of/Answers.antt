@@ -1,4 +1,4 @@
-use Rattle.std.proofs.Common.{◌≡◌, refl, sym, ap, ◌∙◌, subst, length}
+use Rattle.std.proofs.Common.{sym, ◌∙◌, subst, length}
 use Rattle.design_core.specs.DesignView.{design_of}
 use Rattle.dep_order.specs.Numbering.{numbers_of}
 use Rattle.ssa_core.specs.Drives.{AreApart, AreDrives}

@@ -1,4 +1,4 @@
-use Rattle.std.proofs.Common.{◌≡◌, sym, ap, ◌∙◌, subst}
+use Rattle.std.proofs.Common.{sym, subst}
 use Rattle.ssa_nodes.specs.Parts.{HasSignals, blocks_in}
 use Rattle.ssa_core.specs.Processes.{lists_of}
 use Rattle.ssa_net.specs.Blank.{AreBlank}
