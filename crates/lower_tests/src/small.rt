@@ -79,6 +79,35 @@ next X.v.r 2'h1 mux(~(c), X.u.r, (X.v.r + 2'h1))
 ",
 };
 
+/// A family of children in a chain: each reads what the one before it puts out in the cycle, and holds it in the next.
+const FAMILY: Case = Case {
+    source: "\
+module Y { input i : 2; output o : 2; reg s : 2 = 2'h0;
+  comb { o = s; if s[0:0] { o = (s ^ 2'h2); } }
+  ff { s <= i; } }
+module X(N = 2) { input x : 2; output y : 2;
+  inst c#0 : Y { i = x; }
+  for k in 1..N { inst c#k : Y { i = c#(k - 1).o; } }
+  comb { y = c#(N - 1).o; } }
+",
+    rows: "\
+0 X.c#0 on 1'h1: i=x o=none s=X.c#0.s
+0 X.c#1 on 1'h1: i=mux(X.c#0.s[0:0], (X.c#0.s ^ 2'h2), X.c#0.s) o=none s=X.c#1.s
+1 X.c#0 on 1'h1: i=x o=X.c#0.s s=X.c#0.s
+1 X.c#1 on 1'h1: i=mux(X.c#0.s[0:0], (X.c#0.s ^ 2'h2), X.c#0.s) o=X.c#1.s s=X.c#1.s
+2 X.c#0 on X.c#0.s[0:0]: i=x o=X.c#0.s s=X.c#0.s
+2 X.c#1 on X.c#1.s[0:0]: i=mux(X.c#0.s[0:0], (X.c#0.s ^ 2'h2), X.c#0.s) o=X.c#1.s s=X.c#1.s
+3 X.c#0 on 1'h1: i=x o=mux(X.c#0.s[0:0], (X.c#0.s ^ 2'h2), X.c#0.s) s=X.c#0.s
+3 X.c#1 on 1'h1: i=mux(X.c#0.s[0:0], (X.c#0.s ^ 2'h2), X.c#0.s) o=mux(X.c#1.s[0:0], (X.c#1.s ^ 2'h2), X.c#1.s) s=X.c#1.s
+4 X on 1'h1: x=x y=none c#0.o=mux(X.c#0.s[0:0], (X.c#0.s ^ 2'h2), X.c#0.s) c#1.o=mux(X.c#1.s[0:0], (X.c#1.s ^ 2'h2), X.c#1.s)
+",
+    ends: "\
+out y 2 mux(X.c#1.s[0:0], (X.c#1.s ^ 2'h2), X.c#1.s)
+next X.c#0.s 2'h0 x
+next X.c#1.s 2'h0 mux(X.c#0.s[0:0], (X.c#0.s ^ 2'h2), X.c#0.s)
+",
+};
+
 /// An `if` in a branch of an `if`: an enable is the and of the conditions above it, each as it holds there.
 const ENABLES: Case = Case {
     source: "\
@@ -243,6 +272,27 @@ out p 4 4'h7
 ",
 };
 
+/// Both branches give the same: there is no choice left, and the enables stay.
+const SAME: Case = Case {
+    source: "\
+module X { input c : 1; input a : 4; output q : 4; reg r : 4 = 4'h0;
+  comb { if c { q = a; } else { q = (a | 4'h0); } }
+  ff { if c { r <= q; } else { r <= a; } } }
+",
+    rows: "\
+0 X on 1'h1: c=c a=a q=none r=X.r
+1 X on c: c=c a=a q=none r=X.r
+2 X on ~(c): c=c a=a q=none r=X.r
+3 X on 1'h1: c=c a=a q=a r=X.r
+4 X on c: c=c a=a q=a r=X.r
+5 X on ~(c): c=c a=a q=a r=X.r
+",
+    ends: "\
+out q 4 a
+next X.r 4'h0 a
+",
+};
+
 /// The widest signals beside the narrowest.
 const WIDEST: Case = Case {
     source: "\
@@ -277,10 +327,11 @@ const EMPTY: Case = Case {
     ends: "",
 };
 
-static CASES: [Case; 14] = [
+static CASES: [Case; 16] = [
     NESTED,
     DEPTHS,
     BOTH_BRANCHES,
+    FAMILY,
     ENABLES,
     CONDITION,
     LETS,
@@ -289,6 +340,7 @@ static CASES: [Case; 14] = [
     KEPT,
     WRITES,
     FOLDED,
+    SAME,
     WIDEST,
     WIRED,
     EMPTY,

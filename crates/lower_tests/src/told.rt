@@ -143,7 +143,7 @@ fn slot_text(alloc: Global, slot: &Slot) -> Result<String, Fail> {
     )?)
 }
 
-/// The top, the variants and the instances of a shape.
+/// The top and the variants of a shape.
 fn heads_text(alloc: Global, shape: &TableParts) -> Result<String, Fail> {
     let mut told = format!(in alloc; "top {}\n", name(&shape.top)?)?;
     for variant in shape.variants.items() {
