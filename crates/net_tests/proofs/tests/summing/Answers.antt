@@ -7,7 +7,7 @@ finish-requires-clause-nexts c =
     nexts_fit (codes "d") (codes "Top") (codes "r") c.in_ok-start.start c.in_ok-builder.builder c.input.new.self c.register.new.self c.apply2.new.self c.push-2.new.self.items c.new-nexts.result.items c.in_ok-data.data c.in_ok-register.register c.in_ok-next.next
     c.new-nexts.ensures.items c.in_ok-push-2.ensures.items
     (record {
-      none = c.in_ok-builder.ensures;
+      none = c.in_ok-builder.ensures.nodes;
       first = c.in_ok-data.ensures.adds;
       data_is = c.in_ok-data.ensures.stands;
       second = c.in_ok-register.ensures.adds;

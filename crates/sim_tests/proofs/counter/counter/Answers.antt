@@ -8,7 +8,7 @@ finish-requires-clause-nexts c =
     c.in_ok-enable.enable c.in_ok-count.count c.in_ok-step.step c.in_ok-next.next
     c.new-nexts.ensures.items c.in_ok-push-2.ensures.items
     (record {
-      none = c.in_ok-builder.ensures;
+      none = c.in_ok-builder.ensures.nodes;
       first = c.in_ok-enable.ensures.adds;
       enable_is = c.in_ok-enable.ensures.stands;
       second = c.in_ok-count.ensures.adds;
