@@ -12,10 +12,11 @@ use Rattle.design_exec.specs.Processes.{processes_of}
 use Rattle.net_core.specs.Nodes.{Shape, tree_of, width_at}
 use Rattle.net_core.specs.Builder.{Stands}
 use Rattle.net_core.specs.Nets.{NetParts, IsNet}
-use Rattle.lower_core.specs.declared.mode.Mode.{Mode}
+use Rattle.world_core.specs.declared.mode.Mode.{Mode}
 use Rattle.lower_core.specs.declared.row.Lowered as code
 use Rattle.lower_core.specs.Shape.{shape_of}
-use Rattle.lower_core.specs.Rows.{AreTold, all_spots}
+use Rattle.world_core.specs.Sites.{all_spots}
+use Rattle.lower_core.specs.Rows.{AreTold}
 
 -- the outputs of the top, in order: each with its name, and with a node of its width that stands for its folded whole tree
 pub record OutputTold (d : Design) (n : ℕ) (nodes : List Shape) (port : Name × ℕ) (output : Name × ℕ) : Type 0 where

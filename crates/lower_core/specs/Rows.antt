@@ -1,6 +1,5 @@
 -- What the rows of a lowered design tell: the enables of statements and what names are before them, as nodes of a net.
-use Rattle.std.specs.Prelude.{◌≡◌, ℕ, List, [], ◌∷◌, map, Option, Some, None}
-use Rattle.std.specs.List.{flat_map}
+use Rattle.std.specs.Prelude.{◌≡◌, ℕ, List, [], ◌∷◌, Option, Some, None}
 use Rattle.bv_core.specs.declared.reference.NodeId.{NodeId}
 use Rattle.tree_core.specs.Tree.{Tree}
 use Rattle.exec_core.specs.Block.{Name, Now}
@@ -10,7 +9,7 @@ use Rattle.design_core.specs.Design.{Design}
 use Rattle.design_exec.specs.Processes.{processes_of}
 use Rattle.net_core.specs.Nodes.{Shape}
 use Rattle.net_core.specs.Builder.{Stands}
-use Rattle.world_core.specs.Sites.{Site, sites_in_order, site_body, instances_with}
+use Rattle.world_core.specs.Sites.{Site, Spot, site_body}
 use Rattle.lower_core.specs.declared.row.FullRow.{FullRow}
 
 -- a node stands for the folded whole tree of a tree over the names of an instance
@@ -47,15 +46,6 @@ pub record RowTold (d : Design) (n : ℕ) (nodes : List Shape) (site : Site) (i 
   pub cells : CellsTold d n nodes i row site.names full.cells
 
 -- a row for each statement, in the order of slots, and each instance of its variant, in preorder
-abbrev pub Spot : Type 0
-Spot = Site × ℕ
-
-abbrev pub spots_of : Design → Site → List Spot
-spots_of d site = map (λ i. (site, i)) (instances_with d site.variant)
-
-abbrev pub all_spots : Design → List Spot
-all_spots d = flat_map (spots_of d) (sites_in_order d)
-
 abbrev pub AreTold : Design → ℕ → List Shape → List Spot → List FullRow → Type 0
 AreTold d n nodes [] [] = Unit {0}
 AreTold d n nodes [] (row ∷ rows) = ⊥

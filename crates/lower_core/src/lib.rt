@@ -3,8 +3,7 @@
 //! What its nodes stand for is defined in `specs/Lowered.antt`. This crate has the types and these definitions.
 #![tactic(auto)]
 
-mod mode;
 mod row;
 
-pub use mode::Mode;
 pub use row::{FullRow, Lowered};
+pub use world_core::Mode;

@@ -1,8 +1,8 @@
-use crate::Mode;
 use bv_core::NodeId;
 use net_core::Net;
 use symtab::TableParts;
 use text_core::Listed;
+use world_core::Mode;
 
 /// What one instance has at a statement: the node of its enable, and a node for each name in scope, in order; None for a name
 /// that some path to the statement does not assign.

@@ -19,12 +19,11 @@ use Rattle.check_exec.proofs.Checks.{blocks_are_checked}
 use Rattle.check_exec.proofs.Facts.{each_map, each_flat, from_zero}
 use Rattle.check_exec.proofs.Instances.{Stands}
 use Rattle.check_exec.proofs.Slots.{slots_are_apart}
-use Rattle.world_core.specs.Sites.{Site, sites_in_block, sites_in, sites_of, slot_count, has_slot, sites_at, sites_in_order, site_body, instances_with}
-use Rattle.lower_core.specs.Rows.{Spot, spots_of, all_spots}
+use Rattle.world_core.specs.Sites.{Site, sites_in_block, sites_in, sites_of, slot_count, has_slot, sites_at, sites_in_order, site_body, instances_with, Spot, spots_of, all_spots}
 use Rattle.row_net.specs.Unset.{UnsetExactly}
-use Rattle.row_net.proofs.Listing.{map_from, flat_from, filter_from}
+use Rattle.world_core.proofs.Listing.{map_from, flat_from, filter_from}
 use Rattle.row_net.proofs.Scopes.{process_in}
-use Rattle.row_net.proofs.Status.{unset_means, unset_told}
+use Rattle.world_core.proofs.Status.{unset_means, unset_told}
 
 -- a statement stands in a block of its variant
 record Home (d : Design) (s : Site) : Type 0 where

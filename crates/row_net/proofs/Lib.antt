@@ -1,4 +1,3 @@
-pub mod Listing
 pub mod SitesOf
 pub mod Transposed
 pub mod Telling
@@ -10,5 +9,4 @@ pub mod Replaying
 pub mod Buckets
 pub mod Puts
 pub mod Here
-pub mod Status
 pub mod Exact

@@ -14,16 +14,16 @@ use Rattle.net_core.specs.Nodes.{Shape}
 use Rattle.net_core.specs.Builder.{Keeps}
 use Rattle.check_exec.proofs.Children.{some_at}
 use Rattle.check_exec.proofs.Facts.{in_at, each_map, each_flat}
-use Rattle.world_core.specs.Sites.{Site, sites_in_block, sites_in, sites_of, slot_count}
+use Rattle.world_core.specs.Sites.{Site, sites_in_block, sites_in, sites_of, slot_count, Spot, all_spots}
 use Rattle.lower_core.specs.declared.row.FullRow.{FullRow}
-use Rattle.lower_core.specs.Rows.{Spot, AreTold, all_spots}
+use Rattle.lower_core.specs.Rows.{AreTold}
 use Rattle.ssa_core.specs.declared.process.ProcessKey.{ProcessKey}
 use Rattle.ssa_core.specs.Processes.{process_at}
 use Rattle.ssa_core.proofs.Listing.{flat_push, plain_more}
 use Rattle.ssa_core.proofs.Places.{get_mapped, get_map}
 use Rattle.row_net.specs.Spots.{at_instance, variant_sites, instance_spots, spots_by_instance, SlotsBelow, AreSorted, sorted_rows}
 use Rattle.row_net.specs.Blocks.{block_sites, HaveKeys, IsBlockOf, SpotsPut, blocks_spots, first_number}
-use Rattle.row_net.proofs.Listing.{map_in, flat_in, at_number}
+use Rattle.world_core.proofs.Listing.{map_in, flat_in, at_number}
 use Rattle.row_net.proofs.SitesOf.{site_slot, sites_slots}
 use Rattle.row_net.proofs.Transposed.{all_sorted}
 use Rattle.row_net.proofs.Telling.{told_more, told_both, told_sorted}

@@ -14,7 +14,7 @@ use Rattle.design_core.specs.Slots.{lets_of, let_of, else_lets, scope}
 use Rattle.design_exec.specs.Processes.{instances_of, process, processes_at, processes_of, body_of, stmt_of, else_of, is_signal_of}
 use Rattle.check_exec.proofs.Facts.{in_parts, in_any, name_same}
 use Rattle.check_exec.proofs.Instances.{Stands, signals_are}
-use Rattle.row_net.proofs.Listing.{map_in, map_from, flat_in, at_number}
+use Rattle.world_core.proofs.Listing.{map_in, map_from, flat_in, at_number}
 
 mutual
   let_set : (c : Bool) (x : Name) (s : design.Stmt) → IsIn x (let_of s) → assigns (stmt_of c s) (Now x) ≡ true

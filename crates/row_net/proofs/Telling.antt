@@ -10,10 +10,10 @@ use Rattle.design_core.specs.Design.{Design}
 use Rattle.design_core.specs.Slots.{from}
 use Rattle.net_core.specs.Nodes.{Shape}
 use Rattle.net_core.specs.Builder.{Keeps}
-use Rattle.world_core.specs.Sites.{Site}
+use Rattle.world_core.specs.Sites.{Site, Spot}
 use Rattle.term_net.proofs.Fitting.{stands_more}
 use Rattle.lower_core.specs.declared.row.FullRow.{FullRow}
-use Rattle.lower_core.specs.Rows.{Spot, CellTold, CellsTold, RowTold, AreTold}
+use Rattle.lower_core.specs.Rows.{CellTold, CellsTold, RowTold, AreTold}
 use Rattle.row_net.specs.Spots.{is_row_of, rows_at, sorted_rows}
 use Rattle.row_net.proofs.Transposed.{is_spot_of, sorted_spots}
 

@@ -8,9 +8,9 @@ use Rattle.design_core.specs.declared.variant.Signal.{Signal}
 use Rattle.design_core.specs.Design.{Block, Variant, Design}
 use Rattle.design_exec.specs.Processes.{Numbered, process, processes_at, signals_in, blocks_in}
 use Rattle.net_core.specs.Nodes.{Shape}
-use Rattle.world_core.specs.Sites.{Site, sites_in_block}
+use Rattle.world_core.specs.Sites.{Site, sites_in_block, Spot}
 use Rattle.lower_core.specs.declared.row.FullRow.{FullRow}
-use Rattle.lower_core.specs.Rows.{Spot, AreTold}
+use Rattle.lower_core.specs.Rows.{AreTold}
 use Rattle.ssa_core.specs.declared.process.ProcessKey.{ProcessKey}
 use Rattle.ssa_core.specs.Processes.{process_at}
 use Rattle.row_net.specs.Spots.{at_instance}

@@ -5,8 +5,7 @@ use Rattle.exec_core.specs.Lists.{IsIn}
 use Rattle.exec_core.specs.Trees.{Row, block_rows, row_at}
 use Rattle.design_core.specs.Design.{Design}
 use Rattle.check_exec.specs.Premises.{IsSound}
-use Rattle.world_core.specs.Sites.{site_body, is_unset}
-use Rattle.lower_core.specs.Rows.{Spot, all_spots}
+use Rattle.world_core.specs.Sites.{site_body, is_unset, Spot, all_spots}
 
 -- in an accepted design a name has no tree at a statement exactly where it is unset: it is an own name of the block, and some path
 -- to the statement does not assign it

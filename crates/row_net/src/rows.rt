@@ -1,7 +1,8 @@
 ghost use Rattle.std.specs.Prelude.{◌≡◌, ◌+◌, length, IfOk, OnOk};
 ghost use Rattle.design_exec.specs.Processes.{blocks_in, signals_in};
 ghost use Rattle.dep_order.specs.Names.{names_at};
-ghost use Rattle.lower_core.specs.Rows.{AreTold, all_spots};
+ghost use Rattle.world_core.specs.Sites.{all_spots};
+ghost use Rattle.lower_core.specs.Rows.{AreTold};
 ghost use Rattle.ssa_core.specs.Processes.{lists_of};
 ghost use Rattle.ssa_nodes.specs.Driving.{AllHave};
 ghost use Rattle.ssa_nodes.specs.Parts.{HasParts, HasState, design_in};

@@ -17,10 +17,11 @@ use Rattle.dep_order.specs.Numbering.{number_in}
 use Rattle.net_core.specs.Nodes.{Shape}
 use Rattle.net_core.specs.Builder.{AreShared, Stands}
 use Rattle.net_core.specs.Nets.{NetParts, IsNet}
-use Rattle.lower_core.specs.declared.mode.Mode.{Mode}
+use Rattle.world_core.specs.declared.mode.Mode.{Mode}
 use Rattle.lower_core.specs.declared.row.Lowered as lowered
 use Rattle.lower_core.specs.Shape.{shape_of}
-use Rattle.lower_core.specs.Rows.{AreTold, all_spots}
+use Rattle.world_core.specs.Sites.{all_spots}
+use Rattle.lower_core.specs.Rows.{AreTold}
 use Rattle.lower_core.specs.Lowered.{HasNode, OutputsTold, NextTold as NextIs, IsLowered}
 use Rattle.next_net.specs.Nexts.{NextTold, AllNext}
 use Rattle.dep_order.specs.Results.{Pair}

@@ -1,7 +1,8 @@
 ghost use Rattle.std.specs.Prelude.{◌≡◌, true, length, IfOk, OnOk};
 ghost use Rattle.design_core.specs.Ports.{ports_in, top_signals};
 ghost use Rattle.lower_core.specs.Lowered.{OutputsTold};
-ghost use Rattle.lower_core.specs.Rows.{AreTold, all_spots};
+ghost use Rattle.world_core.specs.Sites.{all_spots};
+ghost use Rattle.lower_core.specs.Rows.{AreTold};
 ghost use Rattle.net_core.specs.Nets.{outputs_of as net_outputs, nexts_of as net_nexts, OutputsFit, NextsFit};
 ghost use Rattle.next_net.specs.Nexts.{AllNext};
 ghost use Rattle.ssa_core.specs.Processes.{lists_of};

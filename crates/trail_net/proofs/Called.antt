@@ -30,20 +30,20 @@ use Rattle.check_exec.specs.Premises.{IsSound}
 use Rattle.check_exec.proofs.Facts.{in_index}
 use Rattle.dep_order.specs.Results.{TellsOrder}
 use Rattle.world_core.specs.World.{trail_text}
-use Rattle.world_core.specs.Sites.{sites_in_order}
+use Rattle.world_core.specs.Sites.{sites_in_order, Spot, all_spots}
 use Rattle.world_core.specs.Source.{source_world}
-use Rattle.lower_core.specs.declared.mode.Mode.{Mode}
+use Rattle.world_core.specs.declared.mode.Mode.{Mode}
 use Rattle.lower_core.specs.declared.row.FullRow.{FullRow}
 use Rattle.lower_core.specs.declared.row.Lowered as code
 use Rattle.lower_core.specs.Shape.{instance_part, slot_part, shape_of}
-use Rattle.lower_core.specs.Rows.{Spot, all_spots, CellTold, CellsTold, RowTold, AreTold}
+use Rattle.lower_core.specs.Rows.{CellTold, CellsTold, RowTold, AreTold}
 use Rattle.lower_core.specs.Lowered.{IsLowered}
 use Rattle.trail_net.specs.Runs.{HasInputs, RunsOver, TakesTrail, TakesTrailFront}
 use Rattle.trail_net.specs.Told.{no_slot, slot_at, rows_text}
 use Rattle.trail_net.specs.Written.{RowStands}
 use Rattle.trail_net.proofs.RowsFit.{IsPort, inputs_ports}
-use Rattle.trail_net.proofs.Listing.{map_from}
-use Rattle.trail_net.proofs.SitesOf.{at_slot, SpotIs, spot_is}
+use Rattle.world_core.proofs.Listing.{map_from}
+use Rattle.row_net.proofs.SitesOf.{at_slot, SpotIs, spot_is}
 use Rattle.trail_net.proofs.Texts.{texts_are_trails}
 
 -- ---- each input of the net is one of the ports

@@ -1,9 +1,6 @@
 pub mod RowsFit
 pub mod Running
 pub mod States
-pub mod Listing
-pub mod Status
-pub mod SitesOf
 pub mod Spots
 pub mod Shown
 pub mod Texts

@@ -33,17 +33,17 @@ use Rattle.check_exec.proofs.Ready.{runs_of_accepted_agree}
 use Rattle.dep_order.specs.Results.{signal_at}
 use Rattle.dep_order.proofs.Ready.{orders_are_accepted}
 use Rattle.world_core.specs.World.{Value}
-use Rattle.world_core.specs.Sites.{Site, site_body, sites_of, is_unset}
+use Rattle.world_core.specs.Sites.{Site, site_body, sites_of, is_unset, Spot, all_spots}
 use Rattle.world_core.specs.Source.{nothing, settled_in, visit_in, name_shown, unset_among, unset_at, rows_named}
 use Rattle.lower_core.specs.declared.row.FullRow.{FullRow}
-use Rattle.lower_core.specs.Rows.{Spot, all_spots, CellTold, CellsTold, RowTold, AreTold}
+use Rattle.lower_core.specs.Rows.{CellTold, CellsTold, RowTold, AreTold}
 use Rattle.lower_core.specs.Lowered.{IsLowered}
 use Rattle.trail_net.specs.Told.{CellShows, CellsShow, RowShows, RowsShow, RowsShowRuns}
 use Rattle.trail_net.proofs.RowsFit.{Port, IsFirst, inputs_first}
 use Rattle.trail_net.proofs.Running.{rows_of_stimulus}
 use Rattle.trail_net.proofs.States.{state_in, GivensTold, are_states}
-use Rattle.trail_net.proofs.Status.{unset_means, unset_told}
-use Rattle.trail_net.proofs.SitesOf.{SiteIs, sites_are, IsOrdered, ordered, spot_is}
+use Rattle.world_core.proofs.Status.{unset_means, unset_told}
+use Rattle.row_net.proofs.SitesOf.{SiteIs, sites_are, IsOrdered, ordered, spot_is}
 use Rattle.trail_net.proofs.Spots.{scope_known, process_in, row_slot, enable_value, name_value}
 
 -- each node has the value of its tree

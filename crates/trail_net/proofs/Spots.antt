@@ -30,8 +30,8 @@ use Rattle.check_exec.proofs.Instances.{Stands, signals_are}
 use Rattle.world_core.specs.World.{Value}
 use Rattle.world_core.specs.Sites.{Site, sites_of, sites_in_order}
 use Rattle.world_core.specs.Source.{value_shown}
-use Rattle.trail_net.proofs.Listing.{map_in, map_from, flat_in, flat_from, filter_from, at_number, not_in_from}
-use Rattle.trail_net.proofs.SitesOf.{SiteOf, site_of, ordered, at_numbers}
+use Rattle.world_core.proofs.Listing.{map_in, map_from, flat_in, flat_from, filter_from, at_number, not_in_from}
+use Rattle.row_net.proofs.SitesOf.{SiteOf, site_of, ordered, at_numbers}
 
 -- ---- the names in scope are known
 

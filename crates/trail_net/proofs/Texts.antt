@@ -24,14 +24,14 @@ use Rattle.symtab.specs.declared.parts.InstanceParts.{InstanceParts}
 use Rattle.sim_hist.specs.Run.{run_samples}
 use Rattle.world_core.specs.World as world
 use Rattle.world_core.specs.World.{Shown, Shows, shown_text, gen_text, name_text, trail_line, path_in, position_text, trail_text}
-use Rattle.world_core.specs.Sites.{Site, slot_count, sites_in_order, instances_with}
+use Rattle.world_core.specs.Sites.{Site, slot_count, sites_in_order, instances_with, Spot, spots_of, all_spots}
 use Rattle.world_core.specs.Source.{visit_in, shows_of, source_world}
 use Rattle.lower_core.specs.declared.row.FullRow.{FullRow}
 use Rattle.lower_core.specs.Shape.{gen_part, instance_part, slot_part, shape_of}
-use Rattle.lower_core.specs.Rows.{Spot, spots_of, all_spots, AreTold}
+use Rattle.lower_core.specs.Rows.{AreTold}
 use Rattle.trail_net.specs.Told.{CellsShow, RowShows, RowsShow, no_slot, no_instance, slot_at, path_at, variable_text, cells_text, line_text, is_one, row_text, cycle_text, TextsAreTrails}
-use Rattle.trail_net.proofs.Listing.{from_in, from_length, flat_map_twice, flat_map_same, flat_map_mapped}
-use Rattle.trail_net.proofs.SitesOf.{order_slots, at_slot, SpotIs, spot_is}
+use Rattle.world_core.proofs.Listing.{from_in, from_length, flat_map_twice, flat_map_same, flat_map_mapped}
+use Rattle.row_net.proofs.SitesOf.{order_slots, at_slot, SpotIs, spot_is}
 use Rattle.trail_net.proofs.Spots.{not_there}
 use Rattle.trail_net.proofs.Shown.{rows_show_runs}
 

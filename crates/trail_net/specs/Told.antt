@@ -23,10 +23,10 @@ use Rattle.stim_text.specs.Stimulus.{Stimulus, IsStimulus}
 use Rattle.sim_hist.specs.Run.{run_samples}
 use Rattle.world_core.specs.World.{Shown, Value, Unknown, Unset, shown_text, trail_text}
 use Rattle.world_core.specs.Source.{visit_in, name_shown, unset_at, source_world}
-use Rattle.lower_core.specs.declared.mode.Mode.{Mode}
+use Rattle.world_core.specs.declared.mode.Mode.{Mode}
 use Rattle.lower_core.specs.declared.row.FullRow.{FullRow}
 use Rattle.lower_core.specs.declared.row.Lowered as code
-use Rattle.lower_core.specs.Rows.{Spot, all_spots}
+use Rattle.world_core.specs.Sites.{Spot, all_spots}
 use Rattle.lower_core.specs.Lowered.{IsLowered}
 use Rattle.check_exec.specs.Premises.{IsSound}
 use Rattle.dep_order.specs.Results.{TellsOrder}

@@ -1,4 +1,5 @@
 pub mod Sites
 pub mod World
+pub mod Kept
 pub mod Source
 pub mod Sample

@@ -1,5 +1,5 @@
 -- The statements of a design by their slots, with what is in scope at each.
-use Rattle.std.specs.Prelude.{ℕ, Bool, true, false, ◌==◌, ◌&&◌, ◌||◌, not, List, [], ◌∷◌, length, map, filter}
+use Rattle.std.specs.Prelude.{ℕ, Bool, true, false, ◌==◌, ◌&&◌, ◌||◌, not, List, length, map, filter}
 use Rattle.std.specs.List.{enumerate_from, flat_map}
 use Rattle.design_core.specs.Design.{Gens, Block, Variant, Design}
 use Rattle.design_core.specs.Slots.{heads, scope, from}
@@ -51,6 +51,16 @@ site_body s = body_of s.block.clocked s.block.body
 -- the numbers of the instances of a variant, in preorder
 abbrev pub instances_with : Design → ℕ → List ℕ
 instances_with d v = map (λ i. i.0) (filter (λ i. i.1.variant == v) (instances_of d))
+
+-- a statement in an instance of its variant; those of all statements, in the order of slots, and for each of its instances, in preorder
+abbrev pub Spot : Type 0
+Spot = Site × ℕ
+
+abbrev pub spots_of : Design → Site → List Spot
+spots_of d site = map (λ i. (site, i)) (instances_with d site.variant)
+
+abbrev pub all_spots : Design → List Spot
+all_spots d = flat_map (spots_of d) (sites_in_order d)
 
 -- ---- status `unset`
 

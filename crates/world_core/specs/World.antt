@@ -1,35 +1,79 @@
--- What a debugger walks: positions, their threads, and what is shown at each; and the text of a trail through it.
-use Rattle.std.specs.Prelude.{ℕ, ℤ, List, ◌++◌, codes, slice_index_or}
+-- What a debugger walks: positions, their threads, and what names have there; and the text of a trail through it.
+use Rattle.std.specs.Prelude.{◌≡◌, ℕ, ◌<◌, ℤ, List, ◌++◌, length, codes, Option, Some, None, slice_get, slice_index_or}
 use Rattle.std.specs.List.{flat_map, enumerate_from}
 use Rattle.std.specs.Fmt.{decimal, signed_decimal}
 use Rattle.bv_core.specs.Value.{Bits}
 use Rattle.bv_core.specs.Text as text
 use Rattle.exec_core.specs.Block.{Name}
+use Rattle.exec_core.specs.Lists.{IsIn}
 use Rattle.design_core.specs.Design.{Gens}
 use Rattle.design_core.specs.Slots.{from}
 
--- what is shown of a name: its value; that a trace does not know it; that some path to the statement does not assign it; that no
--- expression of it was kept
+-- what a name stands for at a statement of an instance, whatever the cycle: nothing, as some path to the statement does not assign
+-- it; an expression that was not kept; or a value of this width
+pub data Status : Type 0 where
+  IsUnset : Status
+  IsRemoved : Status
+  HasWidth : (width : ℕ) → Status
+
+-- a statement as it is shown: its line, the generator variables at it, the names in scope, and the instances that have it, in
+-- preorder
+pub record Shows : Type 0 where
+  pub line : ℕ
+  pub gens : Gens
+  pub names : List Name
+  pub instances : List ℕ
+
+-- a world: how many cycles there are; the paths of the instances, in preorder; the statements, in the order of their slots; the
+-- status of each name at a statement of an instance; the instances that are threads of a slot in a cycle, in preorder; and the value
+-- of a name there, if it is known
+pub record World : Type 0 where
+  pub cycles : ℕ
+  pub paths : List Name
+  pub slots : List Shows
+  pub status : (slot instance : ℕ) → Name → Status
+  pub threads : (cycle slot : ℕ) → List ℕ
+  pub value : (cycle slot instance : ℕ) → Name → Option Bits
+
+-- what is shown of a name
 pub data Shown : Type 0 where
   Value : Bits → Shown
   Unknown : Shown
   Unset : Shown
   Removed : Shown
 
--- a statement as it is shown: its line, the generator variables at it, and the names in scope
-pub record Shows : Type 0 where
-  pub line : ℕ
-  pub gens : Gens
-  pub names : List Name
+abbrev pub shown_by : Status → Option Bits → Shown
+shown_by IsUnset v = Unset
+shown_by IsRemoved v = Removed
+shown_by (HasWidth width) (Some bits) = Value bits
+shown_by (HasWidth width) None = Unknown
 
--- a world: how many cycles there are; the paths of the instances, in preorder; the statements, in the order of their slots; the
--- instances that are threads of a slot in a cycle, in preorder; and what is shown there of a name
-pub record World : Type 0 where
-  pub cycles : ℕ
-  pub paths : List Name
-  pub slots : List Shows
-  pub threads : (cycle slot : ℕ) → List ℕ
-  pub shown : (cycle slot instance : ℕ) → Name → Shown
+abbrev pub shown_in : World → (cycle slot instance : ℕ) → Name → Shown
+shown_in w t k i x = shown_by (w.status k i x) (w.value t k i x)
+
+-- ---- worlds that differ in nothing that can be seen
+
+-- a name is in scope at a statement
+pub record IsInScope (w : World) (k : ℕ) (x : Name) : Type 0 where
+  pub shows : Shows
+  pub slot : slice_get w.slots k ≡ Some shows
+  pub name : IsIn x shows.names
+
+-- an instance has a statement
+pub record HasStatement (w : World) (k i : ℕ) : Type 0 where
+  pub shows : Shows
+  pub slot : slice_get w.slots k ≡ Some shows
+  pub instance : IsIn i shows.instances
+
+-- the same cycles, paths and statements; the same status of each name in scope at a statement of an instance; in each cycle the same
+-- threads of each statement, and in each of them the same of each name in scope
+pub record AreSame (v w : World) : Type 0 where
+  pub cycles : v.cycles ≡ w.cycles
+  pub paths : v.paths ≡ w.paths
+  pub slots : v.slots ≡ w.slots
+  pub status : (k i : ℕ) (x : Name) → HasStatement w k i → IsInScope w k x → v.status k i x ≡ w.status k i x
+  pub threads : (t k : ℕ) → t < w.cycles → k < length w.slots → v.threads t k ≡ w.threads t k
+  pub shown : (t k i : ℕ) (x : Name) → t < w.cycles → IsIn i (w.threads t k) → IsInScope w k x → shown_in v t k i x ≡ shown_in w t k i x
 
 -- ---- the text of a trail
 
@@ -57,7 +101,7 @@ path_in w i = slice_index_or w.paths i (codes "")
 
 -- a position: a line for each of its threads
 abbrev pub position_text : World → ℕ → ℕ × Shows → List ℕ
-position_text w cycle slot = flat_map (λ i. trail_line cycle slot.1 (path_in w i) (w.shown cycle slot.0 i)) (w.threads cycle slot.0)
+position_text w cycle slot = flat_map (λ i. trail_line cycle slot.1 (path_in w i) (shown_in w cycle slot.0 i)) (w.threads cycle slot.0)
 
 -- a cycle: the slots in the order of their numbers
 abbrev pub cycle_text : World → ℕ → List ℕ
@@ -66,3 +110,7 @@ cycle_text w cycle = flat_map (position_text w cycle) (enumerate_from 0 w.slots)
 -- the whole: cycle after cycle
 abbrev pub trail_text : World → List ℕ
 trail_text w = flat_map (cycle_text w) (from 0 w.cycles)
+
+-- worlds that are the same have one trail
+abbrev pub SameTrails : Type 0
+SameTrails = (v w : World) → AreSame v w → trail_text v ≡ trail_text w

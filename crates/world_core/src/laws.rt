@@ -1,6 +1,19 @@
-ghost use Rattle.world_core.specs.Sample.{sample_is_walked};
+ghost use Rattle.world_core.specs.World.{SameTrails};
+ghost use Rattle.world_core.specs.Kept.{KeptAreLeast};
+ghost use Rattle.world_core.specs.Sample.{sample_is_walked, sample_is_kept};
+
+/// Worlds that differ in nothing that can be seen have one trail. Computes nothing.
+pub fn same_worlds_same_trails()
+    ensures { SameTrails }
+{}
+
+/// The trees that the walk of a design numbers are exactly the least set that is kept, each once. Computes nothing.
+pub fn kept_are_least()
+    ensures { KeptAreLeast }
+{}
 
 /// A design of two instances, worked by hand, has the trail that the definitions give it. Computes nothing.
 pub fn walks_the_sample()
-    ensures { sample_is_walked }
+    ensures walked { sample_is_walked }
+    ensures kept { sample_is_kept }
 {}

@@ -1,5 +1,5 @@
 use Rattle.std.proofs.Common.{length}
-use Rattle.lower_core.specs.Rows.{all_spots}
+use Rattle.world_core.specs.Sites.{all_spots}
 use Rattle.ssa_nodes.specs.Parts.{design_in}
 use Rattle.row_net.proofs.Telling.{told_more}
 use Rattle.ssa_net.proofs.ends.ends_of.Goals as goal

@@ -1,7 +1,8 @@
 use Rattle.std.proofs.Common.{length, refl, sym, ap, ◌∙◌, subst}
 use Rattle.design_core.specs.DesignView.{design_of}
 use Rattle.lower_core.specs.Shape.{shape_of}
-use Rattle.lower_core.specs.Rows.{AreTold, all_spots}
+use Rattle.world_core.specs.Sites.{all_spots}
+use Rattle.lower_core.specs.Rows.{AreTold}
 use Rattle.ssa_nodes.specs.Parts.{design_in}
 use Rattle.ssa_nodes.specs.Driving.{AllHave}
 use Rattle.ssa_net.proofs.Ended.{lowered_by, lowered_of}

@@ -4,6 +4,10 @@ use Rattle.bv_core.specs.Text.{hex_digits}
 use Rattle.world_core.proofs.laws.walks_the_sample.Goals as goal
 
 -- by computing
-pub returns : goal.returns
+pub returns-clause-walked : goal.returns-clause-walked
 unfolding digits hex_digits
-returns c = refl
+returns-clause-walked c = refl
+
+pub returns-clause-kept : goal.returns-clause-kept
+unfolding digits hex_digits
+returns-clause-kept c = refl

@@ -7,9 +7,13 @@ use Rattle.std.proofs.lemmas.Option.{none-some, same_Some}
 use Rattle.exec_core.specs.Lists.{EachOf, IsIn, IsNotIn, AreApart}
 use Rattle.exec_core.proofs.Lists.{in_left, in_right}
 use Rattle.design_core.specs.Slots.{from}
-use Rattle.check_exec.proofs.Facts.{in_parts}
 
 -- ---- elements
+
+in_parts : {A : Type 0} (x : A) (a b : List A) → IsIn x (a ++ b) → IsIn x a ⊎ IsIn x b
+in_parts x [] b i = inr i
+in_parts x (y ∷ a) b (inl e) = inl (inl e)
+in_parts x (y ∷ a) b (inr i) = ⊎_elim (λ j. inl (inr j)) (λ j. inr j) (in_parts x a b i)
 
 pub map_in : {A B : Type 0} (f : A → B) (xs : List A) (x : A) → IsIn x xs → IsIn (f x) (map f xs)
 map_in f [] x i = absurd i
