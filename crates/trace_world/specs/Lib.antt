@@ -1,0 +1,2 @@
+pub mod TraceWorld
+pub mod Sample
