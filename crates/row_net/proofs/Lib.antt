@@ -1,4 +1,3 @@
-pub mod SitesOf
 pub mod Transposed
 pub mod Telling
 pub mod Aligned

@@ -24,7 +24,7 @@ use Rattle.ssa_core.proofs.Places.{get_mapped, get_map}
 use Rattle.row_net.specs.Spots.{at_instance, variant_sites, instance_spots, spots_by_instance, SlotsBelow, AreSorted, sorted_rows}
 use Rattle.row_net.specs.Blocks.{block_sites, HaveKeys, IsBlockOf, SpotsPut, blocks_spots, first_number}
 use Rattle.world_core.proofs.Listing.{map_in, flat_in, at_number}
-use Rattle.row_net.proofs.SitesOf.{site_slot, sites_slots}
+use Rattle.world_laws.proofs.SitesOf.{site_slot, sites_slots}
 use Rattle.row_net.proofs.Transposed.{all_sorted}
 use Rattle.row_net.proofs.Telling.{told_more, told_both, told_sorted}
 

@@ -30,4 +30,11 @@ impl<T> Listed<T> {
     {
         &self.items
     }
+
+    /// The elements as a vector. Takes no memory.
+    pub fn into_items(self) -> Vec<T>
+        ensures { result.items ≡ self }
+    {
+        self.items
+    }
 }

@@ -82,8 +82,8 @@ abbrev pub NextKept : Design → ℕ → NetParts → Place → Origin → Type 
 NextKept d n net p (Input name width) = Unit {0}
 NextKept d n net p (Register instance name start) = IsIn (Leaf (Register instance name start)) (trees_of net.nodes) → HasNext d n net p (Register instance name start)
 
--- a design compiled, where n signals are driven
-pub record IsTrimmed (d : Design) (n : ℕ) (mode : Mode) (net : NetParts) (parts : TableParts) : Type 0 where
+-- the net of the kept trees of a design, where n signals are driven
+pub record IsKeptNet (d : Design) (n : ℕ) (mode : Mode) (net : NetParts) : Type 0 where
   -- the nodes are exactly the kept trees, each once, in the numbering of the walk
   pub numbered : trees_of net.nodes ≡ kept_trees d n mode
   pub kept : (t : Whole) → IsIn t (trees_of net.nodes) ↔ IsKeptIn d n mode t
@@ -91,9 +91,17 @@ pub record IsTrimmed (d : Design) (n : ℕ) (mode : Mode) (net : NetParts) (part
   pub is_net : IsNet net
   pub outputs : OutputsTold d n net.nodes (ports_in true (top_signals d)) net.outputs
   pub nexts : EachOf (λ given. NextKept d n net given.0 given.1) (processes_of d).givens
+  -- every node's tree is one of inputs of the top and registers
   pub over : (j : ℕ) → j < length net.nodes → OverGivens (processes_of d) (tree_of net.nodes j)
-  -- the table has the shape of the design, the nodes of the net by their names, and tells each name
-  pub is_table : IsTable parts
+
+-- a table tells a design by these nodes: it has the shape of the design, the nodes by their names, and each name in scope
+pub record TellsDesign (d : Design) (n : ℕ) (mode : Mode) (nodes : List Shape) (parts : TableParts) : Type 0 where
   pub shape : bare parts ≡ shape_of d
-  pub names : parts.nodes ≡ node_names net.nodes
-  pub slots : SlotsTold d n mode net.nodes (sites_in_order d) parts.slots
+  pub names : parts.nodes ≡ node_names nodes
+  pub slots : SlotsTold d n mode nodes (sites_in_order d) parts.slots
+
+-- a design compiled: the net of its kept trees with its symbol table
+pub record IsTrimmed (d : Design) (n : ℕ) (mode : Mode) (net : NetParts) (parts : TableParts) : Type 0 where
+  pub is_kept : IsKeptNet d n mode net
+  pub tells : TellsDesign d n mode net.nodes parts
+  pub is_table : IsTable parts

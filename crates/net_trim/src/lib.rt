@@ -1,0 +1,10 @@
+//! From a lowered design to a compiled one: the net of what is kept, with its symbol table.
+#![tactic(auto)]
+
+mod found;
+mod names;
+mod roots;
+mod slots;
+mod trim;
+
+pub use trim::trim;

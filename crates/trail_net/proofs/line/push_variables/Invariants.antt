@@ -1,8 +1,0 @@
-use Rattle.std.proofs.Common.{◌≡◌, ◌++◌, take}
-use Rattle.std.specs.List.{flat_map}
-use Rattle.trail_net.specs.Told.{variable_text}
-use Rattle.trail_net.proofs.line.push_variables.Given as goal
-
--- the variables so far
-abbrev pub invariant-loop-variable : goal.invariant-loop-variable
-invariant-loop-variable l = l.text.items ≡ l.initial.text.items ++ flat_map variable_text (take l.variable-index l.variables)

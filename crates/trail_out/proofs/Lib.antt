@@ -1,0 +1,3 @@
+pub mod Passing
+pub mod Standing
+pub mod Trails

@@ -1,0 +1,154 @@
+//! The line of a statement that an instance executes.
+
+ghost use Rattle.std.specs.Prelude.{◌≡◌, ◌<◌, ◌++◌, All, IsSome, OnOk, codes, length};
+ghost use Rattle.std.specs.Fmt.{decimal};
+ghost use Rattle.std.specs.List.{flat_map};
+ghost use Rattle.world_core.specs.World.{shown_text};
+ghost use Rattle.trace_world.specs.TraceWorld.{known, found_by};
+ghost use Rattle.trail_out.specs.Texts.{sample_shown, cell_shown, variable_text, cell_text, cells_text, line_text};
+ghost use Rattle.trail_out.specs.Written.{samples_at, RefStands, CellStands};
+
+use bv_core::{Binding, Ref, Sample, text_of};
+use std::alloc::Global;
+use symtab::{GenVariable, Slot};
+use text_core::{NoMemory, Text};
+use trace_core::Trace;
+
+/// Adds a blank, and a generator variable with its number.
+fn push_variable(alloc: Global, text: &mut Vec<u8>, variable: &GenVariable) -> Result<(), NoMemory>
+    ensures { OnOk result (text.new.items ≡ text.old.items ++ variable_text variable.now) }
+{
+    let value = variable.value;
+    let number = format!(in alloc; "{value}")?;
+    text.push(b' ')?;
+    text.extend_from_slice(variable.name.bytes())?;
+    text.push(b'=')?;
+    text.extend_from_slice(number.as_bytes())?;
+    Ok(())
+}
+
+/// Adds generator variables, in order.
+fn push_variables(
+    alloc: Global,
+    text: &mut Vec<u8>,
+    variables: &[GenVariable],
+) -> Result<(), NoMemory>
+    ensures { OnOk result (text.new.items ≡ text.old.items ++ flat_map variable_text variables.now) }
+{
+    for variable in variables {
+        push_variable(alloc, text, variable)?;
+    }
+    Ok(())
+}
+
+/// Where the value that is found stands: at the cursor of the trace, or as a literal.
+pub(crate) fn sample_of<T: Trace>(trace: &T, at: Ref) -> Sample
+    requires placed { IsSome (T.cursor trace.now) }
+    requires stands { RefStands (T.samples trace.now).nodes at }
+    ensures { known result ≡ found_by (samples_at (T.samples trace.now) (T.cursor trace.now)) at }
+{
+    match at {
+        Ref::Node(id, _) => trace.value(id),
+        Ref::Const(value) => Sample::Known(value),
+    }
+}
+
+/// Adds a value, or that it is not known.
+fn push_sample(alloc: Global, text: &mut Vec<u8>, sample: Sample) -> Result<(), NoMemory>
+    ensures { OnOk result (text.new.items ≡ text.old.items ++ shown_text (sample_shown sample)) }
+{
+    match sample {
+        Sample::Known(value) => text.extend_from_slice(text_of(alloc, value)?.as_bytes())?,
+        Sample::Unknown => text.extend_from_slice(b"x")?,
+    }
+    Ok(())
+}
+
+/// Adds what is shown of a name that stands for this, in the cycle at which the trace stands.
+fn push_shown<T: Trace>(
+    alloc: Global,
+    text: &mut Vec<u8>,
+    trace: &T,
+    cell: Binding,
+) -> Result<(), NoMemory>
+    requires placed { IsSome (T.cursor trace.now) }
+    requires stands { CellStands (T.samples trace.now).nodes cell }
+    ensures { OnOk result (text.new.items ≡ text.old.items ++ shown_text (cell_shown (samples_at (T.samples trace.now) (T.cursor trace.now)) cell)) }
+{
+    match cell {
+        Binding::Value(at) => push_sample(alloc, text, sample_of(trace, at))?,
+        Binding::Unset => text.extend_from_slice(b"unset")?,
+        Binding::Removed => text.extend_from_slice(b"removed")?,
+    }
+    Ok(())
+}
+
+/// Adds a blank, and a name with what is shown of it.
+fn push_cell<T: Trace>(
+    alloc: Global,
+    text: &mut Vec<u8>,
+    trace: &T,
+    name: &Text,
+    cell: Binding,
+) -> Result<(), NoMemory>
+    requires placed { IsSome (T.cursor trace.now) }
+    requires stands { CellStands (T.samples trace.now).nodes cell }
+    ensures { OnOk result (text.new.items ≡ text.old.items ++ cell_text (samples_at (T.samples trace.now) (T.cursor trace.now)) name.now cell) }
+{
+    text.push(b' ')?;
+    text.extend_from_slice(name.bytes())?;
+    text.push(b'=')?;
+    push_shown(alloc, text, trace, cell)?;
+    Ok(())
+}
+
+/// Adds names with what is shown of them, in order.
+fn push_cells<T: Trace>(
+    alloc: Global,
+    text: &mut Vec<u8>,
+    trace: &T,
+    names: &[Text],
+    cells: &[Binding],
+) -> Result<(), NoMemory>
+    requires placed { IsSome (T.cursor trace.now) }
+    requires long { length names.now ≡ length cells.now }
+    requires stand { All (CellStands (T.samples trace.now).nodes) cells.now }
+    ensures { OnOk result (text.new.items ≡ text.old.items ++ cells_text (samples_at (T.samples trace.now) (T.cursor trace.now)) names.now cells.now) }
+{
+    for (place, name) in names.iter().enumerate() {
+        push_cell(alloc, text, trace, name, cells[place])?;
+    }
+    Ok(())
+}
+
+/// Adds the cycle and the line, with a blank behind each.
+fn push_head(alloc: Global, text: &mut Vec<u8>, cycle: u64, line: u32) -> Result<(), NoMemory>
+    ensures { OnOk result (text.new.items ≡ text.old.items ++ (decimal cycle ++ codes " " ++ decimal line ++ codes " ")) }
+{
+    let head = format!(in alloc; "{cycle} {line} ")?;
+    text.extend_from_slice(head.as_bytes())?;
+    Ok(())
+}
+
+/// Adds the line of a statement, in the cycle at which the trace stands.
+pub(crate) fn push_line<T: Trace>(
+    alloc: Global,
+    text: &mut Vec<u8>,
+    trace: &T,
+    cycle: u64,
+    slot: &Slot,
+    path: &Text,
+    cells: &[Binding],
+) -> Result<(), NoMemory>
+    requires placed { IsSome (T.cursor trace.now) }
+    requires long { length slot.now.names ≡ length cells.now }
+    requires stand { All (CellStands (T.samples trace.now).nodes) cells.now }
+    ensures { OnOk result (text.new.items ≡ text.old.items ++ line_text cycle slot.now path.now (samples_at (T.samples trace.now) (T.cursor trace.now)) cells.now) }
+{
+    push_head(alloc, text, cycle, slot.line)?;
+    text.extend_from_slice(path.bytes())?;
+    push_variables(alloc, text, slot.gens.items())?;
+    push_cells(alloc, text, trace, slot.names.items(), cells)?;
+    text.push(b'\n')?;
+    Ok(())
+}

@@ -1,0 +1,199 @@
+//! The lines of a table's rows, cycle after cycle, through a text that waits until it is long.
+
+ghost use Rattle.std.specs.Prelude.{◌≡◌, ◌<◌, ◌≤◌, ◌++◌, ℕ, [], Some, All, IsSome, IsErrOf, OnErr, OnOk, length, slice_get};
+ghost use Rattle.std.specs.List.{flat_map};
+ghost use Rattle.design_core.specs.Slots.{from};
+ghost use Rattle.io_edge.specs.Faults.{Rose};
+ghost use Rattle.io_edge.specs.Taken.{Appends, AppendsFront};
+ghost use Rattle.symtab.specs.Shape.{IsTable};
+ghost use Rattle.symtab.specs.Lookups.{instances_of};
+ghost use Rattle.world_core.specs.World.{trail_text};
+ghost use Rattle.trace_world.specs.TraceWorld.{is_one, is_on, known, trace_world};
+ghost use Rattle.trail_out.specs.Texts.{path_at, row_text, rows_text, slot_text, cycle_text, table_text};
+ghost use Rattle.trail_out.specs.Written.{samples_at, RowStands, SlotStands, Passes};
+
+use crate::TrailEnd;
+use crate::line::{push_line, sample_of};
+use bv_core::Sample;
+use io_edge::Sink;
+use std::alloc::Global;
+use symtab::{Row, Slot, Table, TableParts};
+use text_core::NoMemory;
+use trace_core::Trace;
+
+const LONG: usize = 64 * 1024;
+
+/// Whether a sample is known and is 1.
+fn is_one(sample: Sample) -> bool
+    ensures { result ≡ is_one (known sample) }
+{
+    match sample {
+        Sample::Known(value) => value.value() == 1,
+        Sample::Unknown => false,
+    }
+}
+
+/// Adds the line of a row, where its enable is 1.
+fn push_row<T: Trace>(
+    alloc: Global,
+    text: &mut Vec<u8>,
+    trace: &T,
+    cycle: u64,
+    parts: &TableParts,
+    slot: &Slot,
+    instance: u32,
+    row: &Row,
+) -> Result<(), NoMemory>
+    requires placed { IsSome (T.cursor trace.now) }
+    requires instance { instance < length parts.now.instances }
+    requires stands { RowStands (T.samples trace.now).nodes slot.now.names row.now }
+    ensures { OnOk result (text.new.items ≡ text.old.items ++ row_text cycle (samples_at (T.samples trace.now) (T.cursor trace.now)) parts.now slot.now instance row.now) }
+{
+    if !is_one(sample_of(trace, row.on)) {
+        return Ok(());
+    }
+    let path = &parts.instances.items()[instance as usize].path;
+    push_line(alloc, text, trace, cycle, slot, path, row.cells.items())?;
+    Ok(())
+}
+
+/// Adds the lines of a slot's rows, which stand for these instances.
+fn push_rows<T: Trace>(
+    alloc: Global,
+    text: &mut Vec<u8>,
+    trace: &T,
+    cycle: u64,
+    parts: &TableParts,
+    slot: &Slot,
+    instances: &[u32],
+) -> Result<(), NoMemory>
+    requires placed { IsSome (T.cursor trace.now) }
+    requires within { All (λ instance. instance < length parts.now.instances) instances.now }
+    requires stands { SlotStands (T.samples trace.now).nodes (length instances.now) slot.now }
+    ensures { OnOk result (text.new.items ≡ text.old.items ++ rows_text cycle (samples_at (T.samples trace.now) (T.cursor trace.now)) parts.now slot.now instances.now slot.now.rows) }
+{
+    for (place, row) in slot.rows.items().iter().enumerate() {
+        push_row(
+            alloc,
+            text,
+            trace,
+            cycle,
+            parts,
+            slot,
+            instances[place],
+            row,
+        )?;
+    }
+    Ok(())
+}
+
+/// Hands a text that is long to the sink.
+fn put_long<S: Sink>(text: &mut Vec<u8>, out: &mut S) -> Result<(), TrailEnd>
+    ensures ok { OnOk result (Passes (S.taken out.old) (S.taken out.new) text.old.items text.new.items []) }
+    ensures front { OnErr result (AppendsFront (S.taken out.old) (S.taken out.new) text.old.items) }
+    ensures failed { IsErrOf result TrailEnd.Failed → Rose (S.fault_count out.old) (S.fault_count out.new) }
+    ensures later { S.fault_count out.old ≤ S.fault_count out.new }
+{
+    if text.len() > LONG {
+        out.put(text)?;
+        text.clear();
+    }
+    Ok(())
+}
+
+/// Writes the lines of a slot, in the cycle at which the trace stands.
+fn write_slot<T: Trace, S: Sink>(
+    alloc: Global,
+    text: &mut Vec<u8>,
+    trace: &T,
+    cycle: u64,
+    table: &Table,
+    parts: &TableParts,
+    k: u32,
+    out: &mut S,
+) -> Result<(), TrailEnd>
+    requires placed { IsSome (T.cursor trace.now) }
+    requires parts { parts.now ≡ table.now }
+    requires table { IsTable table.now }
+    requires slot { k < length table.now.slots }
+    requires nodes { length table.now.nodes ≤ (T.samples trace.now).nodes }
+    ensures ok { OnOk result (Passes (S.taken out.old) (S.taken out.new) text.old.items text.new.items (slot_text cycle (samples_at (T.samples trace.now) (T.cursor trace.now)) table.now k)) }
+    ensures front { OnErr result (AppendsFront (S.taken out.old) (S.taken out.new) (text.old.items ++ slot_text cycle (samples_at (T.samples trace.now) (T.cursor trace.now)) table.now k)) }
+    ensures failed { IsErrOf result TrailEnd.Failed → Rose (S.fault_count out.old) (S.fault_count out.new) }
+    ensures later { S.fault_count out.old ≤ S.fault_count out.new }
+{
+    let slot = table.slot(k);
+    let instances = table.instances_of(k);
+    push_rows(alloc, text, trace, cycle, parts, slot, instances)?;
+    put_long(text, out)?;
+    Ok(())
+}
+
+/// Writes the lines of all slots, in the cycle at which the trace stands.
+fn write_cycle<T: Trace, S: Sink>(
+    alloc: Global,
+    text: &mut Vec<u8>,
+    trace: &T,
+    cycle: u64,
+    table: &Table,
+    parts: &TableParts,
+    out: &mut S,
+) -> Result<(), TrailEnd>
+    requires placed { IsSome (T.cursor trace.now) }
+    requires parts { parts.now ≡ table.now }
+    requires table { IsTable table.now }
+    requires nodes { length table.now.nodes ≤ (T.samples trace.now).nodes }
+    ensures ok { OnOk result (Passes (S.taken out.old) (S.taken out.new) text.old.items text.new.items (flat_map (slot_text cycle (samples_at (T.samples trace.now) (T.cursor trace.now)) table.now) (from 0 (length table.now.slots)))) }
+    ensures front { OnErr result (AppendsFront (S.taken out.old) (S.taken out.new) (text.old.items ++ flat_map (slot_text cycle (samples_at (T.samples trace.now) (T.cursor trace.now)) table.now) (from 0 (length table.now.slots)))) }
+    ensures failed { IsErrOf result TrailEnd.Failed → Rose (S.fault_count out.old) (S.fault_count out.new) }
+    ensures later { S.fault_count out.old ≤ S.fault_count out.new }
+{
+    for k in 0..table.slots() {
+        write_slot(alloc, text, trace, cycle, table, parts, k, out)?;
+    }
+    Ok(())
+}
+
+/// Writes the lines of all slots, cycle after cycle.
+fn write_cycles<T: Trace, S: Sink>(
+    alloc: Global,
+    text: &mut Vec<u8>,
+    trace: &mut T,
+    table: &Table,
+    parts: &TableParts,
+    out: &mut S,
+) -> Result<(), TrailEnd>
+    requires parts { parts.now ≡ table.now }
+    requires table { IsTable table.now }
+    requires nodes { length table.now.nodes ≤ (T.samples trace.old).nodes }
+    ensures ok { OnOk result (Passes (S.taken out.old) (S.taken out.new) text.old.items text.new.items (table_text (T.samples trace.old) table.now)) }
+    ensures front { OnErr result (AppendsFront (S.taken out.old) (S.taken out.new) (text.old.items ++ table_text (T.samples trace.old) table.now)) }
+    ensures failed { IsErrOf result TrailEnd.Failed → Rose (S.fault_count out.old) (S.fault_count out.new) }
+    ensures later { S.fault_count out.old ≤ S.fault_count out.new }
+{
+    for cycle in 0..trace.cycles() {
+        trace.seek(cycle);
+        write_cycle(alloc, text, trace, cycle, table, parts, out)?;
+    }
+    Ok(())
+}
+
+/// Writes the trail that a table and a trace tell, which has the nodes of the table: for each cycle and each slot, in order, a
+/// line for each instance whose enable is 1, in preorder. `Failed` only where the sink failed; it has then a front of the trail.
+pub fn write_trail<T: Trace, S: Sink>(
+    alloc: Global,
+    table: &Table,
+    trace: &mut T,
+    out: &mut S,
+) -> Result<(), TrailEnd>
+    requires nodes { length table.now.nodes ≤ (T.samples trace.old).nodes }
+    ensures ok { OnOk result (Appends (S.taken out.old) (S.taken out.new) (trail_text (trace_world table.now (T.samples trace.old)))) }
+    ensures front { OnErr result (AppendsFront (S.taken out.old) (S.taken out.new) (trail_text (trace_world table.now (T.samples trace.old)))) }
+    ensures failed { IsErrOf result TrailEnd.Failed → Rose (S.fault_count out.old) (S.fault_count out.new) }
+    ensures later { S.fault_count out.old ≤ S.fault_count out.new }
+{
+    let mut text = Vec::new(alloc);
+    write_cycles(alloc, &mut text, trace, table, table.parts(), out)?;
+    out.put(&text)?;
+    Ok(())
+}
