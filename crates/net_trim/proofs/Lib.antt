@@ -1,0 +1,4 @@
+pub mod Roots
+pub mod Nexts
+pub mod Nets
+pub mod Told

@@ -1,0 +1,75 @@
+-- What compiling a design gives the function that writes its trail.
+use Rattle.std.proofs.Common.{◌≡◌, ℕ, ◌≤◌, false, List, length, map, Option, refl, sym, ap, ◌∙◌, subst, arith}
+use Rattle.std.specs.Prelude.{slice_get}
+use Rattle.std.specs.List.{enumerate_from}
+use Rattle.std.proofs.lemmas.List.{length-map}
+use Rattle.std.proofs.lemmas.List.FromFn.{length-enumerate_from}
+use Rattle.std.proofs.lemmas.Option.{slice_get_within, get_or_from_slice_get}
+use Rattle.bv_core.specs.Value.{Bits}
+use Rattle.tree_core.specs.Tree.{Leaf, Origin, Input, Whole}
+use Rattle.exec_core.specs.Lists.{IsIn}
+use Rattle.exec_core.specs.Whole.{Place}
+use Rattle.exec_core.specs.States.{OverGivens}
+use Rattle.exec_core.proofs.Lists.{each_member}
+use Rattle.design_core.specs.declared.Ports.{Ports}
+use Rattle.design_core.specs.Design.{Design}
+use Rattle.design_core.specs.Ports.{ports_in, top_signals}
+use Rattle.design_exec.specs.Processes.{Given, processes_of}
+use Rattle.net_core.specs.Nodes.{Shape, TopInput, no_shape, shape_at, node_tree, trees_of, tree_of}
+use Rattle.net_core.specs.Nets.{NetParts}
+use Rattle.net_core.proofs.TreeLists.{tree_is}
+use Rattle.io_edge.specs.Taken.{Appends, AppendsFront}
+use Rattle.io_edge.proofs.Growth.{no_growth}
+use Rattle.symtab.specs.declared.parts.NodeName.{NodeName}
+use Rattle.symtab.specs.declared.parts.TableParts.{TableParts}
+use Rattle.stim_text.specs.Stimulus.{Stimulus, IsStimulus}
+use Rattle.sim_hist.specs.Run.{InputsArePorts, run_samples}
+use Rattle.check_exec.specs.Premises.{IsSound}
+use Rattle.check_exec.proofs.Facts.{in_index}
+use Rattle.dep_order.specs.Results.{TellsOrder}
+use Rattle.world_core.specs.declared.mode.Mode.{Mode}
+use Rattle.world_core.specs.World.{trail_text}
+use Rattle.world_core.specs.Source.{source_world}
+use Rattle.world_core.proofs.Listing.{map_from}
+use Rattle.world_core.proofs.Trails.{same_trails}
+use Rattle.trace_world.specs.TraceWorld.{trace_world}
+use Rattle.trim_core.specs.Named.{named, node_names}
+use Rattle.trim_core.specs.Trimmed.{IsTrimmed}
+use Rattle.trim_laws.specs.Runs.{HasInputs, RunsOver}
+use Rattle.trim_laws.proofs.RowsFit.{IsPort, inputs_ports}
+use Rattle.trim_laws.proofs.Worlds.{worlds_are_same}
+use Rattle.trail_net.specs.Taken.{TakesTrail, TakesTrailFront}
+
+-- each input of the net is one of the ports
+pub inputs_are_ports : (d : Design) (n : ℕ) (mode : Mode) (net : NetParts) (parts : TableParts) (ports : Ports) → IsSound d → IsTrimmed d n mode net parts → HasInputs d ports → InputsArePorts net.nodes ports
+inputs_are_ports d n mode net parts ports sound trimmed inputs i name width at =
+    let inside = slice_get_within net.nodes i (TopInput name width) at in
+    let shape : shape_at net.nodes i ≡ TopInput name width = get_or_from_slice_get net.nodes i (TopInput name width) no_shape at in
+    let tree : tree_of net.nodes i ≡ Leaf (Input name width) = tree_is net.nodes trimmed.is_kept.is_net.shared.numbered i inside ∙ ap (node_tree (trees_of net.nodes)) shape in
+    let among : IsIn (Input name width) (map (λ (given : Given). given.1) (processes_of d).givens) = subst (λ (t : Whole). OverGivens (processes_of d) t) tree (trimmed.is_kept.over i inside) in
+    let given = map_from (λ (given : Given). given.1) (processes_of d).givens (Input name width) among in
+    let port : IsPort (ports_in false (top_signals d)) (Input name width) =
+    subst (λ (o : Origin). IsPort (ports_in false (top_signals d)) o) (sym given.1.1) (each_member (λ (given : Given). IsPort (ports_in false (top_signals d)) given.1) (processes_of d).givens (inputs_ports d sound) given.0 given.1.0) in
+    let place = in_index (ports_in false (top_signals d)) (name, width) port in
+    (place.0, ap (λ ps. slice_get ps place.0) inputs ∙ place.1)
+
+-- the table has the nodes of the net
+pub as_many_nodes : (d : Design) (n : ℕ) (mode : Mode) (net : NetParts) (parts : TableParts) → IsTrimmed d n mode net parts → length parts.nodes ≡ length net.nodes
+as_many_nodes d n mode net parts trimmed =
+    ap (λ (ns : List NodeName). length ns) trimmed.tells.names ∙ length-map (enumerate_from 0 net.nodes) (named net.nodes) ∙ length-enumerate_from 0 net.nodes
+
+-- what was taken is the trail of each run
+module _ (d : Design) (pairs : List (ℕ × ℕ)) (mode : Mode) (net : NetParts) (parts : TableParts) (stim : Stimulus) (sound : IsSound d) (order : TellsOrder d pairs) (trimmed : IsTrimmed d (length pairs) mode net parts) (kept : IsStimulus stim) (inputs : HasInputs d stim.ports) where
+  trail_is : (run : List (Place → Bits)) → RunsOver d stim.rows run → trail_text (trace_world parts (run_samples net stim)) ≡ trail_text (source_world d (length pairs) mode run)
+  trail_is run over =
+      same_trails (trace_world parts (run_samples net stim)) (source_world d (length pairs) mode run)
+      (worlds_are_same d pairs mode net parts stim run (record { sound = sound; order = order; trimmed = trimmed; stimulus = kept; inputs = inputs; run_over = over }))
+
+  pub trail_taken : (old new : Option (List ℕ)) → Appends old new (trail_text (trace_world parts (run_samples net stim))) → TakesTrail d (length pairs) mode stim.rows old new
+  trail_taken old new h = record { taken = λ run over. subst (Appends old new) (trail_is run over) h }
+
+  pub front_taken : (old new : Option (List ℕ)) → AppendsFront old new (trail_text (trace_world parts (run_samples net stim))) → TakesTrailFront d (length pairs) mode stim.rows old new
+  front_taken old new h = record { taken = λ run over. subst (AppendsFront old new) (trail_is run over) h }
+
+pub none_taken : (d : Design) (n : ℕ) (mode : Mode) (rows : List (List Bits)) (old new : Option (List ℕ)) → new ≡ old → TakesTrailFront d n mode rows old new
+none_taken d n mode rows old new e = record { taken = λ run over. no_growth old new (trail_text (source_world d n mode run)) e }
