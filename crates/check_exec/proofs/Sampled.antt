@@ -51,10 +51,17 @@ top_is = record {
   outputs = refl;
   in_turn = refl;
   params = tt;
+  few_params = omega arith;
   gens = (tt, (tt, (tt, tt)));
+  few_gens = (omega arith, (omega arith, (omega arith, tt)));
+  few_names = (omega arith, (omega arith, tt));
   named = named_top;
   ports = (name_x, (name_y, (tt, (tt, tt))));
   names = (∣ member_u ∣₁, tt);
+  signal_lines = (omega arith, (omega arith, (omega arith, (omega arith, tt))));
+  child_lines = ((omega arith, (omega arith, tt)), tt);
+  block_lines = (omega arith, (omega arith, tt));
+  lines = (omega arith, (omega arith, (omega arith, tt)));
 }
 
 child_is : IsVariant elaborated.variants child
@@ -63,10 +70,17 @@ child_is = record {
   outputs = refl;
   in_turn = refl;
   params = tt;
+  few_params = omega arith;
   gens = (tt, (tt, (tt, (tt, tt))));
+  few_gens = (omega arith, (omega arith, (omega arith, (omega arith, tt))));
+  few_names = (omega arith, tt);
   named = named_child;
   ports = (name_a, (name_q, tt));
   names = tt;
+  signal_lines = (omega arith, (omega arith, tt));
+  child_lines = tt;
+  block_lines = (omega arith, tt);
+  lines = (omega arith, (omega arith, (omega arith, (omega arith, tt))));
 }
 
 -- ---- instances
@@ -144,6 +158,10 @@ is_design = record {
   few = omega arith;
   statements = omega arith;
   registers = omega arith;
+  all_statements = omega arith;
+  all_signals = omega arith;
+  all_cells = omega arith;
+  all_parts = omega arith;
 }
 
 accepted : verdict elaborated ≡ None

@@ -1,3 +1,2 @@
-mod Samples
 pub mod Views
 mod PortSteps

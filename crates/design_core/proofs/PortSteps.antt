@@ -1,15 +1,18 @@
 -- Ports and registers of lists of signals.
-use Rattle.std.proofs.Common.{◌≡◌, ℕ, zero, suc, ◌+◌, ◌<◌, ◌≤◌, Bool, true, false, ◌&&◌, ℤ, pos, negsuc, int_le, nat_le, leb-true, to_z-of_z, List, [], ◌∷◌, ◌++◌, length, take, drop, get_or, if◌then◌else◌, append_assoc, append-nil, true≢false, refl, sym, ap, ap₂, ◌∙◌, subst, arith}
+use Rattle.std.proofs.Common.{◌≡◌, ℕ, zero, suc, ◌+◌, ◌<◌, ◌≤◌, Bool, true, false, ◌&&◌, ℤ, pos, negsuc, int_le, nat_le, leb-true, to_z-of_z, List, [], ◌∷◌, ◌++◌, length, take, drop, get_or, if◌then◌else◌, append_assoc, append-nil, true≢false, Option, Some, option_map, refl, sym, ap, ap₂, ◌∙◌, subst, arith}
 use Rattle.std.proofs.lemmas.List.{take_more, take-append-drop}
-use Rattle.std.specs.List.{list_all}
+use Rattle.std.proofs.lemmas.Option.{none-some, same_Some}
+use Rattle.std.specs.List.{list_all, slice_get}
 use Rattle.design_core.specs.declared.variant.Signal.{Signal}
 use Rattle.design_core.specs.declared.variant.Kind.{Kind}
 use Rattle.design_core.specs.declared.variant.Kind.TheVariants.{Input, Output, Wire, Reg, ChildOut}
 use Rattle.design_core.specs.declared.design.Instance.{Instance}
 use Rattle.design_core.specs.Design.{Variant}
 use Rattle.exec_core.specs.Block.{Name}
-use Rattle.design_core.specs.Ports.{has_width, bits, is_port, is_width, fits, all_fit, one_port, ports_in}
-use Rattle.design_core.specs.WellFormed.{if_reg, regs, registers, signals_at}
+use Rattle.gen_token.specs.Spelling.{IsName}
+use Rattle.exec_core.specs.Lists.{EachOf}
+use Rattle.design_core.specs.Ports.{has_width, IsNamed, HaveNames, bits, is_port, is_width, fits, all_fit, one_port, ports_in}
+use Rattle.design_core.specs.WellFormed.{if_reg, regs, registers, signals_at, IfPort, IsVariant}
 
 ports_both : (output : Bool) (first second : List Signal) → ports_in output (first ++ second) ≡ ports_in output first ++ ports_in output second
 ports_both output [] second = refl
@@ -126,6 +129,38 @@ pub widths_kept : (variants seen : List Variant) (signals : List Signal) (inputs
 widths_kept variants seen signals inputs outputs known is fit ins outs =
     let all : all_fit signals ≡ true = ap all_fit (is ∙ ap (signals_at 0) known) ∙ fit in
     true_both _ _ (ap (list_all has_width) ins ∙ ports_have false signals all) (ap (list_all has_width) outs ∙ ports_have true signals all)
+
+-- ---- the names of ports
+
+each_both : {A : Type 0} (P : A → Type 0) (first second : List A) → EachOf P first → EachOf P second → EachOf P (first ++ second)
+each_both P [] second h g = g
+each_both P (a ∷ first) second h g = (h.0, each_both P first second h.1 g)
+
+one_named : (output : Bool) (s : Signal) (k : Kind) → IfPort IsName s k → EachOf IsNamed (if is_port output k then (s.name, bits s.width) ∷ [] else [])
+one_named true s Input h = tt
+one_named false s Input h = (h, tt)
+one_named true s Output h = (h, tt)
+one_named false s Output h = tt
+one_named output s Wire h = tt
+one_named output s (Reg start) h = tt
+one_named output s (ChildOut k port) h = tt
+
+ports_named : (output : Bool) (signals : List Signal) → EachOf (λ s. IfPort IsName s s.kind) signals → EachOf IsNamed (ports_in output signals)
+ports_named output [] h = tt
+ports_named output (s ∷ signals) h = each_both IsNamed (one_port output s) (ports_in output signals) (one_named output s s.kind h.0) (ports_named output signals h.1)
+
+first_named : (all variants : List Variant) (top : Name) → EachOf (IsVariant all) variants → option_map (λ v. v.«module») (slice_get variants 0) ≡ Some top
+    → IsName top × EachOf (λ s. IfPort IsName s s.kind) (signals_at 0 variants)
+first_named all [] top h e = absurd (none-some top e)
+first_named all (v ∷ variants) top h e = (subst IsName (same_Some v.«module» top e) h.0.named, h.0.ports)
+
+-- a design's ports have names
+pub names_kept : (variants seen : List Variant) (signals : List Signal) (top «module» : Name) (inputs outputs : List (Name × ℕ)) → seen ≡ variants → signals ≡ signals_at 0 seen → EachOf (IsVariant variants) variants
+    → option_map (λ v. v.«module») (slice_get variants 0) ≡ Some top → «module» ≡ top → inputs ≡ ports_in false signals → outputs ≡ ports_in true signals → HaveNames «module» inputs outputs
+names_kept variants seen signals top «module» inputs outputs known is each named same ins outs =
+    let first = first_named variants variants top each named in
+    let all : EachOf (λ s. IfPort IsName s s.kind) signals = subst (EachOf (λ s. IfPort IsName s s.kind)) (sym (is ∙ ap (signals_at 0) known)) first.1 in
+    (subst IsName (sym same) first.0, subst (EachOf IsNamed) (sym ins) (ports_named false signals all), subst (EachOf IsNamed) (sym outs) (ports_named true signals all))
 
 pub ruleset register_steps = (registers_more, registers_within)
 

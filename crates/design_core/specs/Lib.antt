@@ -1,10 +1,8 @@
-pub mod Trail
-pub mod TrailText
-pub mod Sample
 pub mod Design
 pub mod View
 pub mod DesignView
 pub mod Slots
+pub mod Sizes
 pub mod WellFormed
 pub mod Single
 pub mod Ports

@@ -3,13 +3,22 @@ use Rattle.std.specs.Prelude.{ℕ, ℤ, pos, negsuc, int_le, Bool, true, false, 
 use Rattle.design_core.specs.declared.variant.Signal.{Signal}
 use Rattle.design_core.specs.declared.variant.Kind.{Kind}
 use Rattle.design_core.specs.declared.variant.Kind.TheVariants.{Input, Output, Wire, Reg, ChildOut}
+use Rattle.gen_token.specs.Spelling.{IsName}
 use Rattle.exec_core.specs.Block.{Name}
+use Rattle.exec_core.specs.Lists.{EachOf}
 use Rattle.design_core.specs.Design.{Design}
 use Rattle.design_core.specs.WellFormed.{signals_at}
 
 -- a port with its name: its width is from 1 to 128
 abbrev pub has_width : List ℕ × ℕ → Bool
 has_width port = nat_le 1 port.1 && nat_le port.1 128
+
+-- a port with its width has a name, and so has the module, and each input and output
+abbrev pub IsNamed : Name × ℕ → Type 0
+IsNamed port = IsName port.0
+
+abbrev pub HaveNames : Name → List (Name × ℕ) → List (Name × ℕ) → Type 0
+HaveNames top inputs outputs = IsName top × EachOf IsNamed inputs × EachOf IsNamed outputs
 
 -- a width in bits; a negative one is none
 abbrev pub bits : ℤ → ℕ

@@ -63,6 +63,11 @@ variant_heads v = flat_map (λ b. heads b.body) v.blocks
 abbrev pub scope : Variant → Block → List Name
 scope v b = map (λ s. s.name) v.signals ++ lets_of b.body
 
+-- the statements of blocks
+abbrev pub blocks_size : List Block → ℕ
+blocks_size [] = 0
+blocks_size (b ∷ blocks) = size b.body + blocks_size blocks
+
 -- ---- numbers of statements
 
 -- so many numbers from one on

@@ -1,5 +1,5 @@
 -- What each elaborated design keeps.
-use Rattle.std.specs.Prelude.{◌≡◌, ℕ, zero, suc, ◌+◌, ◌<◌, ◌≤◌, ◌==◌, Bool, true, false, not, List, [], ◌∷◌, ◌++◌, length, Option, Some, None, IsSomeAnd, option_map, unwrap_or, slice_get, if◌then◌else◌, codes, decimal, map, ◌⊎◌}
+use Rattle.std.specs.Prelude.{◌≡◌, ℕ, zero, suc, ◌+◌, ◌<◌, ◌≤◌, ◌==◌, ◌^◌, Bool, true, false, not, List, [], ◌∷◌, ◌++◌, length, Option, Some, None, IsSomeAnd, option_map, unwrap_or, slice_get, if◌then◌else◌, codes, decimal, map, ◌⊎◌}
 use Rattle.std.specs.List.{enumerate_from, flat_map, list_all, list_any}
 use Rattle.design_core.specs.declared.design.Instance.{Instance}
 use Rattle.design_core.specs.declared.variant.Signal.{Signal}
@@ -9,7 +9,8 @@ use Rattle.gen_token.specs.Spelling.{IsName}
 use Rattle.exec_core.specs.Block.{Name}
 use Rattle.exec_core.specs.Lists.{EachOf, AreApart}
 use Rattle.design_core.specs.Design.{AreInRange, Child, Variant, Design}
-use Rattle.design_core.specs.Slots.{variant_heads, slots_of, from}
+use Rattle.design_core.specs.Slots.{variant_heads, slots_of, from, scope}
+use Rattle.design_core.specs.Sizes.{in_all, variant_statements, variant_signals, variant_cells, variant_parts}
 
 -- ---- instances in preorder
 
@@ -140,21 +141,42 @@ IfPort P s (ChildOut k port) = Unit {0}
 abbrev pub child_names : List Child → List Name
 child_names children = map (λ c. c.name) children
 
+-- ---- lines and numbers of entries
+
+abbrev pub IsLine : ℕ → Type 0
+IsLine line = line < 2 ^ 30
+
+-- so few that each entry has a number of 32 bits
+abbrev pub AreFew : {A : Type 0} → List A → Type 0
+AreFew list = length list < 2 ^ 32
+
+-- a child stands on a line, and so does each of its connections
+abbrev pub HasLines : Child → Type 0
+HasLines c = IsLine c.line × EachOf (λ conn. IsLine conn.line) c.conns
+
 -- ---- the design
 
 -- a variant: its children's variants are in the design; the signals `u.q` are the outputs of its children, child by child, each
 -- once and with its width; its statements have slots one after another, block by block and in preorder; its parameters and
--- generator variables are from -2^62 to 2^62; its module, inputs and outputs have names, and its children names or members of
--- families
+-- generator variables are few and from -2^62 to 2^62, and the names in scope in each block are few; its module, inputs and
+-- outputs have names, and its children names or members of families; its signals, children, connections, blocks and statements
+-- stand on lines below 2^30
 pub record IsVariant (variants : List Variant) (v : Variant) : Type 0 where
   pub children : EachOf (λ c. c.variant < length variants) v.children
   pub outputs : child_outs v.signals ≡ flat_map (outputs_of variants) (enumerate_from 0 v.children)
   pub in_turn : AreInTurn (slots_of (variant_heads v))
   pub params : AreInRange v.params
+  pub few_params : AreFew v.params
   pub gens : EachOf (λ h. AreInRange h.gens) (variant_heads v)
+  pub few_gens : EachOf (λ h. AreFew h.gens) (variant_heads v)
+  pub few_names : EachOf (λ b. AreFew (scope v b)) v.blocks
   pub named : IsName v.module
   pub ports : EachOf (λ s. IfPort IsName s s.kind) v.signals
   pub names : EachOf (λ c. ∥ IsMember c.name ∥₁) v.children
+  pub signal_lines : EachOf (λ s. IsLine s.line) v.signals
+  pub child_lines : EachOf HasLines v.children
+  pub block_lines : EachOf (λ b. IsLine b.line) v.blocks
+  pub lines : EachOf (λ h. IsLine h.line) (variant_heads v)
 
 pub record IsDesign (d : Design) : Type 0 where
   -- the first instance is the top, whose path is its module's name
@@ -181,3 +203,8 @@ pub record IsDesign (d : Design) : Type 0 where
   pub few : length d.instances ≤ 4096
   pub statements : length (all_slots d.variants) ≤ 200000
   pub registers : registers d.variants d.instances ≤ 200000
+  -- nor are there in all instances: statements, signals, pairs of a statement and a name in scope, parts of expressions
+  pub all_statements : in_all variant_statements d.variants d.instances ≤ 200000
+  pub all_signals : in_all variant_signals d.variants d.instances ≤ 200000
+  pub all_cells : in_all variant_cells d.variants d.instances ≤ 4000000
+  pub all_parts : in_all variant_parts d.variants d.instances ≤ 2000000

@@ -1,12 +1,14 @@
 ghost use Rattle.std.specs.Prelude.{◌≡◌, IsTrue, IfOk, ◌&&◌};
 ghost use Rattle.std.specs.List.{list_all};
-ghost use Rattle.design_core.specs.Ports.{has_width};
+ghost use Rattle.design_core.specs.Ports.{has_width, HaveNames};
+ghost use Rattle.design_core.specs.Single.{names_prop};
 
 use std::alloc::Global;
 use text_core::{Listed, NoMemory, Text};
 
 /// The top of a design as its surroundings see it: the name of its module, its inputs and outputs in the order of
-/// their declaration, each with its width in bits from 1 to 128, and how many registers all of its instances have.
+/// their declaration, each with its width in bits from 1 to 128, and how many registers all of its instances have. Each of
+/// these names is a name of the language.
 #[derive(Debug, Drop)]
 pub struct Ports {
     pub module: Text,
@@ -14,6 +16,7 @@ pub struct Ports {
     pub outputs: Listed<(Text, u8)>,
     pub registers: u32,
     pub ghost widths: { IsTrue (list_all has_width inputs && list_all has_width outputs) },
+    pub ghost names: { HaveNames «module» inputs outputs } by { names_prop «module» inputs outputs },
 }
 
 impl Ports {

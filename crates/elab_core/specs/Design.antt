@@ -10,7 +10,7 @@ use Rattle.exec_core.specs.Block.{Name}
 use Rattle.design_core.specs.Design.{Gens, Stmt, Assign, Let, If, Body, Done, Then, Else, NoElse, Otherwise, Block, Variant}
 use Rattle.design_core.specs.declared.Instance as design_instance
 use Rattle.design_core.specs.Design as design
-pub use Rattle.design_core.specs.Slots.{stmt_size, size, else_size, lets_of}
+pub use Rattle.design_core.specs.Slots.{stmt_size, size, else_size, lets_of, blocks_size}
 use Rattle.elab_core.specs.Elaborated.{Child, Content, Instance}
 use Rattle.elab_core.specs.Elab.{top_walk}
 
@@ -90,10 +90,6 @@ block_from k b = record b { body = numbered k b.body }
 abbrev pub numbered_blocks : ℕ → List Block → List Block
 numbered_blocks k [] = []
 numbered_blocks k (b ∷ blocks) = block_from k b ∷ numbered_blocks (k + size b.body) blocks
-
-abbrev pub blocks_size : List Block → ℕ
-blocks_size [] = 0
-blocks_size (b ∷ blocks) = size b.body + blocks_size blocks
 
 -- the statements of those variants that pass a test
 abbrev pub statements_where : (Instance → Bool) → List Instance → ℕ

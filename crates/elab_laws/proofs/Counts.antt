@@ -28,20 +28,21 @@ pub record Rises (before after : Seen) : Type 0 where
   pub instances : before.instances ≤ after.instances
   pub statements : before.statements ≤ after.statements
   pub signals : before.signals ≤ after.signals
+  pub parts : before.parts ≤ after.parts
 
 pub stays : (seen : Seen) → Rises seen seen
-stays seen = record { instances = omega arith; statements = omega arith; signals = omega arith }
+stays seen = record { instances = omega arith; statements = omega arith; signals = omega arith; parts = omega arith }
 
 pub rises_on : (a b c : Seen) → Rises a b → Rises b c → Rises a c
-rises_on a b c p q = record { instances = omega (arith, p.instances, q.instances); statements = omega (arith, p.statements, q.statements); signals = omega (arith, p.signals, q.signals) }
+rises_on a b c p q = record { instances = omega (arith, p.instances, q.instances); statements = omega (arith, p.statements, q.statements); signals = omega (arith, p.signals, q.signals); parts = omega (arith, p.parts, q.parts) }
 
-one_rises : (what : Count) (seen : Seen) → Rises seen (one_more what seen)
-one_rises Instances seen = record { instances = omega arith; statements = omega arith; signals = omega arith }
-one_rises Turns seen = record { instances = omega arith; statements = omega arith; signals = omega arith }
-one_rises Statements seen = record { instances = omega arith; statements = omega arith; signals = omega arith }
-one_rises Signals seen = record { instances = omega arith; statements = omega arith; signals = omega arith }
-one_rises Parts seen = record { instances = omega arith; statements = omega arith; signals = omega arith }
-one_rises Cells seen = record { instances = omega arith; statements = omega arith; signals = omega arith }
+pub one_rises : (what : Count) (seen : Seen) → Rises seen (one_more what seen)
+one_rises Instances seen = record { instances = omega arith; statements = omega arith; signals = omega arith; parts = omega arith }
+one_rises Turns seen = record { instances = omega arith; statements = omega arith; signals = omega arith; parts = omega arith }
+one_rises Statements seen = record { instances = omega arith; statements = omega arith; signals = omega arith; parts = omega arith }
+one_rises Signals seen = record { instances = omega arith; statements = omega arith; signals = omega arith; parts = omega arith }
+one_rises Parts seen = record { instances = omega arith; statements = omega arith; signals = omega arith; parts = omega arith }
+one_rises Cells seen = record { instances = omega arith; statements = omega arith; signals = omega arith; parts = omega arith }
 
 -- so it is of every walk
 pub rises : {A : Type 0} (w : Walk A) (before seen : Seen) → Rises before seen → Ends (λ s a. Rises before s) seen w
@@ -61,13 +62,14 @@ pub record Within (seen : Seen) : Type 0 where
   pub instances : seen.instances ≤ 4096
   pub statements : seen.statements ≤ 200000
   pub signals : seen.signals ≤ 200000
+  pub parts : seen.parts ≤ 2000000
 
 one_within : (what : Count) (seen : Seen) → nat_le (limit what) (seen_of what seen) ≡ false → Within seen → Within (one_more what seen)
-one_within Instances seen e h = record { instances = grind (arith, e); statements = h.statements; signals = h.signals }
-one_within Turns seen e h = record { instances = h.instances; statements = h.statements; signals = h.signals }
-one_within Statements seen e h = record { instances = h.instances; statements = grind (arith, e); signals = h.signals }
-one_within Signals seen e h = record { instances = h.instances; statements = h.statements; signals = grind (arith, e) }
-one_within Parts seen e h = record { instances = h.instances; statements = h.statements; signals = h.signals }
+one_within Instances seen e h = record { instances = grind (arith, e); statements = h.statements; signals = h.signals; parts = h.parts }
+one_within Turns seen e h = record { instances = h.instances; statements = h.statements; signals = h.signals; parts = h.parts }
+one_within Statements seen e h = record { instances = h.instances; statements = grind (arith, e); signals = h.signals; parts = h.parts }
+one_within Signals seen e h = record { instances = h.instances; statements = h.statements; signals = grind (arith, e); parts = h.parts }
+one_within Parts seen e h = record { instances = h.instances; statements = h.statements; signals = h.signals; parts = grind (arith, e) }
 one_within Cells seen e h = h
 
 abbrev OkHas : {A : Type 0} → (A × Seen → Type 0) → Type 0 → Result (A × Seen) Fault → Type 0

@@ -1,5 +1,5 @@
--- The numbers that elaboration gives are in range, and its names come from names of the source.
-use Rattle.std.proofs.Common.{◌≡◌, ℕ, zero, suc, ◌+◌, ◌<◌, ◌≤◌, Bool, true, false, ℤ, pos, negsuc, ◌+ℤ◌, ◌-ℤ◌, List, [], ◌∷◌, ◌++◌, length, Option, Some, None, if◌then◌else◌, nat_le, codes, decimal, ◌⊎◌, inl, inr, refl, sym, ap, subst, arith}
+-- The numbers that elaboration gives are in range, its lists are few, its lines are lines, and its names come from names of the source.
+use Rattle.std.proofs.Common.{◌≡◌, ℕ, zero, suc, ◌+◌, ◌<◌, ◌≤◌, Bool, true, false, ℤ, pos, negsuc, ◌+ℤ◌, ◌-ℤ◌, List, [], ◌∷◌, ◌++◌, length, length-append, ◌^◌, bytes_eq, Option, Some, None, if◌then◌else◌, nat_le, codes, decimal, ◌⊎◌, inl, inr, refl, sym, ap, subst, arith}
 use Rattle.std.proofs.lemmas.Int.{ints}
 use Rattle.std.specs.List.{slice_get, flat_map}
 use Rattle.gen_tree.specs.Tree as tree
@@ -9,17 +9,18 @@ use Rattle.exec_core.specs.Lists.{EachOf}
 use Rattle.design_core.specs.declared.Signal.{Signal}
 use Rattle.design_core.specs.declared.Kind.{Kind}
 use Rattle.design_core.specs.declared.Kind.TheVariants.{Input, Output, Wire, Reg, ChildOut}
-use Rattle.design_core.specs.Design.{Gens, IsInRange, AreInRange, Stmt, Assign, Let, If, Body, Done, Then, Else, NoElse, Otherwise, Block}
+use Rattle.design_core.specs.Design.{Gens, IsInRange, AreInRange, Stmt, Assign, Let, If, Body, Done, Then, Else, NoElse, Otherwise, Conn, Block}
 use Rattle.design_core.specs.Slots.{Head, heads, stmt_heads, else_heads}
-use Rattle.design_core.specs.WellFormed.{IfPort}
+use Rattle.design_core.specs.WellFormed.{IfPort, IsLine, AreFew}
 use Rattle.elab_core.specs.Walk.{Walk, Gives, Faulty, Counted, and_then, ElabRange}
-use Rattle.elab_core.specs.Numbers.{bound, number, family, index_name, fam_name, two_numbers, turn_count, turns_of, holds}
+use Rattle.elab_core.specs.Numbers.{bound, without, number, family, index_name, fam_name, two_numbers, turn_count, turns_of, holds}
 use Rattle.elab_core.specs.Elaborated.{added, Child, Content, Instance}
-use Rattle.elab_core.specs.Elab.{literal, expr, turns, statement, statements, else_body, else_statements, module_named, values, conns, Asked, asked, Made, nothing, with_signal, with_block, with_child, first_signals, child_of, output_as, child_outputs, port_kind, Here, Enter, register, wire_signal, item_walk, items_walk, else_walk, ports, module_walk, instance}
+use Rattle.elab_core.specs.Elab.{literal, expr, turns, statement, statements, else_body, else_statements, places, only, module_named, values, conns, Asked, asked, Made, nothing, with_signal, with_block, with_child, first_signals, child_of, output_as, child_outputs, port_kind, Here, Enter, register, wire_signal, item_walk, items_walk, else_walk, ports, module_walk, instance}
 use Rattle.elab_core.specs.Design.{size, stmt_size, numbered, numbered_stmt, numbered_else, numbered_blocks}
 use Rattle.elab_core.proofs.Replacing.{Yields, yields_then, number_yields, two_yields, Both, turn_fine, fine_bound}
 use Rattle.elab_core.proofs.ReplacingItems.{Anything, any_yields, values_yield}
 use Rattle.elab_laws.proofs.Contents.{out, HasSome}
+use Rattle.elab_laws.proofs.Params.{AtMost, yields_both, values_few}
 use Rattle.elab_laws.proofs.Shapes.{IsTree, a_tree, AreTrees, no_trees, one_behind, IsGiven, EachGiven, blank}
 
 -- ---- lists
@@ -61,10 +62,51 @@ yields_either : {A : Type 0} (Q : A → Type 0) (b : Bool) (v w : Walk A) → Yi
 yields_either Q true v w h g = h
 yields_either Q false v w h g = g
 
+-- ---- generator variables
+
+-- numbers in range, at most so many
+abbrev pub GensFine : ℕ → Gens → Type 0
+GensFine n gens = AreInRange gens × AtMost n gens
+
+without_few : (x : Name) (gens : Gens) → length (without x gens) ≤ length gens
+without_few x [] = omega arith
+without_few x (g ∷ gens) = elim (bytes_eq g.0 x) as (λ b. length (if b then without x gens else g ∷ without x gens) ≤ length (g ∷ gens)) [
+  | true ↦ omega (arith, without_few x gens)
+  | false ↦ omega (arith, without_few x gens)
+]
+
+-- one more in a loop
+bound_gens : (n : ℕ) (x : Name) (k : ℤ) (gens : Gens) → GensFine n gens → IsInRange k → GensFine (n + 1) (bound x k gens)
+bound_gens n x k gens h r = (fine_bound x k gens h.0 r, omega (arith, h.1, without_few x gens, length-append (without x gens) ((x, k) ∷ [])))
+
 -- ---- statements
 
 abbrev pub HeadFine : Head → Type 0
-HeadFine h = AreInRange h.gens
+HeadFine h = AreInRange h.gens × AreFew h.gens × IsLine h.line
+
+-- a place on a line, with so many generator variables at most
+abbrev pub Stands : ℕ → ℕ → Type 0
+Stands n line = IsLine line × (n < 2 ^ 32)
+
+-- statements on lines, with so many generator variables at most at each, and one more in each loop
+abbrev mutual
+  pub StmtOf : ℕ → tree.Stmt → Type 0
+  StmtOf n (assign line f e) = Stands n line
+  StmtOf n (bind line f e) = Stands n line
+  StmtOf n (choose line c first second) = Stands n line × StmtsOf n first × ElseOf n second
+  StmtOf n (repeat line x from to body) = StmtsOf (n + 1) body
+  StmtOf n (given line left c right first second) = StmtsOf n first × ElseOf n second
+
+  pub StmtsOf : ℕ → Stmts → Type 0
+  StmtsOf n no_stmt = Unit {0}
+  StmtsOf n (stmt s rest) = StmtOf n s × StmtsOf n rest
+
+  pub ElseOf : ℕ → tree.Else → Type 0
+  ElseOf n no_else = Unit {0}
+  ElseOf n (otherwise body) = StmtsOf n body
+
+head_fine : (n slot line : ℕ) (gens : Gens) → Stands n line → GensFine n gens → HeadFine (record { slot = slot; line = line; gens = gens })
+head_fine n slot line gens p h = (h.0, omega (arith, h.1, p.1), p.0)
 
 abbrev pub BodyFine : Body → Type 0
 BodyFine b = EachOf HeadFine (heads b)
@@ -81,34 +123,37 @@ ElseFine e = EachOf HeadFine (else_heads e)
 mutual
   unfolding statement Yields and_then
 
-  stmt_fine : (s : tree.Stmt) (gens : Gens) (made : Body) → AreInRange gens → BodyFine made → Yields BodyFine (statement s gens made)
-  stmt_fine (assign line f e) gens made h g =
-      yields_then Anything BodyFine (fam_name line gens f) _ (any_yields (fam_name line gens f)) (λ x t. yields_then Anything BodyFine (expr line gens e) _ (any_yields (expr line gens e)) (λ v u. added_fine made (Assign 0 line gens x v) g (h, tt)))
-  stmt_fine (bind line f e) gens made h g =
-      yields_then Anything BodyFine (fam_name line gens f) _ (any_yields (fam_name line gens f)) (λ x t. yields_then Anything BodyFine (expr line gens e) _ (any_yields (expr line gens e)) (λ v u. added_fine made (Let 0 line gens x v) g (h, tt)))
-  stmt_fine (choose line c first second) gens made h g =
+  stmt_fine : (n : ℕ) (s : tree.Stmt) (gens : Gens) (made : Body) → StmtOf n s → GensFine n gens → BodyFine made → Yields BodyFine (statement s gens made)
+  stmt_fine n (assign line f e) gens made p h g =
+      yields_then Anything BodyFine (fam_name line gens f) _ (any_yields (fam_name line gens f)) (λ x t. yields_then Anything BodyFine (expr line gens e) _ (any_yields (expr line gens e)) (λ v u.
+      added_fine made (Assign 0 line gens x v) g (head_fine n 0 line gens p h, tt)))
+  stmt_fine n (bind line f e) gens made p h g =
+      yields_then Anything BodyFine (fam_name line gens f) _ (any_yields (fam_name line gens f)) (λ x t. yields_then Anything BodyFine (expr line gens e) _ (any_yields (expr line gens e)) (λ v u.
+      added_fine made (Let 0 line gens x v) g (head_fine n 0 line gens p h, tt)))
+  stmt_fine n (choose line c first second) gens made p h g =
       yields_then Anything BodyFine (expr line gens c) _ (any_yields (expr line gens c)) (λ test t.
-      yields_then BodyFine BodyFine (statements first gens Done) _ (stmts_fine first gens Done h tt) (λ yes_body p.
-      yields_then ElseFine BodyFine (else_body second gens) _ (else_fine second gens h) (λ no_body q.
-      added_fine made (If 0 line gens test yes_body no_body) g (h, both_each HeadFine (heads yes_body) (else_heads no_body) p q))))
-  stmt_fine (repeat line x from to body) gens made h g =
-      yields_then Both BodyFine (two_numbers line gens from to) _ (two_yields line gens from to h) (λ range p.
-      yields_loop BodyFine line (λ k more. statements body (bound x k gens) more) range made p g (λ k r more q. stmts_fine body (bound x k gens) more (fine_bound x k gens h r) q))
-  stmt_fine (given line left cmp right first second) gens made h g =
+      yields_then BodyFine BodyFine (statements first gens Done) _ (stmts_fine n first gens Done p.1 h tt) (λ yes_body q.
+      yields_then ElseFine BodyFine (else_body second gens) _ (else_fine n second gens p.2 h) (λ no_body r.
+      added_fine made (If 0 line gens test yes_body no_body) g (head_fine n 0 line gens p.0 h, both_each HeadFine (heads yes_body) (else_heads no_body) q r))))
+  stmt_fine n (repeat line x from to body) gens made p h g =
+      yields_then Both BodyFine (two_numbers line gens from to) _ (two_yields line gens from to h.0) (λ range q.
+      yields_loop BodyFine line (λ k more. statements body (bound x k gens) more) range made q g (λ k r more u. stmts_fine (n + 1) body (bound x k gens) more p (bound_gens n x k gens h r) u))
+  stmt_fine n (given line left cmp right first second) gens made p h g =
       yields_then Anything BodyFine (two_numbers line gens left right) _ (any_yields (two_numbers line gens left right)) (λ pair t.
-      yields_either BodyFine (holds cmp pair.0 pair.1) (statements first gens made) (else_statements second gens made) (stmts_fine first gens made h g) (else_stmts_fine second gens made h g))
+      yields_either BodyFine (holds cmp pair.0 pair.1) (statements first gens made) (else_statements second gens made) (stmts_fine n first gens made p.0 h g) (else_stmts_fine n second gens made p.1 h g))
 
-  stmts_fine : (body : Stmts) (gens : Gens) (made : Body) → AreInRange gens → BodyFine made → Yields BodyFine (statements body gens made)
-  stmts_fine no_stmt gens made h g = g
-  stmts_fine (stmt s rest) gens made h g = yields_then BodyFine BodyFine (statement s gens made) (λ more. statements rest gens more) (stmt_fine s gens made h g) (λ more p. stmts_fine rest gens more h p)
+  stmts_fine : (n : ℕ) (body : Stmts) (gens : Gens) (made : Body) → StmtsOf n body → GensFine n gens → BodyFine made → Yields BodyFine (statements body gens made)
+  stmts_fine n no_stmt gens made p h g = g
+  stmts_fine n (stmt s rest) gens made p h g =
+      yields_then BodyFine BodyFine (statement s gens made) (λ more. statements rest gens more) (stmt_fine n s gens made p.0 h g) (λ more q. stmts_fine n rest gens more p.1 h q)
 
-  else_fine : (e : tree.Else) (gens : Gens) → AreInRange gens → Yields ElseFine (else_body e gens)
-  else_fine no_else gens h = tt
-  else_fine (otherwise body) gens h = yields_then BodyFine ElseFine (statements body gens Done) _ (stmts_fine body gens Done h tt) (λ made p. p)
+  else_fine : (n : ℕ) (e : tree.Else) (gens : Gens) → ElseOf n e → GensFine n gens → Yields ElseFine (else_body e gens)
+  else_fine n no_else gens p h = tt
+  else_fine n (otherwise body) gens p h = yields_then BodyFine ElseFine (statements body gens Done) _ (stmts_fine n body gens Done p h tt) (λ made q. q)
 
-  else_stmts_fine : (e : tree.Else) (gens : Gens) (made : Body) → AreInRange gens → BodyFine made → Yields BodyFine (else_statements e gens made)
-  else_stmts_fine no_else gens made h g = g
-  else_stmts_fine (otherwise body) gens made h g = stmts_fine body gens made h g
+  else_stmts_fine : (n : ℕ) (e : tree.Else) (gens : Gens) (made : Body) → ElseOf n e → GensFine n gens → BodyFine made → Yields BodyFine (else_statements e gens made)
+  else_stmts_fine n no_else gens made p h g = g
+  else_stmts_fine n (otherwise body) gens made p h g = stmts_fine n body gens made p h g
 
 -- ---- names
 
@@ -116,30 +161,39 @@ mutual
 abbrev pub Member : (Name → Type 0) → Name → Type 0
 Member P x = (base : Name) × (P base × ((x ≡ base) ⊎ ((n : ℕ) × ((n ≤ 4611686018427387904) × (x ≡ base ++ (codes "#" ++ decimal n))))))
 
--- items whose instances have such names
+-- the most parameters
+abbrev pub most_params : ℕ
+most_params = 1048576
+
+-- items on lines whose instances have such names, with so many generator variables at most at each, and one more in each loop
 abbrev mutual
-  pub ItemOf : (Name → Type 0) → tree.Item → Type 0
-  ItemOf P (wire line f w) = Unit {0}
-  ItemOf P (reg line f w l) = Unit {0}
-  ItemOf P (inst line f x args cs) = P f.name
-  ItemOf P (comb line body) = Unit {0}
-  ItemOf P (ff line body) = Unit {0}
-  ItemOf P (repeat_items line x from to body) = ItemsOf P body
-  ItemOf P (given_items line left c right first second) = ItemsOf P first × ElseItemsOf P second
+  pub ItemOf : (Name → Type 0) → ℕ → tree.Item → Type 0
+  ItemOf P n (wire line f w) = IsLine line
+  ItemOf P n (reg line f w l) = IsLine line
+  ItemOf P n (inst line f x args cs) = P f.name × IsLine line × EachOf (λ (c : tree.Conn). IsLine c.line) cs
+  ItemOf P n (comb line body) = IsLine line × StmtsOf n body
+  ItemOf P n (ff line body) = IsLine line × StmtsOf n body
+  ItemOf P n (repeat_items line x from to body) = ItemsOf P (n + 1) body
+  ItemOf P n (given_items line left c right first second) = ItemsOf P n first × ElseItemsOf P n second
 
-  pub ItemsOf : (Name → Type 0) → Items → Type 0
-  ItemsOf P no_item = Unit {0}
-  ItemsOf P (item i rest) = ItemOf P i × ItemsOf P rest
+  pub ItemsOf : (Name → Type 0) → ℕ → Items → Type 0
+  ItemsOf P n no_item = Unit {0}
+  ItemsOf P n (item i rest) = ItemOf P n i × ItemsOf P n rest
 
-  pub ElseItemsOf : (Name → Type 0) → ElseItems → Type 0
-  ElseItemsOf P no_else_items = Unit {0}
-  ElseItemsOf P (otherwise_items body) = ItemsOf P body
+  pub ElseItemsOf : (Name → Type 0) → ℕ → ElseItems → Type 0
+  ElseItemsOf P n no_else_items = Unit {0}
+  ElseItemsOf P n (otherwise_items body) = ItemsOf P n body
 
--- a module that has such a name, with its ports and instances
+-- a port on a line that has such a name
+abbrev pub PortOf : (Name → Type 0) → Port → Type 0
+PortOf P p = P p.name × IsLine p.line
+
+-- a module that has such a name, with its ports and instances, and not too many parameters
 pub record ModuleOf (P : Name → Type 0) (m : Module) : Type 0 where
   pub name : P m.name
-  pub ports : EachOf (λ (p : Port). P p.name) m.ports
-  pub items : ItemsOf P m.items
+  pub few : length m.params ≤ most_params
+  pub ports : EachOf (PortOf P) m.ports
+  pub items : ItemsOf P most_params m.items
 
 small_index : (n : ℕ) → IsInRange (pos n) → n ≤ 4611686018427387904
 small_index n h = grind (arith, h)
@@ -156,62 +210,95 @@ fam_member P line gens f p h = by_index f.index
     by_index None = (f.name, (p, inl refl))
     by_index (Some i) = yields_then IsInRange (Member P) (number line gens i) (family line f.name) (number_yields line gens i h) member
 
-abbrev pub AskedFine : (Name → Type 0) → Asked → Type 0
-AskedFine P want = Member P want.name × AreInRange want.params
+-- the module of a name is one of the modules
+places_each : (Q : Module → Type 0) (x : Name) (at : ℕ) (modules : List Module) → EachOf Q modules → EachOf (λ (found : ℕ × Module). Q found.1) (places x at modules)
+places_each Q x at [] h = tt
+places_each Q x at (m ∷ modules) h = elim (bytes_eq m.name x) as (λ b. EachOf (λ (found : ℕ × Module). Q found.1) (if b then (at, m) ∷ places x (at + 1) modules else places x (at + 1) modules)) [
+  | true ↦ (h.0, places_each Q x (at + 1) modules h.1)
+  | false ↦ places_each Q x (at + 1) modules h.1
+]
 
-asked_fine : (P : Name → Type 0) (modules : List Module) (line : ℕ) (gens : Gens) (f : Fam) (x : Name) (args : List Param) (cs : List tree.Conn) → P f.name → AreInRange gens → Yields (AskedFine P) (asked modules line gens f x args cs)
+only_each : (Q : Module → Type 0) (line : ℕ) (x : Name) (found : List (ℕ × Module)) → EachOf (λ (m : ℕ × Module). Q m.1) found → Yields (λ m. Q m.1) (only line x found)
+unfolding Yields
+only_each Q line x [] h = tt
+only_each Q line x (m ∷ []) h = h.0
+only_each Q line x (m ∷ (again ∷ more)) h = tt
+
+named_each : (Q : Module → Type 0) (modules : List Module) (line : ℕ) (x : Name) → EachOf Q modules → Yields (λ m. Q m.1) (module_named modules line x)
+named_each Q modules line x h = only_each Q line x (places x 0 modules) (places_each Q x 0 modules h)
+
+-- connections stand on the lines on which the source has them
+conn_lines : (cs : List tree.Conn) (gens : Gens) (made : List Conn) → EachOf (λ (c : tree.Conn). IsLine c.line) cs → EachOf (λ (c : Conn). IsLine c.line) made → Yields (EachOf (λ (c : Conn). IsLine c.line)) (conns cs gens made)
+unfolding conns Yields
+conn_lines [] gens made h g = g
+conn_lines (c ∷ cs) gens made h g =
+    yields_then Anything (EachOf (λ (d : Conn). IsLine d.line)) (expr c.line gens c.value) _ (any_yields (expr c.line gens c.value)) (λ v t.
+    let d : Conn = record { line = c.line; port = c.port; value = v } in
+    conn_lines cs gens (made ++ d ∷ []) h.1 (both_each (λ (x : Conn). IsLine x.line) made (d ∷ []) g (h.0, tt)))
+
+abbrev pub OnLines : ℕ → List Conn → Type 0
+OnLines line cs = IsLine line × EachOf (λ (c : Conn). IsLine c.line) cs
+
+abbrev pub AskedFine : (Name → Type 0) → Asked → Type 0
+AskedFine P want = Member P want.name × GensFine most_params want.params × OnLines want.line want.conns
+
+asked_fine : (P : Name → Type 0) (modules : List Module) (n line : ℕ) (gens : Gens) (f : Fam) (x : Name) (args : List Param) (cs : List tree.Conn) → EachOf (ModuleOf P) modules → ItemOf P n (inst line f x args cs) → GensFine n gens
+    → Yields (AskedFine P) (asked modules line gens f x args cs)
 unfolding asked Yields
-asked_fine P modules line gens f x args cs p h =
-    yields_then (Member P) (AskedFine P) (fam_name line gens f) _ (fam_member P line gens f p h) (λ name q.
-    yields_then Anything (AskedFine P) (module_named modules line x) _ (any_yields (module_named modules line x)) (λ found t.
-    yields_then AreInRange (AskedFine P) (values line gens found.1 args) _ (values_yield line gens found.1 args h) (λ params r.
-    yields_then Anything (AskedFine P) (conns cs gens []) _ (any_yields (conns cs gens [])) (λ made u. (q, r)))))
+asked_fine P modules n line gens f x args cs all p h =
+    yields_then (Member P) (AskedFine P) (fam_name line gens f) _ (fam_member P line gens f p.0 h.0) (λ name q.
+    yields_then (λ (m : ℕ × Module). ModuleOf P m.1) (AskedFine P) (module_named modules line x) _ (named_each (ModuleOf P) modules line x all) (λ found m.
+    yields_then (λ params. AreInRange params × AtMost (length found.1.params) params) (AskedFine P) (values line gens found.1 args) _
+    (yields_both AreInRange (AtMost (length found.1.params)) (values line gens found.1 args) (values_yield line gens found.1 args h.0) (values_few line gens found.1 args)) (λ params r.
+    yields_then (EachOf (λ (c : Conn). IsLine c.line)) (AskedFine P) (conns cs gens []) _ (conn_lines cs gens [] p.2 tt) (λ made u.
+    (q, (r.0, omega (arith, r.1, m.few)), (p.1, u))))))
 
 -- ---- signals
 
 abbrev pub SignalFine : (Name → Type 0) → Signal → Type 0
-SignalFine P s = IfPort P s s.kind
+SignalFine P s = IfPort P s s.kind × IsLine s.line
 
-wire_fine : (P : Name → Type 0) (line : ℕ) (gens : Gens) (x : Fam) (w : Int) → Yields (SignalFine P) (wire_signal line gens x w)
+wire_fine : (P : Name → Type 0) (line : ℕ) (gens : Gens) (x : Fam) (w : Int) → IsLine line → Yields (SignalFine P) (wire_signal line gens x w)
 unfolding wire_signal Yields
-wire_fine P line gens x w = yields_then Anything (SignalFine P) (fam_name line gens x) _ (any_yields (fam_name line gens x)) (λ n t. yields_then Anything (SignalFine P) (number line gens w) _ (any_yields (number line gens w)) (λ k u. tt))
+wire_fine P line gens x w p =
+    yields_then Anything (SignalFine P) (fam_name line gens x) _ (any_yields (fam_name line gens x)) (λ n t. yields_then Anything (SignalFine P) (number line gens w) _ (any_yields (number line gens w)) (λ k u. (tt, p)))
 
-reg_fine : (P : Name → Type 0) (line : ℕ) (gens : Gens) (x : Fam) (w : Int) (l : Lit) → Yields (SignalFine P) (register line gens x w l)
+reg_fine : (P : Name → Type 0) (line : ℕ) (gens : Gens) (x : Fam) (w : Int) (l : Lit) → IsLine line → Yields (SignalFine P) (register line gens x w l)
 unfolding register Yields
-reg_fine P line gens x w l =
+reg_fine P line gens x w l p =
     yields_then Anything (SignalFine P) (fam_name line gens x) _ (any_yields (fam_name line gens x)) (λ n t. yields_then Anything (SignalFine P) (number line gens w) _ (any_yields (number line gens w)) (λ k u.
-    yields_then Anything (SignalFine P) (literal line gens l) _ (any_yields (literal line gens l)) (λ v r. tt)))
+    yields_then Anything (SignalFine P) (literal line gens l) _ (any_yields (literal line gens l)) (λ v r. (tt, p))))
 
-port_fine : (P : Name → Type 0) (s : Signal) (output : Bool) → s.kind ≡ port_kind output → P s.name → SignalFine P s
+port_fine : (P : Name → Type 0) (s : Signal) (output : Bool) → s.kind ≡ port_kind output → P s.name → IfPort P s s.kind
 port_fine P s true e p = subst (IfPort P s) (sym e) p
 port_fine P s false e p = subst (IfPort P s) (sym e) p
 
-ports_fine : (P : Name → Type 0) (ps : List Port) (gens : Gens) (made : List Signal) → EachOf (λ (p : Port). P p.name) ps → EachOf (SignalFine P) made → Yields (EachOf (SignalFine P)) (ports ps gens made)
+ports_fine : (P : Name → Type 0) (ps : List Port) (gens : Gens) (made : List Signal) → EachOf (PortOf P) ps → EachOf (SignalFine P) made → Yields (EachOf (SignalFine P)) (ports ps gens made)
 unfolding ports Yields and_then
 ports_fine P [] gens made h g = g
 ports_fine P (p ∷ ps) gens made h g =
     yields_then Anything (EachOf (SignalFine P)) (number p.line gens p.width) _ (any_yields (number p.line gens p.width)) (λ w t.
     let s : Signal = record { line = p.line; name = p.name; kind = port_kind p.output; width = w } in
-    ports_fine P ps gens (made ++ s ∷ []) h.1 (both_each (SignalFine P) made (s ∷ []) g (port_fine P s p.output refl h.0, tt)))
+    ports_fine P ps gens (made ++ s ∷ []) h.1 (both_each (SignalFine P) made (s ∷ []) g ((port_fine P s p.output refl h.0.0, h.0.1), tt)))
 
-as_fine : (P : Name → Type 0) (line at : ℕ) (child : Name) (s : Signal) (k : Kind) → EachOf (SignalFine P) (output_as line at child s k)
-as_fine P line at child s Input = tt
-as_fine P line at child s Output = (tt, tt)
-as_fine P line at child s Wire = tt
-as_fine P line at child s (Reg start) = tt
-as_fine P line at child s (ChildOut k port) = tt
+as_fine : (P : Name → Type 0) (line at : ℕ) (child : Name) (s : Signal) (k : Kind) → IsLine line → EachOf (SignalFine P) (output_as line at child s k)
+as_fine P line at child s Input p = tt
+as_fine P line at child s Output p = ((tt, p), tt)
+as_fine P line at child s Wire p = tt
+as_fine P line at child s (Reg start) p = tt
+as_fine P line at child s (ChildOut k port) p = tt
 
-outputs_fine : (P : Name → Type 0) (line at : ℕ) (child : Name) (signals : List Signal) → EachOf (SignalFine P) (child_outputs line at child signals)
-outputs_fine P line at child [] = tt
-outputs_fine P line at child (s ∷ signals) = both_each (SignalFine P) (output_as line at child s s.kind) (child_outputs line at child signals) (as_fine P line at child s s.kind) (outputs_fine P line at child signals)
+outputs_fine : (P : Name → Type 0) (line at : ℕ) (child : Name) (signals : List Signal) → IsLine line → EachOf (SignalFine P) (child_outputs line at child signals)
+outputs_fine P line at child [] p = tt
+outputs_fine P line at child (s ∷ signals) p = both_each (SignalFine P) (output_as line at child s s.kind) (child_outputs line at child signals) (as_fine P line at child s s.kind p) (outputs_fine P line at child signals p)
 
 -- ---- what a body gives
 
 abbrev pub ChildFine : (Name → Type 0) → Child → Type 0
-ChildFine P c = Member P c.name × AreInRange c.params
+ChildFine P c = Member P c.name × GensFine most_params c.params × OnLines c.line c.conns
 
 abbrev pub BlockFine : Block → Type 0
-BlockFine b = BodyFine b.body
+BlockFine b = IsLine b.line × BodyFine b.body
 
 pub record ContentFine (P : Name → Type 0) (content : Content) : Type 0 where
   pub signals : EachOf (SignalFine P) content.signals
@@ -229,44 +316,46 @@ block_put P made b h p = record { signals = h.signals; children = h.children; bl
 
 child_put : (P : Name → Type 0) (made : Made) (want : Asked) (list : List Instance) → MadeFine P made → AskedFine P want → MadeFine P (with_child made want list)
 child_put P made want list h p = record {
-  signals = both_each (SignalFine P) made.content.signals _ h.signals (outputs_fine P want.line (length made.content.children) want.name (first_signals list));
+  signals = both_each (SignalFine P) made.content.signals _ h.signals (outputs_fine P want.line (length made.content.children) want.name (first_signals list) p.2.0);
   children = both_each (ChildFine P) made.content.children (child_of want ∷ []) h.children (p, tt);
   blocks = h.blocks;
 }
 
-module _ (P : Name → Type 0) (modules : List Module) (enter : Enter) (here : Here) where
+module _ (P : Name → Type 0) (modules : List Module) (all : EachOf (ModuleOf P) modules) (enter : Enter) (here : Here) where
   mutual
     unfolding item_walk Yields and_then
 
-    item_fine : (i : tree.Item) (gens : Gens) (made : Made) → ItemOf P i → AreInRange gens → MadeFine P made → Yields (MadeFine P) (item_walk modules enter here i gens made)
-    item_fine (wire line x w) gens made p h g = yields_then (SignalFine P) (MadeFine P) (wire_signal line gens x w) _ (wire_fine P line gens x w) (λ s q. signal_put P made s g q)
-    item_fine (reg line x w l) gens made p h g = yields_then (SignalFine P) (MadeFine P) (register line gens x w l) _ (reg_fine P line gens x w l) (λ s q. signal_put P made s g q)
-    item_fine (inst line x y args cs) gens made p h g =
-        yields_then (AskedFine P) (MadeFine P) (asked modules line gens x y args cs) _ (asked_fine P modules line gens x y args cs p h) (λ want q.
+    item_fine : (n : ℕ) (i : tree.Item) (gens : Gens) (made : Made) → ItemOf P n i → GensFine n gens → MadeFine P made → Yields (MadeFine P) (item_walk modules enter here i gens made)
+    item_fine n (wire line x w) gens made p h g = yields_then (SignalFine P) (MadeFine P) (wire_signal line gens x w) _ (wire_fine P line gens x w p) (λ s q. signal_put P made s g q)
+    item_fine n (reg line x w l) gens made p h g = yields_then (SignalFine P) (MadeFine P) (register line gens x w l) _ (reg_fine P line gens x w l p) (λ s q. signal_put P made s g q)
+    item_fine n (inst line x y args cs) gens made p h g =
+        yields_then (AskedFine P) (MadeFine P) (asked modules line gens x y args cs) _ (asked_fine P modules n line gens x y args cs all p h) (λ want q.
         yields_then Anything (MadeFine P) (enter want here (here.number + 1 + length made.below)) _ (any_yields (enter want here (here.number + 1 + length made.below))) (λ list t. child_put P made want list g q))
-    item_fine (comb line body) gens made p h g = yields_then BodyFine (MadeFine P) (statements body gens Done) _ (stmts_fine body gens Done h tt) (λ b q. block_put P made (record { line = line; clocked = false; body = b }) g q)
-    item_fine (ff line body) gens made p h g = yields_then BodyFine (MadeFine P) (statements body gens Done) _ (stmts_fine body gens Done h tt) (λ b q. block_put P made (record { line = line; clocked = true; body = b }) g q)
-    item_fine (repeat_items line x from to body) gens made p h g =
-        yields_then Both (MadeFine P) (two_numbers line gens from to) _ (two_yields line gens from to h) (λ range r.
-        yields_loop (MadeFine P) line (λ k more. items_walk modules enter here body (bound x k gens) more) range made r g (λ k u more q. items_fine body (bound x k gens) more p (fine_bound x k gens h u) q))
-    item_fine (given_items line left cmp right first second) gens made p h g =
+    item_fine n (comb line body) gens made p h g =
+        yields_then BodyFine (MadeFine P) (statements body gens Done) _ (stmts_fine n body gens Done p.1 h tt) (λ b q. block_put P made (record { line = line; clocked = false; body = b }) g (p.0, q))
+    item_fine n (ff line body) gens made p h g =
+        yields_then BodyFine (MadeFine P) (statements body gens Done) _ (stmts_fine n body gens Done p.1 h tt) (λ b q. block_put P made (record { line = line; clocked = true; body = b }) g (p.0, q))
+    item_fine n (repeat_items line x from to body) gens made p h g =
+        yields_then Both (MadeFine P) (two_numbers line gens from to) _ (two_yields line gens from to h.0) (λ range r.
+        yields_loop (MadeFine P) line (λ k more. items_walk modules enter here body (bound x k gens) more) range made r g (λ k u more q. items_fine (n + 1) body (bound x k gens) more p (bound_gens n x k gens h u) q))
+    item_fine n (given_items line left cmp right first second) gens made p h g =
         yields_then Anything (MadeFine P) (two_numbers line gens left right) _ (any_yields (two_numbers line gens left right)) (λ pair t.
-        yields_either (MadeFine P) (holds cmp pair.0 pair.1) (items_walk modules enter here first gens made) (else_walk modules enter here second gens made) (items_fine first gens made p.0 h g) (else_items_fine second gens made p.1 h g))
+        yields_either (MadeFine P) (holds cmp pair.0 pair.1) (items_walk modules enter here first gens made) (else_walk modules enter here second gens made) (items_fine n first gens made p.0 h g) (else_items_fine n second gens made p.1 h g))
 
-    items_fine : (body : Items) (gens : Gens) (made : Made) → ItemsOf P body → AreInRange gens → MadeFine P made → Yields (MadeFine P) (items_walk modules enter here body gens made)
-    items_fine no_item gens made p h g = g
-    items_fine (item i rest) gens made p h g =
-        yields_then (MadeFine P) (MadeFine P) (item_walk modules enter here i gens made) (λ more. items_walk modules enter here rest gens more) (item_fine i gens made p.0 h g) (λ more q. items_fine rest gens more p.1 h q)
+    items_fine : (n : ℕ) (body : Items) (gens : Gens) (made : Made) → ItemsOf P n body → GensFine n gens → MadeFine P made → Yields (MadeFine P) (items_walk modules enter here body gens made)
+    items_fine n no_item gens made p h g = g
+    items_fine n (item i rest) gens made p h g =
+        yields_then (MadeFine P) (MadeFine P) (item_walk modules enter here i gens made) (λ more. items_walk modules enter here rest gens more) (item_fine n i gens made p.0 h g) (λ more q. items_fine n rest gens more p.1 h q)
 
-    else_items_fine : (y : ElseItems) (gens : Gens) (made : Made) → ElseItemsOf P y → AreInRange gens → MadeFine P made → Yields (MadeFine P) (else_walk modules enter here y gens made)
-    else_items_fine no_else_items gens made p h g = g
-    else_items_fine (otherwise_items body) gens made p h g = items_fine body gens made p h g
+    else_items_fine : (n : ℕ) (y : ElseItems) (gens : Gens) (made : Made) → ElseItemsOf P n y → GensFine n gens → MadeFine P made → Yields (MadeFine P) (else_walk modules enter here y gens made)
+    else_items_fine n no_else_items gens made p h g = g
+    else_items_fine n (otherwise_items body) gens made p h g = items_fine n body gens made p h g
 
-  module_fine : (m : Module) (params : Gens) → ModuleOf P m → AreInRange params → Yields (MadeFine P) (module_walk modules enter here m params)
+  module_fine : (m : Module) (params : Gens) → ModuleOf P m → GensFine most_params params → Yields (MadeFine P) (module_walk modules enter here m params)
   unfolding module_walk
   module_fine m params p h =
       yields_then (EachOf (SignalFine P)) (MadeFine P) (ports m.ports params []) _ (ports_fine P m.ports params [] p.ports tt) (λ signals q.
-      items_fine m.items params (record nothing { content = record (nothing.content) { signals = signals } }) p.items h (record { signals = q; children = tt; blocks = tt }))
+      items_fine most_params m.items params (record nothing { content = record (nothing.content) { signals = signals } }) p.items h (record { signals = q; children = tt; blocks = tt }))
 
 -- ---- instances
 
@@ -288,14 +377,14 @@ of_place P (n ∷ modules) zero m h e = subst P (same n m e) h.0
     same a b e = ap (λ o. elim o [ None ↦ a | Some x ↦ x ]) e
 of_place P (n ∷ modules) (suc k) m h e = of_place P modules k m h.1 e
 
-pub given_fine : (P : Name → Type 0) (modules : List Module) (i : Instance) → EachOf (ModuleOf P) modules → IsGiven modules i → AreInRange i.params → ContentFine P i.content
+pub given_fine : (P : Name → Type 0) (modules : List Module) (i : Instance) → EachOf (ModuleOf P) modules → IsGiven modules i → GensFine most_params i.params → ContentFine P i.content
 given_fine P modules i p h r =
     let found = yields_out (MadeFine P) (λ made. made.content ≡ i.content) (module_walk modules (instance modules 32) blank h.«module» i.params)
-    (module_fine P modules (instance modules 32) blank h.«module» i.params (of_place (ModuleOf P) modules i.place h.«module» p h.stands) r) h.gives in
+    (module_fine P modules p (instance modules 32) blank h.«module» i.params (of_place (ModuleOf P) modules i.place h.«module» p h.stands) r) h.gives in
     subst (ContentFine P) found.1.1 found.1.0
 
 abbrev pub InstanceFine : (Name → Type 0) → Instance → Type 0
-InstanceFine P i = AreInRange i.params × ContentFine P i.content
+InstanceFine P i = GensFine most_params i.params × ContentFine P i.content
 
 given_parts : (modules : List Module) (xs ys : List Instance) → EachGiven modules (xs ++ ys) → EachGiven modules xs × EachGiven modules ys
 given_parts modules [] ys h = (tt, h)
@@ -303,7 +392,7 @@ given_parts modules (x ∷ xs) ys h = let rest = given_parts modules xs ys h.1 i
 
 module _ (P : Name → Type 0) (modules : List Module) (named : EachOf (ModuleOf P) modules) where
   mutual
-    pub tree_fine : {room : ℕ} {path : Name} {parent : Option ℕ} {place : ℕ} {params : Gens} {at : ℕ} {list : List Instance} → IsTree room path parent place params at list → EachGiven modules list → AreInRange params → EachOf (InstanceFine P) list
+    pub tree_fine : {room : ℕ} {path : Name} {parent : Option ℕ} {place : ℕ} {params : Gens} {at : ℕ} {list : List Instance} → IsTree room path parent place params at list → EachGiven modules list → GensFine most_params params → EachOf (InstanceFine P) list
     tree_fine (a_tree room path parent place params at content below under) h r =
         let fine = given_fine P modules (record { path = path; parent = parent; place = place; params = params; content = content }) named h.0 r in
         ((r, fine), trees_fine under h.1 fine.children)
@@ -337,4 +426,9 @@ mutual
 
 pub blocks_fine : (k : ℕ) (bs : List Block) → EachOf BlockFine bs → EachOf HeadFine (flat_map (λ b. heads b.body) (numbered_blocks k bs))
 blocks_fine k [] h = tt
-blocks_fine k (b ∷ bs) h = both_each HeadFine (heads (numbered k b.body)) (flat_map (λ c. heads c.body) (numbered_blocks (k + size b.body) bs)) (numbered_fine k b.body h.0) (blocks_fine (k + size b.body) bs h.1)
+blocks_fine k (b ∷ bs) h = both_each HeadFine (heads (numbered k b.body)) (flat_map (λ c. heads c.body) (numbered_blocks (k + size b.body) bs)) (numbered_fine k b.body h.0.1) (blocks_fine (k + size b.body) bs h.1)
+
+-- blocks stand on the same lines
+pub block_lines : (k : ℕ) (bs : List Block) → EachOf BlockFine bs → EachOf (λ b. IsLine b.line) (numbered_blocks k bs)
+block_lines k [] h = tt
+block_lines k (b ∷ bs) h = (h.0.0, block_lines (k + size b.body) bs h.1)

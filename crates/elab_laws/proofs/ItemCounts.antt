@@ -1,25 +1,27 @@
--- The statements and instances of a source are counted, and each instance's module stands in the source.
+-- The instances, signals, statements and parts of a source are counted, and each instance's module stands in the source.
 use Rattle.std.proofs.Common.{◌≡◌, ℕ, zero, suc, ◌+◌, ◌<◌, ◌≤◌, Bool, true, false, ◌&&◌, List, [], ◌∷◌, ◌++◌, length, length-append, Option, Some, None, Ok, if◌then◌else◌, bytes_eq, nat_lt, codes, map, true≢false, zero-add, refl, sym, ap, ap₂, ◌∙◌, arith}
 use Rattle.std.proofs.lemmas.Bool.{lt-ltb}
 use Rattle.gen_tree.specs.Tree as tree
-use Rattle.gen_tree.specs.Tree.{Fam, Param, wire, reg, inst, comb, ff, repeat_items, given_items, Items, no_item, item, ElseItems, no_else_items, otherwise_items, Port, Module}
+use Rattle.gen_tree.specs.Tree.{Fam, Int, Lit, Param, wire, reg, inst, comb, ff, repeat_items, given_items, Items, no_item, item, ElseItems, no_else_items, otherwise_items, Port, Module}
 use Rattle.elab_core.specs.declared.Count.TheVariants.{Instances, Signals, Turns}
-use Rattle.elab_core.specs.Walk.{and_then, Seen, none_seen, one_more, judge}
+use Rattle.elab_core.specs.Walk.{and_then, counts, Seen, none_seen, one_more, judge}
 use Rattle.elab_core.specs.Numbers.{bound, number, fam_name, two_numbers, turn_count, holds}
 use Rattle.design_core.specs.declared.Signal.{Signal}
 use Rattle.design_core.specs.declared.Kind.{Kind}
 use Rattle.design_core.specs.declared.Kind.TheVariants.{Input, Output, Wire, Reg, ChildOut}
 use Rattle.design_core.specs.WellFormed.{if_reg, regs}
 use Rattle.exec_core.specs.Block.{Name}
-use Rattle.design_core.specs.Design.{Gens, Body, Done, Block}
+use Rattle.design_core.specs.Design.{Gens, Body, Done, Conn, Block}
 use Rattle.std.proofs.lemmas.List.{length-map}
 use Rattle.elab_core.specs.declared.Instance as code_instance
 use Rattle.elab_core.specs.View.{instance_of}
-use Rattle.elab_core.specs.Elaborated.{Instance}
+use Rattle.elab_core.specs.Elaborated.{Child, Instance}
 use Rattle.elab_core.specs.Design.{size, blocks_size, firsts, variant_of, variants_of}
-use Rattle.elab_core.specs.Elab.{statements, port_kind, output_as, child_outputs, first_signals, places, only, module_named, values, conns, Asked, asked, Made, nothing, with_signal, with_block, with_child, Here, Enter, count_outputs, register, wire_signal, item_walk, items_walk, else_walk, ports, module_walk, instances_of, instance, top_values, top_walk}
-use Rattle.elab_laws.specs.Sizes.{all_statements, all_registers, places_below}
-use Rattle.elab_laws.proofs.Counts.{Ends, ends_then, ends_as, after_any, Rises, rises_on, stays, judged, turns_keep, ends_either}
+use Rattle.elab_core.specs.Elab.{literal, statements, port_kind, output_as, child_outputs, first_signals, places, only, module_named, values, conns, Asked, asked, Made, nothing, with_signal, with_block, with_child, child_of, Here, Enter, count_outputs, register, wire_signal, item_walk, items_walk, else_walk, ports, module_walk, instances_of, instance, top_values, top_walk}
+use Rattle.design_core.specs.Sizes.{conns_parts, body_parts, blocks_parts}
+use Rattle.elab_laws.specs.Sizes.{all_statements, all_signals, children_parts, all_parts, all_registers, places_below}
+use Rattle.elab_laws.proofs.Counts.{Ends, ends_then, ends_as, after_any, Rises, rises_on, stays, one_rises, judged, turns_keep, ends_either}
+use Rattle.elab_laws.proofs.PartCounts.{Spends, ConnsGrow, conns_counts}
 use Rattle.elab_laws.proofs.BodyCounts.{Grows, stmts_counts}
 use Rattle.elab_laws.proofs.Variants.{variants_within}
 use Rattle.elab_laws.proofs.Sums.{where_both}
@@ -47,12 +49,15 @@ named_at : (modules : List Module) (line : ℕ) (x : Name) (seen : Seen) → End
 named_at modules line x seen = only_at line (length modules) x (places x 0 modules) seen (places_at x 0 (length modules) modules (omega arith))
 
 asked_at : (modules : List Module) (line : ℕ) (gens : Gens) (f : Fam) (x : Name) (args : List Param) (cs : List tree.Conn) (seen : Seen)
-    → Ends (λ s want. Rises seen s × (want.found.0 < length modules)) seen (asked modules line gens f x args cs)
+    → Ends (λ s want. Spends (conns_parts want.conns) seen s × (want.found.0 < length modules)) seen (asked modules line gens f x args cs)
 unfolding asked Ends
 asked_at modules line gens f x args cs seen =
     after_any _ (fam_name line gens f) _ seen (λ s name r. ends_then _ _ (module_named modules line x) _ s (named_at modules line x s) (λ t found p.
-    after_any _ (values line gens found.1 args) _ t (λ u params q. after_any _ (conns cs gens []) _ u (λ v made w.
-    (rises_on seen s v r (rises_on s t v p.0 (rises_on t u v q w)), p.1)))))
+    after_any _ (values line gens found.1 args) _ t (λ u params q. ends_then _ _ (conns cs gens []) _ u (conns_counts cs gens [] u) (λ v made w.
+    (spent seen u v made (rises_on seen s u r (rises_on s t u p.0 q)) w, p.1)))))
+  where
+    spent : (a b c : Seen) (made : List Conn) → Rises a b → ConnsGrow b [] c made → Spends (conns_parts made) a c
+    spent a b c made r p = record { rises = rises_on a b c r p.rises; parts = omega (arith, r.parts, p.parts) }
 
 -- ---- lists of instances
 
@@ -66,13 +71,66 @@ places_both n (i ∷ first) second h g =
 abbrev made_size : Made → ℕ
 made_size made = blocks_size made.content.blocks + all_statements made.below
 
-abbrev made_regs : Made → ℕ
-made_regs made = regs made.content.signals + all_registers made.below
+abbrev pub made_signals : Made → ℕ
+made_signals made = length made.content.signals + all_signals made.below
 
-regs_both : (first second : List Signal) → regs (first ++ second) ≡ regs first + regs second
-regs_both [] second = sym (zero-add (regs second))
-regs_both (s ∷ first) second = ap (λ n. if_reg s.kind + n) (regs_both first second) ∙ omega arith
+abbrev pub made_parts : Made → ℕ
+made_parts made = children_parts made.content.children + blocks_parts made.content.blocks + all_parts made.below
 
+-- ---- outputs among signals
+
+abbrev pub if_output : Kind → ℕ
+if_output Input = 0
+if_output Output = 1
+if_output Wire = 0
+if_output (Reg start) = 0
+if_output (ChildOut k port) = 0
+
+abbrev pub outs : List Signal → ℕ
+outs [] = 0
+outs (s ∷ signals) = if_output s.kind + outs signals
+
+outs_both : (first second : List Signal) → outs (first ++ second) ≡ outs first + outs second
+outs_both [] second = sym (zero-add (outs second))
+outs_both (s ∷ first) second = ap (λ n. if_output s.kind + n) (outs_both first second) ∙ omega arith
+
+-- as many outputs of a child as it has
+one_out : (line at : ℕ) (child : Name) (s : Signal) (k : Kind) → length (output_as line at child s k) ≡ if_output k
+one_out line at child s Input = refl
+one_out line at child s Output = refl
+one_out line at child s Wire = refl
+one_out line at child s (Reg start) = refl
+one_out line at child s (ChildOut k port) = refl
+
+all_outs : (line at : ℕ) (child : Name) (signals : List Signal) → length (child_outputs line at child signals) ≡ outs signals
+all_outs line at child [] = refl
+all_outs line at child (s ∷ signals) =
+    length-append (output_as line at child s s.kind) (child_outputs line at child signals) ∙ ap₂ (λ m n. m + n) (one_out line at child s s.kind) (all_outs line at child signals)
+
+-- of which none is an output of the parent
+no_out : (line at : ℕ) (child : Name) (s : Signal) (k : Kind) → outs (output_as line at child s k) ≡ 0
+no_out line at child s Input = refl
+no_out line at child s Output = refl
+no_out line at child s Wire = refl
+no_out line at child s (Reg start) = refl
+no_out line at child s (ChildOut k port) = refl
+
+no_outs : (line at : ℕ) (child : Name) (signals : List Signal) → outs (child_outputs line at child signals) ≡ 0
+no_outs line at child [] = refl
+no_outs line at child (s ∷ signals) =
+    outs_both (output_as line at child s s.kind) (child_outputs line at child signals) ∙ ap₂ (λ m n. m + n) (no_out line at child s s.kind) (no_outs line at child signals)
+
+-- ---- sums over instances
+
+signals_both : (first second : List Instance) → all_signals (first ++ second) ≡ all_signals first + all_signals second
+signals_both [] second = sym (zero-add (all_signals second))
+signals_both (i ∷ first) second = ap (λ n. length i.content.signals + n) (signals_both first second) ∙ omega arith
+
+parts_both : (first second : List Instance) → all_parts (first ++ second) ≡ all_parts first + all_parts second
+parts_both [] second = sym (zero-add (all_parts second))
+parts_both (i ∷ first) second = ap (λ n. children_parts i.content.children + blocks_parts i.content.blocks + n) (parts_both first second) ∙ omega arith
+
+-- registers are signals
 one_reg : (k : Kind) → if_reg k ≤ 1
 one_reg Input = omega arith
 one_reg Output = omega arith
@@ -80,61 +138,115 @@ one_reg Wire = omega arith
 one_reg (Reg start) = omega arith
 one_reg (ChildOut k port) = omega arith
 
-no_reg : (line at : ℕ) (child : Name) (s : Signal) (k : Kind) → regs (output_as line at child s k) ≡ 0
-no_reg line at child s Input = refl
-no_reg line at child s Output = refl
-no_reg line at child s Wire = refl
-no_reg line at child s (Reg start) = refl
-no_reg line at child s (ChildOut k port) = refl
+regs_within : (signals : List Signal) → regs signals ≤ length signals
+regs_within [] = omega arith
+regs_within (s ∷ signals) = omega (arith, one_reg s.kind, regs_within signals)
 
-no_regs : (line at : ℕ) (child : Name) (signals : List Signal) → regs (child_outputs line at child signals) ≡ 0
-no_regs line at child [] = refl
-no_regs line at child (s ∷ signals) =
-    regs_both (output_as line at child s s.kind) (child_outputs line at child signals) ∙ ap₂ (λ m n. m + n) (no_reg line at child s s.kind) (no_regs line at child signals)
+registers_within : (list : List Instance) → all_registers list ≤ all_signals list
+registers_within [] = omega arith
+registers_within (i ∷ list) = omega (arith, regs_within i.content.signals, registers_within list)
 
-all_regs_both : (first second : List Instance) → all_registers (first ++ second) ≡ all_registers first + all_registers second
-all_regs_both [] second = sym (zero-add (all_registers second))
-all_regs_both (i ∷ first) second = ap (λ n. regs i.content.signals + n) (all_regs_both first second) ∙ omega arith
+-- ---- ports
 
-port_reg : (output : Bool) → if_reg (port_kind output) ≡ 0
-port_reg true = refl
-port_reg false = refl
+abbrev pub one_if : Bool → ℕ
+one_if true = 1
+one_if false = 0
 
--- ports are no registers
-ports_regs : (ps : List Port) (gens : Gens) (made : List Signal) (seen : Seen) → regs made ≡ 0 → Ends (λ s signals. Rises seen s × (regs signals ≡ 0)) seen (ports ps gens made)
+-- the outputs among ports
+abbrev pub port_outs : List Port → ℕ
+port_outs [] = 0
+port_outs (p ∷ ps) = one_if p.output + port_outs ps
+
+port_out : (output : Bool) → if_output (port_kind output) ≡ one_if output
+port_out true = refl
+port_out false = refl
+
+abbrev CountsOutputs : ℕ → List Port → Seen → Type 0
+CountsOutputs line ps seen = Ends (λ s u. Rises seen s × (port_outs ps + seen.signals ≤ s.signals)) seen (count_outputs line ps)
+
+outputs_counted : (line : ℕ) (ps : List Port) (seen : Seen) → CountsOutputs line ps seen
+unfolding count_outputs Ends and_then
+outputs_counted line [] seen = (stays seen, omega arith)
+outputs_counted line (p ∷ ps) seen = by_test p.output (outputs_counted line ps (one_more Signals seen)) (outputs_counted line ps seen)
+  where
+    by_test : (b : Bool) → CountsOutputs line ps (one_more Signals seen) → CountsOutputs line ps seen
+        → Ends (λ s u. Rises seen s × (one_if b + port_outs ps + seen.signals ≤ s.signals)) seen (if b then and_then (counts Signals line) (λ counted. count_outputs line ps) else count_outputs line ps)
+    by_test true more same = ends_as _ _ (count_outputs line ps) (one_more Signals seen) more (λ s u p. (rises_on seen (one_more Signals seen) s (one_rises Signals seen) p.0, omega (arith, p.1)))
+    by_test false more same = ends_as _ _ (count_outputs line ps) seen same (λ s u p. (p.0, omega (arith, p.1)))
+
+-- each port is a signal, and each output one
+pub record PortsGrow (ps : List Port) (before : Seen) (made : List Signal) (after : Seen) (more : List Signal) : Type 0 where
+  pub rises : Rises before after
+  pub signals : length more + before.signals ≤ after.signals + length made
+  pub outputs : outs more ≡ outs made + port_outs ps
+
+ports_counts : (ps : List Port) (gens : Gens) (made : List Signal) (seen : Seen) → Ends (λ s signals. PortsGrow ps seen made s signals) seen (ports ps gens made)
 unfolding ports Ends and_then
-ports_regs [] gens made seen h = (stays seen, h)
-ports_regs (p ∷ ps) gens made seen h =
+ports_counts [] gens made seen = record { rises = stays seen; signals = omega arith; outputs = omega arith }
+ports_counts (p ∷ ps) gens made seen =
     after_any _ (number p.line gens p.width) _ seen (λ s w r.
     let signal : Signal = record { line = p.line; name = p.name; kind = port_kind p.output; width = w } in
     let more = made ++ signal ∷ [] in
-    let none : regs more ≡ 0 = regs_both made (signal ∷ []) ∙ omega (arith, h, port_reg p.output) in
-    ends_as _ _ (ports ps gens more) (one_more Signals s) (ports_regs ps gens more (one_more Signals s) none)
-    (λ t signals q. (rises_on seen (one_more Signals s) t (record { instances = r.instances; statements = r.statements; signals = omega (arith, r.signals) }) q.0, q.1)))
+    ends_as _ _ (ports ps gens more) (one_more Signals s) (ports_counts ps gens more (one_more Signals s)) (λ t signals q. record {
+      rises = rises_on seen (one_more Signals s) t (rises_on seen s (one_more Signals s) r (one_rises Signals s)) q.rises;
+      signals = omega (arith, r.signals, q.signals, length-append made (signal ∷ []));
+      outputs = q.outputs ∙ ap (λ n. n + port_outs ps) (outs_both made (signal ∷ [])) ∙ omega (arith, port_out p.output);
+    }))
+
+-- wires and registers are no outputs
+wire_counts : (line : ℕ) (gens : Gens) (f : Fam) (w : Int) (seen : Seen) → Ends (λ s signal. Rises seen s × (if_output signal.kind ≡ 0)) seen (wire_signal line gens f w)
+unfolding wire_signal Ends and_then
+wire_counts line gens f w seen = after_any _ (fam_name line gens f) _ seen (λ s x r. after_any _ (number line gens w) _ s (λ t n q. (rises_on seen s t r q, refl)))
+
+reg_counts : (line : ℕ) (gens : Gens) (f : Fam) (w : Int) (l : Lit) (seen : Seen) → Ends (λ s signal. Rises seen s × (if_output signal.kind ≡ 0)) seen (register line gens f w l)
+unfolding register Ends and_then
+reg_counts line gens f w l seen =
+    after_any _ (fam_name line gens f) _ seen (λ s x r. after_any _ (number line gens w) _ s (λ t n q. after_any _ (literal line gens l) _ t (λ u v p. (rises_on seen s u r (rises_on s t u q p), refl))))
 
 blocks_added : (blocks : List Block) (b : Block) → blocks_size (blocks ++ b ∷ []) ≡ blocks_size blocks + size b.body
 blocks_added [] b = omega arith
 blocks_added (c ∷ blocks) b = ap (λ n. size c.body + n) (blocks_added blocks b) ∙ omega arith
 
--- as many statements and instances more as were counted, at most, and all of modules at places below a number
+parts_added : (blocks : List Block) (b : Block) → blocks_parts (blocks ++ b ∷ []) ≡ blocks_parts blocks + body_parts b.body
+parts_added [] b = omega arith
+parts_added (c ∷ blocks) b = ap (λ n. body_parts c.body + n) (parts_added blocks b) ∙ omega arith
+
+child_added : (children : List Child) (c : Child) → children_parts (children ++ c ∷ []) ≡ children_parts children + conns_parts c.conns
+child_added [] c = omega arith
+child_added (d ∷ children) c = ap (λ n. conns_parts d.conns + n) (child_added children c) ∙ omega arith
+
+-- as many instances, signals, statements and parts more as were counted, at most, no output more, and all of modules at places
+-- below a number
 pub record MadeGrows (n : ℕ) (before : Seen) (made : Made) (after : Seen) (more : Made) : Type 0 where
   pub rises : Rises before after
   pub statements : made_size more + before.statements ≤ after.statements + made_size made
-  pub registers : made_regs more + before.signals ≤ after.signals + made_regs made
+  pub signals : made_signals more + before.signals ≤ after.signals + made_signals made
+  pub parts : made_parts more + before.parts ≤ after.parts + made_parts made
   pub instances : length more.below + before.instances ≤ after.instances + length made.below
+  pub outputs : outs more.content.signals ≡ outs made.content.signals
   pub places : places_below n made.below ≡ true → places_below n more.below ≡ true
 
 made_on : (n : ℕ) (a b c : Seen) (x y z : Made) → MadeGrows n a x b y → MadeGrows n b y c z → MadeGrows n a x c z
 made_on n a b c x y z p q = record {
   rises = rises_on a b c p.rises q.rises;
   statements = omega (arith, p.statements, q.statements);
-  registers = omega (arith, p.registers, q.registers);
+  signals = omega (arith, p.signals, q.signals);
+  parts = omega (arith, p.parts, q.parts);
   instances = omega (arith, p.instances, q.instances);
+  outputs = q.outputs ∙ p.outputs;
   places = λ h. q.places (p.places h);
 }
 
 made_same : (n : ℕ) (seen after : Seen) (made : Made) → Rises seen after → MadeGrows n seen made after made
-made_same n seen after made r = record { rises = r; statements = omega (arith, r.statements); registers = omega (arith, r.signals); instances = omega (arith, r.instances); places = λ h. h }
+made_same n seen after made r = record {
+  rises = r;
+  statements = omega (arith, r.statements);
+  signals = omega (arith, r.signals);
+  parts = omega (arith, r.parts);
+  instances = omega (arith, r.instances);
+  outputs = refl;
+  places = λ h. h;
+}
 
 made_later : (n : ℕ) (a b c : Seen) (made more : Made) → Rises a b → MadeGrows n b made c more → MadeGrows n a made c more
 made_later n a b c made more r p = made_on n a b c made made more (made_same n a b made r) p
@@ -142,24 +254,27 @@ made_later n a b c made more r p = made_on n a b c made made more (made_same n a
 made_sooner : (n : ℕ) (a b c : Seen) (made more : Made) → MadeGrows n a made b more → Rises b c → MadeGrows n a made c more
 made_sooner n a b c made more p r = made_on n a b c made more more p (made_same n b c more r)
 
--- instances, each counted
-pub record ListGrows (n : ℕ) (before after : Seen) (list : List Instance) : Type 0 where
+-- instances, each counted, and so many signals beside theirs
+pub record ListGrows (n beside : ℕ) (before after : Seen) (list : List Instance) : Type 0 where
   pub rises : Rises before after
   pub statements : all_statements list + before.statements ≤ after.statements
-  pub registers : all_registers list + before.signals ≤ after.signals
+  pub signals : all_signals list + beside + before.signals ≤ after.signals
+  pub parts : all_parts list + before.parts ≤ after.parts
   pub instances : length list + before.instances ≤ after.instances
   pub places : places_below n list ≡ true
 
--- what an instance gives is counted
+-- what an instance gives is counted, and beside it its outputs, which are signals of its parent
 abbrev pub Counted : ℕ → Enter → Type 0
-Counted n enter = (want : Asked) (here : Here) (at : ℕ) (seen : Seen) → want.found.0 < n → Ends (λ s list. ListGrows n seen s list) seen (enter want here at)
+Counted n enter = (want : Asked) (here : Here) (at : ℕ) (seen : Seen) → want.found.0 < n → Ends (λ s list. ListGrows n (outs (first_signals list)) seen s list) seen (enter want here at)
 
-with_signal_grows : (n : ℕ) (seen s : Seen) (made : Made) (signal : Signal) → Rises seen s → MadeGrows n seen made (one_more Signals s) (with_signal made signal)
-with_signal_grows n seen s made signal r = record {
-  rises = record { instances = r.instances; statements = r.statements; signals = omega (arith, r.signals) };
+with_signal_grows : (n : ℕ) (seen s : Seen) (made : Made) (signal : Signal) → Rises seen s → if_output signal.kind ≡ 0 → MadeGrows n seen made (one_more Signals s) (with_signal made signal)
+with_signal_grows n seen s made signal r inner = record {
+  rises = rises_on seen s (one_more Signals s) r (one_rises Signals s);
   statements = omega (arith, r.statements);
-  registers = omega (arith, r.signals, regs_both made.content.signals (signal ∷ []), one_reg signal.kind);
+  signals = omega (arith, r.signals, length-append made.content.signals (signal ∷ []));
+  parts = omega (arith, r.parts);
   instances = omega (arith, r.instances);
+  outputs = outs_both made.content.signals (signal ∷ []) ∙ omega (arith, inner);
   places = λ h. h;
 }
 
@@ -167,25 +282,42 @@ with_block_grows : (n line : ℕ) (clocked : Bool) (seen s : Seen) (made : Made)
 with_block_grows n line clocked seen s made body p = record {
   rises = p.rises;
   statements = omega (arith, blocks_added made.content.blocks (record { line = line; clocked = clocked; body = body }), p.size);
-  registers = omega (arith, p.rises.signals);
+  signals = omega (arith, p.rises.signals);
+  parts = omega (arith, parts_added made.content.blocks (record { line = line; clocked = clocked; body = body }), p.parts);
   instances = omega (arith, p.rises.instances);
+  outputs = refl;
   places = λ h. h;
 }
 
-with_child_grows : (n : ℕ) (seen s : Seen) (made : Made) (want : Asked) (list : List Instance) → ListGrows n seen s list → MadeGrows n seen made s (with_child made want list)
-with_child_grows n seen s made want list p = record {
-  rises = p.rises;
-  statements = omega (arith, where_both (λ v. true) made.below list, p.statements);
-  registers = omega (
-    arith,
-    regs_both made.content.signals (child_outputs want.line (length made.content.children) want.name (first_signals list)),
-    no_regs want.line (length made.content.children) want.name (first_signals list),
-    all_regs_both made.below list,
-    p.registers,
-  );
-  instances = omega (arith, length-append made.below list, p.instances);
-  places = λ h. places_both n made.below list h p.places;
-}
+with_child_grows : (n : ℕ) (seen s t : Seen) (made : Made) (want : Asked) (list : List Instance) → Spends (conns_parts want.conns) seen s → ListGrows n (outs (first_signals list)) s t list → MadeGrows n seen made t (with_child made want list)
+with_child_grows n seen s t made want list w p =
+    let new = child_outputs want.line (length made.content.children) want.name (first_signals list) in
+    record {
+      rises = rises_on seen s t w.rises p.rises;
+      statements = omega (arith, where_both (λ v. true) made.below list, p.statements, w.rises.statements);
+      signals = omega (
+        arith,
+        length-append made.content.signals new,
+        all_outs want.line (length made.content.children) want.name (first_signals list),
+        signals_both made.below list,
+        p.signals,
+        w.rises.signals,
+      );
+      parts = omega (arith, child_added made.content.children (child_of want), parts_both made.below list, p.parts, w.parts);
+      instances = omega (arith, length-append made.below list, p.instances, w.rises.instances);
+      outputs = outs_both made.content.signals new ∙ omega (arith, no_outs want.line (length made.content.children) want.name (first_signals list));
+      places = λ h. places_both n made.below list h p.places;
+    }
+
+-- the same of what a module's body gives, whose outputs are those of its ports
+pub record ModuleGrows (n : ℕ) (m : Module) (before after : Seen) (made : Made) : Type 0 where
+  pub rises : Rises before after
+  pub statements : made_size made + before.statements ≤ after.statements
+  pub signals : made_signals made + before.signals ≤ after.signals
+  pub parts : made_parts made + before.parts ≤ after.parts
+  pub instances : length made.below + before.instances ≤ after.instances
+  pub outputs : outs made.content.signals ≡ port_outs m.ports
+  pub places : places_below n made.below ≡ true
 
 module _ (modules : List Module) (enter : Enter) (counted : Counted (length modules) enter) where
   mutual
@@ -193,13 +325,13 @@ module _ (modules : List Module) (enter : Enter) (counted : Counted (length modu
 
     item_counts : (here : Here) (i : tree.Item) (gens : Gens) (made : Made) (seen : Seen) → Ends (λ s more. MadeGrows (length modules) seen made s more) seen (item_walk modules enter here i gens made)
     item_counts here (wire line f w) gens made seen =
-        after_any _ (wire_signal line gens f w) _ seen (λ s signal r. with_signal_grows (length modules) seen s made signal r)
+        ends_then _ _ (wire_signal line gens f w) _ seen (wire_counts line gens f w seen) (λ s signal r. with_signal_grows (length modules) seen s made signal r.0 r.1)
     item_counts here (reg line f w l) gens made seen =
-        after_any _ (register line gens f w l) _ seen (λ s signal r. with_signal_grows (length modules) seen s made signal r)
+        ends_then _ _ (register line gens f w l) _ seen (reg_counts line gens f w l seen) (λ s signal r. with_signal_grows (length modules) seen s made signal r.0 r.1)
     item_counts here (inst line f x args cs) gens made seen =
         ends_then _ _ (asked modules line gens f x args cs) _ seen (asked_at modules line gens f x args cs seen) (λ s want p.
         ends_then _ _ (enter want here (here.number + 1 + length made.below)) _ s (counted want here (here.number + 1 + length made.below) s p.1) (λ t list q.
-        made_later (length modules) seen s t made (with_child made want list) p.0 (with_child_grows (length modules) s t made want list q)))
+        with_child_grows (length modules) seen s t made want list p.0 q))
     item_counts here (comb line body) gens made seen =
         ends_then _ _ (statements body gens Done) _ seen (stmts_counts body gens Done seen) (λ s b p. with_block_grows (length modules) line false seen s made b p)
     item_counts here (ff line body) gens made seen =
@@ -207,7 +339,7 @@ module _ (modules : List Module) (enter : Enter) (counted : Counted (length modu
     item_counts here (repeat_items line x from to body) gens made seen =
         after_any _ (two_numbers line gens from to) _ seen (λ s range r. after_any _ (turn_count line range.0 range.1) _ s (λ t count q.
         turns_keep (λ u more. MadeGrows (length modules) seen made u more) line (λ k more. items_walk modules enter here body (bound x k gens) more) range.0 count made t
-        (λ what u more p. made_sooner (length modules) seen u (one_more Turns u) made more p (record { instances = omega arith; statements = omega arith; signals = omega arith }))
+        (λ what u more p. made_sooner (length modules) seen u (one_more Turns u) made more p (one_rises Turns u))
         (λ k u more p. ends_as _ _ (items_walk modules enter here body (bound x k gens) more) u (items_counts here body (bound x k gens) more u) (λ v then_more g. made_on (length modules) seen u v made more then_more p g))
         (made_same (length modules) seen t made (rises_on seen s t r q))))
     item_counts here (given_items line left cmp right first second) gens made seen =
@@ -227,24 +359,32 @@ module _ (modules : List Module) (enter : Enter) (counted : Counted (length modu
     else_counts here (otherwise_items body) gens made seen = items_counts here body gens made seen
 
   -- what a module's body gives is counted
-  module_counts : (here : Here) (m : Module) (params : Gens) (seen : Seen)
-      → Ends (λ s made. Rises seen s × (made_size made + seen.statements ≤ s.statements) × (length made.below + seen.instances ≤ s.instances) × (places_below (length modules) made.below ≡ true) × (made_regs made + seen.signals ≤ s.signals)) seen (module_walk modules enter here m params)
+  module_counts : (here : Here) (m : Module) (params : Gens) (seen : Seen) → Ends (λ s made. ModuleGrows (length modules) m seen s made) seen (module_walk modules enter here m params)
   unfolding module_walk
   module_counts here m params seen =
-      ends_then _ _ (ports m.ports params []) _ seen (ports_regs m.ports params [] seen refl) (λ s signals r.
+      ends_then _ _ (ports m.ports params []) _ seen (ports_counts m.ports params [] seen) (λ s signals r.
       ends_as _ _ (items_walk modules enter here m.items params (record nothing { content = record (nothing.content) { signals = signals } })) s
       (items_counts here m.items params (record nothing { content = record (nothing.content) { signals = signals } }) s)
-      (λ t made p. (rises_on seen s t r.0 p.rises, omega (arith, p.statements, r.0.statements), omega (arith, p.instances, r.0.instances), p.places refl, omega (arith, p.registers, r.0.signals, r.1))))
+      (λ t made p. record {
+        rises = rises_on seen s t r.rises p.rises;
+        statements = omega (arith, p.statements, r.rises.statements);
+        signals = omega (arith, p.signals, r.signals);
+        parts = omega (arith, p.parts, r.rises.parts);
+        instances = omega (arith, p.instances, r.rises.instances);
+        outputs = p.outputs ∙ r.outputs ∙ omega arith;
+        places = p.places refl;
+      }))
 
--- an instance with those below it
-whole_list : (n : ℕ) (seen s t : Seen) (path : Name) (parent : Option ℕ) (place : ℕ) (params : Gens) (made : Made) → place < n → s.statements ≤ t.statements → seen.instances + 1 ≤ s.instances → seen.statements ≤ s.statements → seen.signals ≤ s.signals → Rises s t
-    → made_size made + s.statements ≤ t.statements → length made.below + s.instances ≤ t.instances → places_below n made.below ≡ true → made_regs made + s.signals ≤ t.signals → ListGrows n seen t (instances_of path parent place params made)
-whole_list n seen s t path parent place params made inside a b c d r large many fine held = record {
-  rises = record { instances = omega (arith, b, r.instances); statements = omega (arith, c, r.statements); signals = omega (arith, d, r.signals) };
-  statements = omega (arith, large, c);
-  registers = omega (arith, held, d);
-  instances = omega (arith, many, b);
-  places = both_true _ _ (lt-ltb place n inside) fine;
+-- an instance with those below it, behind its own count and those of its outputs
+whole_list : (n beside : ℕ) (m : Module) (seen s t : Seen) (path : Name) (parent : Option ℕ) (place : ℕ) (params : Gens) (made : Made) → place < n → Rises (one_more Instances seen) s → beside + seen.signals ≤ s.signals → ModuleGrows n m s t made
+    → ListGrows n beside seen t (instances_of path parent place params made)
+whole_list n beside m seen s t path parent place params made inside r more p = record {
+  rises = rises_on seen s t (rises_on seen (one_more Instances seen) s (one_rises Instances seen) r) p.rises;
+  statements = omega (arith, p.statements, r.statements);
+  signals = omega (arith, p.signals, more);
+  parts = omega (arith, p.parts, r.parts);
+  instances = omega (arith, p.instances, r.instances);
+  places = both_true _ _ (lt-ltb place n inside) p.places;
 }
   where
     both_true : (a b : Bool) → a ≡ true → b ≡ true → a && b ≡ true
@@ -254,34 +394,41 @@ pub instance_counts : (modules : List Module) (room : ℕ) → Counted (length m
 unfolding instance Ends and_then
 instance_counts modules zero want here at seen inside = tt
 instance_counts modules (suc room) want here at seen inside =
-    after_any _ (count_outputs want.line want.found.1.ports) _ (one_more Instances seen) (λ s outputs r.
+    ends_then _ _ (count_outputs want.line want.found.1.ports) _ (one_more Instances seen) (outputs_counted want.line want.found.1.ports (one_more Instances seen)) (λ s outputs r.
     ends_then _ _ (module_walk modules (instance modules room) (record { path = here.path ++ (codes "." ++ want.name); number = at }) want.found.1 want.params) _ s
     (module_counts modules (instance modules room) (instance_counts modules room) (record { path = here.path ++ (codes "." ++ want.name); number = at }) want.found.1 want.params s) (λ t made p.
-    whole_list (length modules) seen s t (here.path ++ (codes "." ++ want.name)) (Some here.number) want.found.0 want.params made inside p.0.statements r.instances r.statements r.signals p.0 p.1 p.2 p.3 p.4))
+    whole_list (length modules) (outs made.content.signals) want.found.1 seen s t (here.path ++ (codes "." ++ want.name)) (Some here.number) want.found.0 want.params made inside r.0 (omega (arith, r.1, p.outputs)) p))
 
-top_counts : (modules : List Module) (top : Name) (given_so : Gens) (seen : Seen) → Ends (λ s list. ListGrows (length modules) seen s list) seen (top_walk modules top given_so)
+top_counts : (modules : List Module) (top : Name) (given_so : Gens) (seen : Seen) → Ends (λ s list. ListGrows (length modules) 0 seen s list) seen (top_walk modules top given_so)
 unfolding top_walk Ends and_then
 top_counts modules top given_so seen =
     ends_then _ _ (module_named modules 0 top) _ seen (named_at modules 0 top seen) (λ s found p.
     after_any _ (top_values found.1 given_so) _ s (λ t params r.
     ends_then _ _ (module_walk modules (instance modules 32) (record { path = top; number = 0 }) found.1 params) _ (one_more Instances t)
     (module_counts modules (instance modules 32) (instance_counts modules 32) (record { path = top; number = 0 }) found.1 params (one_more Instances t)) (λ u made q.
-    whole_list (length modules) seen (one_more Instances t) u top None found.0 params made p.1 q.0.statements (omega (arith, p.0.instances, r.instances)) (omega (arith, p.0.statements, r.statements)) (omega (arith, p.0.signals, r.signals)) q.0 q.1 q.2 q.3 q.4)))
+    whole_list (length modules) 0 found.1 seen (one_more Instances t) u top None found.0 params made p.1 (counted_too seen t (rises_on seen s t p.0 r)) (omega (arith, p.0.signals, r.signals)) q)))
+  where
+    counted_too : (a b : Seen) → Rises a b → Rises (one_more Instances a) (one_more Instances b)
+    counted_too a b r = record { instances = omega (arith, r.instances); statements = omega (arith, r.statements); signals = omega (arith, r.signals); parts = omega (arith, r.parts) }
 
 -- what a walk from the top gives, where no limit is passed
 pub record Small (modules : List Module) (list : List Instance) : Type 0 where
   pub instances : length list ≤ 4096
   pub statements : all_statements list ≤ 200000
+  pub signals : all_signals list ≤ 200000
+  pub parts : all_parts list ≤ 2000000
   pub registers : all_registers list ≤ 200000
   pub places : places_below (length modules) list ≡ true
 
 pub walk_small : (modules : List Module) (top : Name) (given_so : Gens) (list : List Instance) (seen : Seen) → judge none_seen (top_walk modules top given_so) ≡ Ok (list, seen) → Small modules list
 walk_small modules top given_so list seen e =
-    let found = judged (λ s l. ListGrows (length modules) none_seen s l) (top_walk modules top given_so) none_seen seen list (top_counts modules top given_so none_seen) (record { instances = omega arith; statements = omega arith; signals = omega arith }) e in
+    let found = judged (λ s l. ListGrows (length modules) 0 none_seen s l) (top_walk modules top given_so) none_seen seen list (top_counts modules top given_so none_seen) (record { instances = omega arith; statements = omega arith; signals = omega arith; parts = omega arith }) e in
     record {
       instances = omega (arith, found.0.instances, found.1.instances);
       statements = omega (arith, found.0.statements, found.1.statements);
-      registers = omega (arith, found.0.registers, found.1.signals);
+      signals = omega (arith, found.0.signals, found.1.signals);
+      parts = omega (arith, found.0.parts, found.1.parts);
+      registers = omega (arith, registers_within list, found.0.signals, found.1.signals);
       places = found.0.places;
     }
 

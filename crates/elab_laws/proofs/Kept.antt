@@ -15,25 +15,27 @@ use Rattle.design_core.specs.declared.Kind.{Kind}
 use Rattle.design_core.specs.declared.Kind.TheVariants.{Input, Output, Wire, Reg, ChildOut}
 use Rattle.design_core.specs.Design as design
 use Rattle.design_core.specs.Design.{Gens, AreInRange, Variant, Design}
-use Rattle.design_core.specs.Slots.{AreNumbered, from, slots_of, variant_heads}
-use Rattle.design_core.specs.WellFormed.{HasParent, AreChildren, standing, children_at, signals_at, output_of, outputs_of, regs, registers, all_slots, AreInTurn, is_plain, IsMember, child_names, IsVariant, IsDesign}
+use Rattle.design_core.specs.Slots.{AreNumbered, from, slots_of, variant_heads, blocks_size}
+use Rattle.design_core.specs.Sizes.{blocks_parts, variant_signals, variant_statements, variant_cells, variant_parts, in_all}
+use Rattle.design_core.specs.WellFormed.{HasParent, AreChildren, standing, children_at, signals_at, output_of, outputs_of, regs, registers, all_slots, AreInTurn, is_plain, IsMember, IfPort, IsLine, AreFew, HasLines, child_names, IsVariant, IsDesign}
 use Rattle.design_exec.proofs.Slots.{each_numbered, blocks_numbered}
 use Rattle.design_exec.proofs.Ranges.{variants_apart}
 use Rattle.elab_core.specs.Walk.{Fault, Seen, none_seen, judge, too_large}
 use Rattle.elab_core.specs.declared.Count.TheVariants.{Cells}
-use Rattle.elab_core.specs.Elaborated.{Child, Instance}
+use Rattle.elab_core.specs.Elaborated.{Child, Content, Instance}
 use Rattle.elab_core.specs.Elab.{output_as, child_outputs, top_walk}
-use Rattle.elab_core.specs.Design.{blocks_size, first_slot, same_gens, is_of, variant_of, firsts, variants_of, name_at, child_in, numbered_variant, instance_in, designed, cells, unless_large, design_from, elaborated}
+use Rattle.elab_core.specs.Design.{blocks_cells, first_slot, same_gens, is_of, variant_of, firsts, variants_of, name_at, child_in, numbered_variant, instance_in, designed, cells, unless_large, design_from, elaborated}
 use Rattle.elab_laws.proofs.Variants.{number_in, Found, EachFound, each_found, all_grown, stays, is_its_own, search_last}
 use Rattle.elab_laws.proofs.Shapes.{IsTree, a_tree, AreTrees, no_trees, one_behind, IsGiven, EachGiven, TopOk}
-use Rattle.elab_laws.proofs.Preorder.{EachHas, all_children, given_firsts, given_at, passes, both_parts, gens_equal, numbered_at, the_variants, top_number, in_preorder, walked, OnDesign}
+use Rattle.elab_laws.proofs.Preorder.{EachHas, all_children, given_firsts, given_at, passes, both_parts, gens_equal, same_content, numbered_at, the_variants, top_number, in_preorder, walked, OnDesign}
 use Rattle.elab_laws.proofs.Below.{EachFrom, HasChildren, tree_ok}
 use Rattle.gen_text.specs.Source.{Reads}
-use Rattle.elab_laws.proofs.Fine.{ModuleOf, ChildFine, InstanceFine, of_place, tree_fine, blocks_fine}
+use Rattle.elab_laws.proofs.Fine.{HeadFine, SignalFine, ModuleOf, most_params, ChildFine, InstanceFine, of_place, tree_fine, blocks_fine, block_lines}
+use Rattle.elab_laws.proofs.Renumbered.{same_size, same_parts, same_cells, few_in}
 use Rattle.elab_laws.proofs.Paths.{paths, names, NamesOk, all_apart, plain_member, as_member}
 use Rattle.elab_laws.proofs.Spelled.{read_named}
 use Rattle.gen_token.specs.Spelling.{IsName}
-use Rattle.elab_laws.specs.Sizes.{all_statements, all_registers}
+use Rattle.elab_laws.specs.Sizes.{all_statements, all_signals, children_parts, all_parts, all_registers}
 use Rattle.elab_laws.proofs.Sums.{slot_within}
 use Rattle.elab_laws.proofs.ItemCounts.{Small, walk_small, firsts_few}
 use Rattle.elab_laws.proofs.Outputs.{signals_by, met_outputs, given_signals, given_outs}
@@ -269,22 +271,48 @@ child_members : (variants : List Instance) (children : List Child) → EachOf (C
 child_members variants [] h = tt
 child_members variants (c ∷ children) h = (∣ as_member c.name h.0.0 ∣₁, child_members variants children h.1)
 
+each_as : {A : Type 0} (P Q : A → Type 0) → ((a : A) → P a → Q a) → (list : List A) → EachOf P list → EachOf Q list
+each_as P Q f [] h = tt
+each_as P Q f (a ∷ list) h = (f a h.0, each_as P Q f list h.1)
+
+lines_of_children : (variants : List Instance) (children : List Child) → EachOf (ChildFine IsName) children → EachOf HasLines (map (child_in variants) children)
+lines_of_children variants [] h = tt
+lines_of_children variants (c ∷ children) h = (h.0.2, lines_of_children variants children h.1)
+
+-- no more signals and statements than all instances may have
+abbrev Little : Instance → Type 0
+Little i = (length i.content.signals ≤ 200000) × (blocks_size i.content.blocks ≤ 200000)
+
+each_little : (list : List Instance) → all_signals list ≤ 200000 → all_statements list ≤ 200000 → EachOf Little list
+each_little [] h g = tt
+each_little (i ∷ list) h g = ((omega (arith, h), omega (arith, g)), each_little list (omega (arith, h)) (omega (arith, g)))
+
 are_variants : (modules : List Module) (variants : List Instance) (k : ℕ) (list : List Instance) → EachGiven modules variants → EachGiven modules list → EachOf (ContentFound variants) list
-    → EachOf AreNumbered (map (numbered_variant modules variants) (enumerate_from k list)) → EachOf (InstanceFine IsName) list → EachOf (ModuleOf IsName) modules
+    → EachOf AreNumbered (map (numbered_variant modules variants) (enumerate_from k list)) → EachOf (InstanceFine IsName) list → EachOf Little list → EachOf (ModuleOf IsName) modules
     → EachOf (IsVariant (the_variants modules variants)) (map (numbered_variant modules variants) (enumerate_from k list))
-are_variants modules variants k [] given h found numbered fine named = tt
-are_variants modules variants k (i ∷ list) given h found numbered fine named = (
+are_variants modules variants k [] given h found numbered fine little named = tt
+are_variants modules variants k (i ∷ list) given h found numbered fine little named = (
+  let v = numbered_variant modules variants (k, i) in
+  let content = fine.0.1 in
+  let heads = blocks_fine (first_slot variants (k, i)) i.content.blocks content.blocks in
   record {
     children = children_within modules variants i.content.children found.0;
     outputs = given_outs modules i h.0 ∙ child_by_child modules variants 0 i.content.children given found.0;
     in_turn = in_turn (numbered_variant modules variants (k, i)) numbered.0;
-    params = fine.0.0;
-    gens = blocks_fine (first_slot variants (k, i)) i.content.blocks (fine.0.1).blocks;
+    params = fine.0.0.0;
+    few_params = omega (arith, fine.0.0.1);
+    gens = each_as HeadFine (λ h. AreInRange h.gens) (λ h p. p.0) (variant_heads v) heads;
+    few_gens = each_as HeadFine (λ h. AreFew h.gens) (λ h p. p.1) (variant_heads v) heads;
+    few_names = few_in (first_slot variants (k, i)) v i.content.blocks little.0.0 little.0.1;
     named = module_name modules i named h.0;
-    ports = (fine.0.1).signals;
-    names = child_members variants i.content.children (fine.0.1).children;
+    ports = each_as (SignalFine IsName) (λ s. IfPort IsName s s.kind) (λ s p. p.0) i.content.signals content.signals;
+    names = child_members variants i.content.children content.children;
+    signal_lines = each_as (SignalFine IsName) (λ s. IsLine s.line) (λ s p. p.1) i.content.signals content.signals;
+    child_lines = lines_of_children variants i.content.children content.children;
+    block_lines = block_lines (first_slot variants (k, i)) i.content.blocks content.blocks;
+    lines = each_as HeadFine (λ h. IsLine h.line) (λ h p. p.2) (variant_heads v) heads;
   },
-  are_variants modules variants (k + 1) list given h.1 found.1 numbered.1 fine.1 named,
+  are_variants modules variants (k + 1) list given h.1 found.1 numbered.1 fine.1 little.1 named,
 )
 
 -- ---- slots and registers
@@ -333,6 +361,46 @@ same_registers modules variants [] given h found = refl
 same_registers modules variants (i ∷ list) given h found =
     ap₂ (λ m n. m + n) (ap (λ (l : List Signal). regs l) (its_signals modules variants i.place i.params given found.0 ∙ given_signals modules i h.0)) (same_registers modules variants list given h.1 found.1)
 
+-- ---- sums over all instances
+
+-- what the variant of an instance has, by what the content of each has
+its_size : (modules : List Module) (variants : List Instance) (f : Variant → ℕ) (g : Content → ℕ) → ((v : ℕ × Instance) → f (numbered_variant modules variants v) ≡ g v.1.content) → (i : Instance) → EachGiven modules variants → IsGiven modules i → Found variants i
+    → unwrap_or (option_map f (slice_get (the_variants modules variants) (number_in variants i))) 0 ≡ g i.content
+its_size modules variants f g same i given here found =
+    let n = number_in variants i in
+    let first = passes (is_of i.place i.params) variants found in
+    let v = first.0 in
+    let test = both_parts (i.place == v.place) (same_gens i.params v.params) first.1.1 in
+    let content : v.content ≡ i.content = same_content modules i v here (given_at modules variants n v given first.1.0) (eqb-true i.place v.place test.0) (gens_equal i.params v.params test.1) in
+    ap (λ (o : Option Variant). unwrap_or (option_map f o) 0) (numbered_at (numbered_variant modules variants) 0 n variants ∙ ap (option_map (λ w. numbered_variant modules variants (0 + n, w))) first.1.0)
+    ∙ same (0 + n, v)
+    ∙ ap g content
+
+abbrev sum_of : (Content → ℕ) → List Instance → ℕ
+sum_of g [] = 0
+sum_of g (i ∷ list) = g i.content + sum_of g list
+
+in_sum : (modules : List Module) (variants : List Instance) (f : Variant → ℕ) (g : Content → ℕ) → ((v : ℕ × Instance) → f (numbered_variant modules variants v) ≡ g v.1.content)
+    → (list : List Instance) → EachGiven modules variants → EachGiven modules list → EachFound variants list → in_all f (the_variants modules variants) (map (instance_in variants) list) ≡ sum_of g list
+in_sum modules variants f g same [] given h found = refl
+in_sum modules variants f g same (i ∷ list) given h found = ap₂ (λ m n. m + n) (its_size modules variants f g same i given h.0 found.0) (in_sum modules variants f g same list given h.1 found.1)
+
+signals_sum : (list : List Instance) → sum_of (λ c. length c.signals) list ≡ all_signals list
+signals_sum [] = refl
+signals_sum (i ∷ list) = ap (λ n. length i.content.signals + n) (signals_sum list)
+
+statements_sum : (list : List Instance) → sum_of (λ c. blocks_size c.blocks) list ≡ all_statements list
+statements_sum [] = refl
+statements_sum (i ∷ list) = ap (λ n. blocks_size i.content.blocks + n) (statements_sum list)
+
+cells_sum : (list : List Instance) → sum_of (λ c. blocks_cells c c.blocks) list ≡ cells list
+cells_sum [] = refl
+cells_sum (i ∷ list) = ap (λ n. blocks_cells i.content i.content.blocks + n) (cells_sum list)
+
+parts_sum : (list : List Instance) → sum_of (λ c. children_parts c.children + blocks_parts c.blocks) list ≡ all_parts list
+parts_sum [] = refl
+parts_sum (i ∷ list) = ap (λ n. children_parts i.content.children + blocks_parts i.content.blocks + n) (parts_sum list)
+
 -- ---- paths
 
 abbrev NamesApart : Variant → Type 0
@@ -379,13 +447,14 @@ first_module modules (a_tree room path parent place params at content below unde
     let grown = all_grown (i ∷ []) below in
     ap (λ (variants : List Instance). option_map (λ (v : Variant). v.«module») (slice_get (map (numbered_variant modules (variants_of (i ∷ below))) (enumerate_from 0 variants)) 0)) grown.1
 
-pub is_design : (modules : List Module) (top : Name) (list : List Instance) → TopOk modules top list → Small modules list → EachOf (ModuleOf IsName) modules → IsDesign (designed modules top list)
-is_design modules top list ok small named =
+pub is_design : (modules : List Module) (top : Name) (list : List Instance) → TopOk modules top list → Small modules list → cells list ≤ 4000000 → EachOf (ModuleOf IsName) modules → IsDesign (designed modules top list)
+is_design modules top list ok small fit named =
     let variants = variants_of list in
     let d = designed modules top list in
     let found = each_found [] list in
     let given = given_firsts modules [] list tt ok.given in
-    let fine = tree_fine IsName modules named ok.tree ok.given ok.fine in
+    let few_params = omega_few (length ok.params) (length (ok.«module»).params) ok.few (of_place (ModuleOf IsName) modules ok.place ok.«module» named ok.stands).few in
+    let fine = tree_fine IsName modules named ok.tree ok.given (ok.fine, few_params) in
     let contents = (tree_found variants ok.tree found).1 in
     let tree = tree_ok modules variants ok.tree (λ i l. refl) (all_children modules variants list given ok.given found) in
     record {
@@ -403,14 +472,34 @@ is_design modules top list ok small named =
       children = λ i r e. subst (λ n. AreChildren n r.path (children_at r.variant d.variants) (standing n 0 d.instances)) (none_before i) (each_at (HasChildren d.variants 0 d.instances) 0 d.instances i r tree.each e);
       preorder = in_preorder modules top list ok;
       each = are_variants modules variants 0 variants given given (each_first (ContentFound variants) [] list tt contents) (each_numbered modules variants (enumerate_from 0 variants))
-          (each_first (InstanceFine IsName) [] list tt fine) named;
+          (each_first (InstanceFine IsName) [] list tt fine) (each_first Little [] list tt (each_little list small.signals small.statements)) named;
       paths = different_paths modules variants list ok.tree fine (all_children modules variants list given ok.given found);
       apart = variants_apart modules variants;
       below = slots_below modules variants;
       few = omega (arith, small.instances, length-map list (instance_in variants));
       statements = omega (arith, small.statements, firsts_few [] list, long_slots modules variants variants 0);
       registers = omega (arith, small.registers, same_registers modules variants list given ok.given found);
+      all_statements = omega (
+        arith,
+        small.statements,
+        in_sum modules variants variant_statements (λ c. blocks_size c.blocks) (λ v. same_size (first_slot variants v) v.1.content.blocks) list given ok.given found ∙ statements_sum list,
+      );
+      all_signals = omega (arith, small.signals, in_sum modules variants variant_signals (λ c. length c.signals) (λ v. refl) list given ok.given found ∙ signals_sum list);
+      all_cells = omega (
+        arith,
+        fit,
+        in_sum modules variants variant_cells (λ c. blocks_cells c c.blocks) (λ v. same_cells (first_slot variants v) (numbered_variant modules variants v) v.1.content v.1.content.blocks refl) list given ok.given found
+        ∙ cells_sum list,
+      );
+      all_parts = omega (
+        arith,
+        small.parts,
+        in_sum modules variants variant_parts (λ c. children_parts c.children + blocks_parts c.blocks) (λ v. same_parts (first_slot variants v) variants v.1.content) list given ok.given found ∙ parts_sum list,
+      );
     }
+  where
+    omega_few : (m n : ℕ) → m ≤ n → n ≤ most_params → m ≤ most_params
+    omega_few m n p q = omega (arith, p, q)
 
 -- ---- what elaboration gives
 
@@ -422,8 +511,11 @@ pub record IsJudged (modules : List Module) (top : Name) (list : List Instance) 
 
 design_kept : (modules : List Module) (top : Name) (r : Result (List Instance × Seen) Fault) → ((list : List Instance) (seen : Seen) → r ≡ Ok (list, seen) → IsJudged modules top list)
     → OnDesign IsDesign (design_from modules top (unless_large r))
-design_kept modules top (Ok p) h =
-    elim (nat_lt 4000000 (cells p.0)) as (λ b. OnDesign IsDesign (design_from modules top (if b then Err (too_large 0 Cells) else Ok p.0))) [ true ↦ tt | false ↦ is_design modules top p.0 (h p.0 p.1 refl).ok (h p.0 p.1 refl).small (h p.0 p.1 refl).named ]
+design_kept modules top (Ok p) h = by_test (nat_lt 4000000 (cells p.0)) refl (h p.0 p.1 refl)
+  where
+    by_test : (b : Bool) → nat_lt 4000000 (cells p.0) ≡ b → IsJudged modules top p.0 → OnDesign IsDesign (design_from modules top (if b then Err (too_large 0 Cells) else Ok p.0))
+    by_test true e j = tt
+    by_test false e j = is_design modules top p.0 j.ok j.small (ltb-false 4000000 (cells p.0) e) j.named
 design_kept modules top (Err fault) h = tt
 
 pub elaboration_keeps : (modules : List Module) (top : Name) (given : Gens) (d : Design) (text : List ℕ) → Reads text modules → AreInRange given → elaborated modules top given ≡ Ok d → IsDesign d

@@ -6,8 +6,11 @@ pub mod Fine
 pub mod ItemCounts
 pub mod Kept
 pub mod Outputs
+pub mod Params
+pub mod PartCounts
 pub mod Paths
 pub mod Preorder
+pub mod Renumbered
 pub mod Shapes
 pub mod Spelled
 pub mod Sums

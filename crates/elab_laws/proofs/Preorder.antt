@@ -74,7 +74,7 @@ both_have : {A B : Type 0} (f : A → B) (x y : B) (o : Option A) → HasSome (�
 both_have f x y None h g = absurd h
 both_have f x y (Some a) h g = sym h ∙ g
 
-same_content : (modules : List Module) (i v : Instance) → IsGiven modules i → IsGiven modules v → i.place ≡ v.place → i.params ≡ v.params → v.content ≡ i.content
+pub same_content : (modules : List Module) (i v : Instance) → IsGiven modules i → IsGiven modules v → i.place ≡ v.place → i.params ≡ v.params → v.content ≡ i.content
 same_content modules i v h g place params =
     let one : h.«module» ≡ g.«module» = some_equal h.«module» g.«module» (sym h.stands ∙ ap (slice_get modules) place ∙ g.stands) in
     let P : Option Made → Type 0 = HasSome (λ made. made.content ≡ v.content) in

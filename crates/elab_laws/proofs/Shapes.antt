@@ -12,6 +12,7 @@ use Rattle.elab_core.specs.Elaborated.{Child, Content, Instance}
 use Rattle.elab_core.specs.Elab.{turns, statements, places, only, module_named, values, conns, Asked, asked, Made, nothing, with_child, child_of, Here, Enter, count_outputs, register, wire_signal, item_walk, items_walk, else_walk, ports, module_walk, instances_of, instance, top_values, top_walk}
 use Rattle.elab_core.proofs.Replacing as elab_yields
 use Rattle.elab_core.proofs.ReplacingItems.{top_values_yield}
+use Rattle.elab_laws.proofs.Params.{AtMost, top_values_few}
 use Rattle.elab_laws.proofs.Contents.{out, chained, out_then, OnSome, HasSome, SameContent, module_sim, more_room}
 
 -- ---- what comes out of a walk, with the equation that it does
@@ -231,6 +232,7 @@ pub record TopOk (modules : List Module) (top : Name) (list : List Instance) : T
   pub «module» : Module
   pub stands : slice_get modules place ≡ Some «module»
   pub named : «module».name ≡ top
+  pub few : length params ≤ length «module».params
 
 -- what comes out is so
 pub came_out : {A : Type 0} (Q : A → Type 0) (w : Walk A) → elab_yields.Yields Q w → Yields Q w
@@ -246,4 +248,4 @@ top_ok modules top given_so fine =
     yields_then _ (module_walk modules (instance modules 32) (record { path = top; number = 0 }) found.1 params) _ (λ made e.
     let ok = whole_ok modules 32 top None found params 0 made (omega arith) (named_stands modules 0 top found g)
     (module_ok modules 32 (instance modules 32) (instance_ok modules 32 (omega arith)) (record { path = top; number = 0 }) found.1 params made e) e in
-    yields_it (TopOk modules top) _ (record { place = found.0; params = params; tree = ok.0; given = ok.1; «module» = found.1; stands = named_stands modules 0 top found g; named = has_its_name modules 0 top found g; fine = came_out AreInRange (top_values found.1 given_so) (top_values_yield found.1 given_so fine) params r }))))
+    yields_it (TopOk modules top) _ (record { place = found.0; params = params; tree = ok.0; given = ok.1; «module» = found.1; stands = named_stands modules 0 top found g; named = has_its_name modules 0 top found g; fine = came_out AreInRange (top_values found.1 given_so) (top_values_yield found.1 given_so fine) params r; few = came_out (AtMost (length found.1.params)) (top_values found.1 given_so) (top_values_few found.1 given_so) params r }))))

@@ -1,5 +1,5 @@
 -- What the walk and its end give is the elaborated design.
-use Rattle.std.proofs.Common.{◌≡◌, true, false, Bool, List, Result, Ok, Err, if◌then◌else◌, nat_lt, refl, sym, ap, ◌∙◌, subst}
+use Rattle.std.proofs.Common.{◌≡◌, ◌≤◌, true, false, Bool, List, Result, Ok, Err, if◌then◌else◌, nat_lt, refl, sym, ap, ◌∙◌, subst}
 use Rattle.gen_tree.specs.Tree.{Module}
 use Rattle.exec_core.specs.Block.{Name}
 use Rattle.design_core.specs.Design.{Gens, AreInRange, Design}
@@ -39,11 +39,12 @@ pub small_walk : (modules : List Module) (top : Name) (given : Gens) (list : Lis
 small_walk modules top given list e = let found = ok_equal list (judge none_seen (top_walk modules top given)) e in walk_small modules top given list found.0 found.1
 
 -- and makes a design that is well formed
-pub kept_walk : (modules : List Module) (top : Name) (given : Gens) (list : List Instance) → IsReadFromText modules → AreInRange given → uncounted (judge none_seen (top_walk modules top given)) ≡ Ok list → IsDesign (designed modules top list)
-kept_walk modules top given list read fine e =
+pub kept_walk : (modules : List Module) (top : Name) (given : Gens) (list : List Instance) → IsReadFromText modules → AreInRange given → uncounted (judge none_seen (top_walk modules top given)) ≡ Ok list → cells list ≤ 4000000
+    → IsDesign (designed modules top list)
+kept_walk modules top given list read fine e fit =
     let found = ok_equal list (judge none_seen (top_walk modules top given)) e in
     ∥∥₁_elim read (design_prop (designed modules top list)) (λ r.
-    is_design modules top list (walked modules top given list found.0 fine found.1) (walk_small modules top given list found.0 found.1) (read_named r.0 modules r.1))
+    is_design modules top list (walked modules top given list found.0 fine found.1) (walk_small modules top given list found.0 found.1) fit (read_named r.0 modules r.1))
 
 ended : (modules : List Module) (top : Name) (r : Counted) (list : List Instance) → uncounted r ≡ Ok list → design_from modules top (unless_large r) ≡ finished modules top list
 unfolding finished

@@ -7,7 +7,7 @@ ghost use Rattle.elab_core.specs.View.{instance_of};
 ghost use Rattle.gen_elab.specs.Offsets.{all_statements, places_below};
 ghost use Rattle.gen_elab.specs.Finished.{finished};
 ghost use Rattle.gen_tree.specs.View.{modules_of, source_of};
-ghost use Rattle.elab_core.specs.Design.{designed as the_design, elaborated};
+ghost use Rattle.elab_core.specs.Design.{cells, designed as the_design, elaborated};
 
 use crate::Given;
 use crate::cells::{MOST_CELLS, are_too_many};
@@ -29,7 +29,7 @@ fn finish(
     requires few { length instances.items ≤ 4096 }
     requires small { all_statements (map instance_of instances.items) ≤ 200000 }
     requires places { places_below (length modules.now) (map instance_of instances.items) ≡ true }
-    requires kept { IsDesign (the_design (modules_of modules.now) top.now (map instance_of instances.items)) }
+    requires kept { cells (map instance_of instances.items) ≤ 4000000 → IsDesign (the_design (modules_of modules.now) top.now (map instance_of instances.items)) }
     ensures { Answers (λ design. design_of design) result (finished (modules_of modules.now) top.now (map instance_of instances.items)) }
 {
     if are_too_many(&instances) {

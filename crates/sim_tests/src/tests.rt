@@ -1,6 +1,7 @@
 ghost use Rattle.std.specs.Prelude.{IfOk, IfSome, IsTrue};
 ghost use Rattle.std.specs.List.{list_all};
-ghost use Rattle.design_core.specs.Ports.{has_width};
+ghost use Rattle.exec_core.specs.Lists.{EachOf};
+ghost use Rattle.design_core.specs.Ports.{has_width, IsNamed};
 
 use crate::counter::{are_ports, counter, takes};
 use bv_core::{Bv, NodeId, Sample};
@@ -45,7 +46,8 @@ fn counts_where_it_is_enabled(rt: HostRuntime) -> Result<(), Fail> {
 
 /// The inputs of the stimulus: one that the net does not have, and its enable.
 fn inputs(alloc: Global) -> Result<Listed<(Text, u8)>, Fail>
-    ensures { IfOk result (λ found. IsTrue (list_all has_width found)) }
+    ensures widths { IfOk result (λ found. IsTrue (list_all has_width found)) }
+    ensures names { IfOk result (λ found. EachOf IsNamed found) }
 {
     let mut inputs = Vec::new(alloc);
     inputs.push((Text::new(alloc, b"d")?, 8))?;

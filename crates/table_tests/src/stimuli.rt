@@ -2,21 +2,24 @@
 
 ghost use Rattle.std.specs.Prelude.{IfOk, IfSome, IsTrue};
 ghost use Rattle.std.specs.List.{list_all};
-ghost use Rattle.design_core.specs.Ports.{has_width};
+ghost use Rattle.exec_core.specs.Lists.{EachOf};
+ghost use Rattle.design_core.specs.Ports.{has_width, IsNamed};
 
 use design_core::Ports;
+use gen_token::is_name;
 use std::alloc::{AllocError, Global};
 use std::test::Fail;
 use stim_text::{Stim, StimFault, read_stim};
 use text_core::{Listed, NoMemory, Text};
 
-/// These names with their widths. None where a width is not 1 to 128.
+/// These names with their widths. None where one of them is no name, or a width is not 1 to 128.
 fn inputs_of(alloc: Global, names: &[(&str, u8)]) -> Result<Option<Listed<(Text, u8)>>, NoMemory>
-    ensures { IfOk result (λ found. IfSome found (λ inputs. IsTrue (list_all has_width inputs))) }
+    ensures widths { IfOk result (λ found. IfSome found (λ inputs. IsTrue (list_all has_width inputs))) }
+    ensures names { IfOk result (λ found. IfSome found (λ inputs. EachOf IsNamed inputs)) }
 {
     let mut inputs = Vec::new(alloc);
     for (name, width) in names {
-        if *width < 1 || 128 < *width {
+        if *width < 1 || 128 < *width || !is_name(name.as_bytes()) {
             return Ok(None);
         }
         inputs.push((Text::new(alloc, name.as_bytes())?, *width))?;
@@ -24,7 +27,7 @@ fn inputs_of(alloc: Global, names: &[(&str, u8)]) -> Result<Option<Listed<(Text,
     Ok(Some(Listed::new(inputs)))
 }
 
-/// Ports with these inputs, and so many registers. None where a width is not 1 to 128.
+/// Ports with these inputs, and so many registers. None where one of them has no name, or a width is not 1 to 128.
 fn ports_of(
     alloc: Global,
     names: &[(&str, u8)],

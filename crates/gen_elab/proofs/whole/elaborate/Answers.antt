@@ -32,9 +32,9 @@ finish-requires-clause-places c =
     ap (λ n. places_below n all) (sym long) ∙ small.places
 
 pub finish-requires-clause-kept : goal.finish-requires-clause-kept
-finish-requires-clause-kept c =
+finish-requires-clause-kept c fit =
     let all = map instance_of c.in_ok-instances.instances.items in
-    let kept = kept_walk (source_of c.args.source.now) c.args.top.now c.params.result.now all c.requires c.params.ensures.in_range c.in_ok-instances.ensures in
+    let kept = kept_walk (source_of c.args.source.now) c.args.top.now c.params.result.now all c.requires c.params.ensures.in_range c.in_ok-instances.ensures fit in
     subst (λ (l : List code_module.Module). IsDesign (designed (modules_of l) c.args.top.now all)) (sym c.deref.ensures.value) kept
 
 pub returns : goal.returns
