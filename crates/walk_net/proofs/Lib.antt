@@ -1,0 +1,4 @@
+pub mod Walking
+pub mod Nodes
+pub mod Doing
+pub mod Copies

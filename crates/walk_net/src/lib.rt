@@ -1,0 +1,6 @@
+//! What is kept of a net: the nodes that roots need, with the next values of the registers among them, numbered in the
+//! order of a walk.
+#![tactic(auto)]
+
+mod copy;
+mod task;
