@@ -145,3 +145,20 @@ module _ (old new : List Shape) (ids : List (Option NodeId)) (origins : List Nod
       trees = once_more (has_number (tree_of old at.0) (trees_of new)) added;
       nodes = each_origin (nat_lt (length origins) (length next));
     }
+
+  -- what one more copy makes of the others
+  pub record Left (j : ℕ) (next : List Shape) (more : List (Option NodeId)) (origins_now : List NodeId) : Type 0 where
+    pub copies : AreCopies old next more origins_now
+    pub adds : trees_of next ≡ add (tree_of old j) (trees_of new)
+
+  pub left : (next : List Shape) (at id : NodeId) (s : Shape) → at.0 < length old → CanCopy at.0 s → Stands next id.0 (folded (copied_tree new ids s)) → Adds new next (folded (copied_tree new ids s)) → Keeps new next → AreShared next → (many : ℕ) → many ≡ length next → (more : List (Option NodeId)) → more ≡ slice_set ids at.0 (Some id) → (origins_now : List NodeId) → origins_now ≡ with_origin many at origins → Left at.0 next more origins_now
+  left next at id s within can stands adds keeps shared many is more set origins_now put =
+      let stands_now = subst (Stands next id.0) can.folded_tree stands in
+      let adds_now = subst (Adds new next) can.folded_tree adds in
+      record {
+        copies =
+            subst (λ os. AreCopies old next more os) (sym (put ∙ ap (λ n. with_origin n at origins) is))
+            (subst (λ is. AreCopies old next is (with_origin (length next) at origins)) (sym set)
+            (copies next at id within stands_now adds_now keeps shared));
+        adds = added next at id within stands_now adds_now keeps shared;
+      }

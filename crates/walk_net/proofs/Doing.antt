@@ -9,7 +9,7 @@ use Rattle.net_core.specs.Nodes.{Shape, Fixed, TopInput, Register, OfOne, OfTwo,
 use Rattle.net_core.proofs.TreeLists.{tree_is}
 use Rattle.walk_net.specs.declared.task.Task.{Task}
 use Rattle.walk_net.specs.declared.task.Task.TheVariants.{Enter, Leave}
-use Rattle.walk_net.specs.Tasks.{did, all_done, OperandsIn, CanDo, CanDoAll, id_of, operand_tasks, entered, height, weight, work}
+use Rattle.walk_net.specs.Tasks.{did, all_done, OperandsIn, CanDo, CanDoAll, id_of, operand_tasks, entered, height, weight, work, Stacked}
 use Rattle.walk_net.proofs.Walking.{walk_grows, walk_has, walk_there, still_in, HasOperands}
 
 -- a node that has an id has its tree among the numbered ones
@@ -123,12 +123,6 @@ module _ (ns : List Shape) (ts : List tree.Whole) (id : NodeId) (within : id.0 <
             let n = height_some c in let o = height_some a in let p = height_some b in omega (arith, l, m, k, n, o, p);
       }
 
--- what is known of a stack, after its top was replaced by these tasks
-pub record Stacked (ns : List Shape) (before : List Task) (top : Task) (after : List Task) (old new : List tree.Whole) : Type 0 where
-  pub done : all_done ns after new ≡ all_done ns before (did ns top old)
-  pub can : CanDoAll ns after new
-  pub less : work after < weight top + work before
-
 pub entered_stack : (ns : List Shape) (before after tasks : List Task) (id : NodeId) (ts : List tree.Whole) → after ≡ before ++ tasks → Entered ns ts tasks id.0 → CanDoAll ns before (did ns (Enter id) ts) → Stacked ns before (Enter id) after ts ts
 entered_stack ns before after tasks id ts e n h = subst (λ xs. Stacked ns before (Enter id) xs ts ts) (sym e) (record {
   done = done_push ns before tasks ts ∙ ap (all_done ns before) n.done;
@@ -147,3 +141,9 @@ left_stack ns before id old new e h = record {
 pub entered_at : (ns : List Shape) → AreNumbered ns → (ts : List tree.Whole) → HasOperands ts → (id : NodeId) → id.0 < length ns → (known : Option NodeId) → IsKnown known (tree_of ns id.0) ts → Entered ns ts (entered known id (shape_at ns id.0)) id.0
 entered_at ns g ts h id l (Some known) k = none_entered ns ts id l h k
 entered_at ns g ts h id l None k = shape_entered ns ts id l (shape_at ns id.0) (tree_is ns g id.0 l) (g.below id.0 l)
+
+-- no tasks do nothing
+pub none_done : (ns : List Shape) (tasks : List Task) (ts us : List tree.Whole) → length tasks ≡ 0 → all_done ns tasks ts ≡ us → ts ≡ us
+unfolding all_done
+none_done ns [] ts us e d = d
+none_done ns (x ∷ xs) ts us e d = absurd (omega arith)

@@ -1,5 +1,5 @@
 -- The walk as tasks on a stack.
-use Rattle.std.specs.Prelude.{ℕ, zero, suc, ◌+◌, ◌*◌, ◌<◌, List, [], ◌∷◌, ◌++◌, length, Option, Some, None}
+use Rattle.std.specs.Prelude.{◌≡◌, ℕ, zero, suc, ◌+◌, ◌*◌, ◌<◌, List, [], ◌∷◌, ◌++◌, length, Option, Some, None}
 use Rattle.bv_core.specs.declared.reference.NodeId.{NodeId}
 use Rattle.tree_core.specs.Tree.{Const, Leaf, One, Two, Mux, Whole}
 use Rattle.exec_core.specs.Lists.{IsIn}
@@ -65,3 +65,9 @@ weight (Leave id) = 1
 unfoldable pub work : List Task → ℕ
 work [] = 0
 work (task ∷ tasks) = weight task + work tasks
+
+-- what is known of a stack, after its top was replaced by these tasks
+pub record Stacked (ns : List Shape) (before : List Task) (top : Task) (after : List Task) (old new : List Whole) : Type 0 where
+  pub done : all_done ns after new ≡ all_done ns before (did ns top old)
+  pub can : CanDoAll ns after new
+  pub less : work after < weight top + work before

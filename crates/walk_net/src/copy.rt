@@ -3,9 +3,9 @@ ghost use Rattle.bv_core.specs.Operators.{Fits1, Fits2, FitsMux};
 ghost use Rattle.tree_core.specs.Tree.{One, Two, Mux};
 ghost use Rattle.tree_core.specs.Width.{IsWhole};
 ghost use Rattle.tree_core.specs.Fold.{folded};
-ghost use Rattle.net_core.specs.Nodes.{shape_of, tree_of, width_at};
+ghost use Rattle.exec_core.specs.Kept.{add};
+ghost use Rattle.net_core.specs.Nodes.{shape_of, tree_of, trees_of, width_at};
 ghost use Rattle.net_core.specs.Builder.{Stands, AreShared, Keeps, Adds};
-ghost use Rattle.net_core.specs.Nets.{IsNet};
 ghost use Rattle.walk_net.specs.Tasks.{OperandsIn};
 ghost use Rattle.walk_net.specs.Renaming.{id_at, AreCopies, copied_tree, OperandsHaveCopies, HasCopy, number, with_origin};
 
@@ -109,4 +109,44 @@ fn copied(
         Node::Two(op, a, b) => copied_two(builder, ids, *op, *a, *b),
         Node::Mux(c, a, b) => copied_choice(builder, ids, *c, *a, *b),
     }
+}
+
+/// Notes that an old node got a copy, which is the last of so many nodes where it is new.
+fn note_copy(
+    count: u64,
+    ids: &mut [Option<NodeId>],
+    origins: &mut Vec<NodeId>,
+    id: NodeId,
+    copy: NodeId,
+) -> Result<(), NoMemory>
+    requires { id.0 < length ids.old }
+    ensures ids { OnOk result (ids.new ≡ slice_set ids.old id.0 (Some copy)) }
+    ensures origins { OnOk result (origins.new.items ≡ with_origin count id origins.old.items) }
+{
+    ids[id.0 as usize] = Some(copy);
+    if (origins.len() as u64) < count {
+        origins.push(id)?;
+    }
+    Ok(())
+}
+
+/// Gives a node, whose operands have copies, its own.
+pub(crate) fn leave(
+    net: &Net,
+    builder: &mut NetBuilder,
+    ids: &mut [Option<NodeId>],
+    origins: &mut Vec<NodeId>,
+    id: NodeId,
+) -> Result<(), NoMemory>
+    requires shared { AreShared net.now.nodes }
+    requires within { id.0 < length net.now.nodes }
+    requires copies { AreCopies net.now.nodes builder.old ids.old origins.old.items }
+    requires operands { OperandsIn (tree_of net.now.nodes id.0) (trees_of builder.old) }
+    ensures copies { OnOk result (AreCopies net.now.nodes builder.new ids.new origins.new.items) }
+    ensures adds { OnOk result (trees_of builder.new ≡ add (tree_of net.now.nodes id.0) (trees_of builder.old)) }
+{
+    let copy = copied(builder, ids, net.node(id))?;
+    let count = builder.count();
+    note_copy(count, ids, origins, id, copy)?;
+    Ok(())
 }

@@ -4,3 +4,4 @@
 
 mod copy;
 mod task;
+mod walk;
