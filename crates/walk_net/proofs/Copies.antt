@@ -35,11 +35,11 @@ has : (new : List Shape) (t : tree.Whole) (known : Option NodeId) → IsIdOf new
 has new t None h i = absurd (h i)
 has new t (Some id) h i = record { id = id; is = refl; stands = h }
 
-data Where (i j : ℕ) : Type 0 where
+pub data Where (i j : ℕ) : Type 0 where
   here : j ≡ i → Where i j
   other : (j ≡ i → ⊥) → Where i j
 
-where_is : (i j : ℕ) → Where i j
+pub where_is : (i j : ℕ) → Where i j
 where_is i j = ⊎_elim (λ a. other (λ e. omega arith)) (λ a. ⊎_elim (λ b. other (λ e. omega arith)) (λ b. here (omega arith)) (cases_lt i j)) (cases_lt j i)
 
 not_less : (a b : ℕ) → b ≤ a → nat_lt a b ≡ false

@@ -147,3 +147,12 @@ pub none_done : (ns : List Shape) (tasks : List Task) (ts us : List tree.Whole) 
 unfolding all_done
 none_done ns [] ts us e d = d
 none_done ns (x ∷ xs) ts us e d = absurd (omega arith)
+
+-- a stack with one node to enter
+pub can_enter : (ns : List Shape) (tasks : List Task) (id : NodeId) (ts : List tree.Whole) → tasks ≡ Enter id ∷ [] → id.0 < length ns → CanDoAll ns tasks ts
+unfolding CanDoAll
+can_enter ns tasks id ts e l = subst (λ xs. CanDoAll ns xs ts) (sym e) (l, tt)
+
+pub enter_done : (ns : List Shape) (tasks : List Task) (id : NodeId) (ts us : List tree.Whole) → tasks ≡ Enter id ∷ [] → us ≡ all_done ns tasks ts → us ≡ walk (tree_of ns id.0) ts
+unfolding all_done
+enter_done ns tasks id ts us e d = d ∙ ap (λ xs. all_done ns xs ts) e

@@ -14,6 +14,11 @@ pub data Ends (next : Origin → Option Whole) : ℕ → List Whole → List Who
   passed : (k : ℕ) (ts us : List Whole) → k < length ts → next_tree next (tree_at ts k) ≡ None → Ends next (k + 1) ts us → Ends next k ts us
   walked : (k : ℕ) (ts us : List Whole) (t : Whole) → k < length ts → next_tree next (tree_at ts k) ≡ Some t → Ends next (k + 1) (walk t ts) us → Ends next k ts us
 
+-- the trees after the walk of a next-value tree, if there is one
+abbrev pub followed : Option Whole → List Whole → List Whole
+followed None ts = ts
+followed (Some t) ts = walk t ts
+
 -- each register's node with the node of its next value
 abbrev pub with_nexts : List (Option NodeId) → List (NodeId × NodeId) → List (Option NodeId)
 with_nexts ids [] = ids

@@ -3,5 +3,6 @@
 #![tactic(auto)]
 
 mod copy;
+mod registers;
 mod task;
 mod walk;

@@ -1,8 +1,8 @@
-ghost use Rattle.std.specs.Prelude.{◌≡◌, [], length, OnOk};
-ghost use Rattle.net_core.specs.Nodes.{trees_of};
+ghost use Rattle.std.specs.Prelude.{◌≡◌, ◌<◌, [], length, OnOk};
+ghost use Rattle.net_core.specs.Nodes.{trees_of, tree_of};
 ghost use Rattle.net_core.specs.Builder.{AreShared};
 ghost use Rattle.exec_core.specs.Lists.{EachOf};
-ghost use Rattle.exec_core.specs.Kept.{walk_all};
+ghost use Rattle.exec_core.specs.Kept.{walk, walk_all};
 ghost use Rattle.walk_net.specs.Next.{trees_by};
 ghost use Rattle.walk_net.specs.Tasks.{did, all_done, CanDo, CanDoAll, Stacked};
 ghost use Rattle.walk_net.specs.Renaming.{AreCopies, IsNode};
@@ -53,6 +53,50 @@ fn do_all(
 {
     while let Some(task) = tasks.pop() {
         advance(net, builder, ids, origins, tasks, task)?;
+    }
+    Ok(())
+}
+
+/// Walks the tree of a node.
+pub(crate) fn walk_node(
+    net: &Net,
+    builder: &mut NetBuilder,
+    ids: &mut [Option<NodeId>],
+    origins: &mut Vec<NodeId>,
+    tasks: &mut Vec<Task>,
+    id: NodeId,
+) -> Result<(), NoMemory>
+    requires shared { AreShared net.now.nodes }
+    requires copies { AreCopies net.now.nodes builder.old ids.old origins.old.items }
+    requires none { tasks.old.items ≡ [] }
+    requires within { id.0 < length net.now.nodes }
+    ensures copies { OnOk result (AreCopies net.now.nodes builder.new ids.new origins.new.items) }
+    ensures none { OnOk result (tasks.new.items ≡ []) }
+    ensures walked { OnOk result (trees_of builder.new ≡ walk (tree_of net.now.nodes id.0) (trees_of builder.old)) }
+{
+    tasks.push(Task::Enter(id))?;
+    do_all(net, builder, ids, origins, tasks)?;
+    Ok(())
+}
+
+/// Walks the trees of these nodes, one after another.
+pub(crate) fn walk_roots(
+    alloc: Global,
+    net: &Net,
+    builder: &mut NetBuilder,
+    ids: &mut [Option<NodeId>],
+    origins: &mut Vec<NodeId>,
+    roots: &[NodeId],
+) -> Result<(), NoMemory>
+    requires shared { AreShared net.now.nodes }
+    requires copies { AreCopies net.now.nodes builder.old ids.old origins.old.items }
+    requires roots { EachOf (IsNode net.now.nodes) roots.now }
+    ensures copies { OnOk result (AreCopies net.now.nodes builder.new ids.new origins.new.items) }
+    ensures walked { OnOk result (trees_of builder.new ≡ walk_all (trees_by net.now.nodes roots.now) (trees_of builder.old)) }
+{
+    let mut tasks = Vec::new(alloc);
+    for root in roots {
+        walk_node(net, builder, ids, origins, &mut tasks, *root)?;
     }
     Ok(())
 }
