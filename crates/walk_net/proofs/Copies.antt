@@ -26,12 +26,12 @@ known_by new t None h = tt
 known_by new t (Some id) h = stands_in new id.0 t h
 
 -- a tree that is there has an id
-record Has (new : List Shape) (t : tree.Whole) (known : Option NodeId) : Type 0 where
-  id : NodeId
-  is : known ≡ Some id
-  stands : Stands new id.0 t
+pub record Has (new : List Shape) (t : tree.Whole) (known : Option NodeId) : Type 0 where
+  pub id : NodeId
+  pub is : known ≡ Some id
+  pub stands : Stands new id.0 t
 
-has : (new : List Shape) (t : tree.Whole) (known : Option NodeId) → IsIdOf new t known → IsIn t (trees_of new) → Has new t known
+pub has : (new : List Shape) (t : tree.Whole) (known : Option NodeId) → IsIdOf new t known → IsIn t (trees_of new) → Has new t known
 has new t None h i = absurd (h i)
 has new t (Some id) h i = record { id = id; is = refl; stands = h }
 

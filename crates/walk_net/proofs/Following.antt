@@ -54,7 +54,7 @@ map_at ns [] k d l = absurd (omega arith)
 map_at ns (id ∷ ids) zero d l = refl
 map_at ns (id ∷ ids) (suc k) d l = map_at ns ids k d (omega arith)
 
-by_in : (ns : List Shape) (ids : List NodeId) → EachOf (IsNode ns) ids → (t : Whole) → IsIn t (trees_by ns ids) → IsIn t (trees_of ns)
+pub by_in : (ns : List Shape) (ids : List NodeId) → EachOf (IsNode ns) ids → (t : Whole) → IsIn t (trees_by ns ids) → IsIn t (trees_of ns)
 by_in ns [] h t i = absurd i
 by_in ns (id ∷ ids) h t (inl e) = subst (λ u. IsIn u (trees_of ns)) (sym e) (tree_in ns id.0 h.0)
 by_in ns (id ∷ ids) h t (inr i) = by_in ns ids h.1 t i

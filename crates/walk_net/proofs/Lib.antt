@@ -5,3 +5,4 @@ pub mod Copies
 pub mod Following
 pub mod NextIds
 pub mod Rounds
+pub mod Keeping

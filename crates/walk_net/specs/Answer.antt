@@ -3,12 +3,12 @@ use Rattle.std.specs.Prelude.{◌≡◌, ℕ, ◌<◌, List, [], ◌∷◌, ◌+
 use Rattle.bv_core.specs.declared.reference.NodeId.{NodeId}
 use Rattle.tree_core.specs.Tree.{Leaf, Origin, Whole}
 use Rattle.exec_core.specs.Lists.{EachOf, IsIn}
-use Rattle.exec_core.specs.Kept.{IsKept}
-use Rattle.net_core.specs.Nodes.{Shape, tree_of}
-use Rattle.net_core.specs.Builder.{Stands}
+use Rattle.exec_core.specs.Kept.{IsKept, numbered}
+use Rattle.net_core.specs.Nodes.{Shape, trees_of, tree_of}
+use Rattle.net_core.specs.Builder.{Stands, AreShared}
 use Rattle.net_core.specs.Nets.{NetParts}
-use Rattle.walk_net.specs.Next.{next_of}
-use Rattle.walk_net.specs.Renaming.{id_at}
+use Rattle.walk_net.specs.Next.{trees_by, next_of}
+use Rattle.walk_net.specs.Renaming.{id_at, IsIdOf}
 
 -- an output's tree is among the roots
 abbrev pub IsRoot : List Shape → List Whole → List ℕ × ℕ → Type 0
@@ -60,3 +60,11 @@ kept_next (Some register) (Some next) = (register.0, next.0) ∷ []
 abbrev pub kept_nexts : List (Option NodeId) → List (ℕ × ℕ) → List (ℕ × ℕ)
 kept_nexts ids [] = []
 kept_nexts ids (pair ∷ pairs) = kept_next (id_at ids pair.0) (id_at ids pair.1) ++ kept_nexts ids pairs
+
+-- what the walk over a net comes to: its trees, numbered, and for each of its nodes the number of its tree, if it has one
+pub record IsWalked (net : NetParts) (roots : List Whole) (new : List Shape) (ids : List (Option NodeId)) : Type 0 where
+  pub shared : AreShared new
+  pub trees : trees_of new ≡ numbered roots (next_of net) (length net.nexts)
+  pub among : (t : Whole) → IsIn t (trees_of new) → IsIn t (trees_of net.nodes)
+  pub long : length ids ≡ length net.nodes
+  pub each : (j : ℕ) → j < length net.nodes → IsIdOf new (tree_of net.nodes j) (id_at ids j)

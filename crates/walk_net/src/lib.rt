@@ -3,6 +3,10 @@
 #![tactic(auto)]
 
 mod copy;
+mod ends;
+mod keep;
 mod registers;
 mod task;
 mod walk;
+
+pub use keep::{Walked, keep_nodes};
