@@ -16,13 +16,13 @@ use Rattle.net_core.specs.Nets.{NetParts, is_register, IsNext, NextsFit, Outputs
 use Rattle.net_core.proofs.TreeLists.{no_trees, trees_length}
 use Rattle.walk_net.specs.Next.{tree_by, trees_by, next_of}
 use Rattle.walk_net.specs.Renaming.{id_at, IsIdOf, IsNode, AreCopies}
-use Rattle.walk_net.specs.Registers.{Ends}
+use Rattle.walk_net.specs.Registers.{HasEach, Ends}
 use Rattle.walk_net.specs.Answer.{IsRoot, IsKeptAs, AreIds, OutputStands, OutputsStand, NextStands, kept_output, kept_outputs, kept_next, kept_nexts, IsWalked}
 use Rattle.walk_net.proofs.Walking.{in_at}
 use Rattle.walk_net.proofs.Nodes.{tree_in, stands_in, one_node, trees_apart}
 use Rattle.walk_net.proofs.Copies.{Has, has}
 use Rattle.walk_net.proofs.Following.{by_in}
-use Rattle.walk_net.proofs.NextIds.{in_got, got_in, is_next, beside, next_is}
+use Rattle.walk_net.proofs.NextIds.{in_got, got_in, is_next, beside, next_is, register_leaf}
 use Rattle.walk_net.proofs.Rounds.{in_rounds}
 
 -- ---- pairs whose firsts differ
@@ -96,7 +96,7 @@ mapped ns (p ∷ ps) pair o (inl e) r = inl (ap origin_of (sym r) ∙ ap (λ (q 
 mapped ns (p ∷ ps) pair o (inr i) r = inr (mapped ns ps pair o i r)
 
 module _ (net : NetParts) (is : IsNet net) where
-  among : (o : tree.Origin) (t : tree.Whole) → next_of net o ≡ Some t → IsIn o (registers net)
+  among : HasEach (next_of net) (registers net)
   unfolding registers
   among o t e = let b = beside net.nodes is.shared net.nexts is.nexts o t net.nexts e in mapped net.nodes net.nexts b.pair o b.among b.register
 
@@ -108,10 +108,9 @@ module _ (net : NetParts) (is : IsNet net) where
   pub walked_all : (roots : List tree.Whole) (first rooted new : List Shape) (ids : List (Option NodeId)) (origins : List NodeId) → first ≡ [] → trees_of rooted ≡ walk_all roots (trees_of first) → Ends (next_of net) 0 (trees_of rooted) (trees_of new) → AreCopies net.nodes new ids origins → IsWalked net roots new ids
   walked_all roots first rooted new ids origins e w ends c = record {
     shared = c.shared;
-    trees =
-        in_rounds (next_of net) (registers net) among (trees_of rooted) (trees_of new) ends (trees_apart (trees_of new) c.shared.trees.one_id)
-        ∙ ap (rounds (next_of net) (length (registers net)) []) (w ∙ ap (walk_all roots) (ap trees_of e ∙ no_trees))
-        ∙ ap (numbered roots (next_of net)) many;
+    trees = λ given each.
+        in_rounds (next_of net) given each (trees_of rooted) (trees_of new) ends (trees_apart (trees_of new) c.shared.trees.one_id)
+        ∙ ap (rounds (next_of net) (length given) []) (w ∙ ap (walk_all roots) (ap trees_of e ∙ no_trees));
     among = λ t i. by_in net.nodes origins c.nodes t (subst (IsIn t) (sym c.trees) i);
     long = c.long;
     each = c.each;
@@ -121,10 +120,11 @@ module _ (net : NetParts) (is : IsNet net) where
     abbrev Kept : tree.Whole → Type 0
     Kept t = IsKept roots (next_of net) t
 
+    pub trees_numbered : trees_of new ≡ numbered roots (next_of net) (length net.nexts)
+    trees_numbered = w.trees (registers net) among ∙ ap (numbered roots (next_of net)) many
+
     pub kept : NumberedAreKept roots (next_of net) (trees_of new)
-    kept =
-        subst (NumberedAreKept roots (next_of net)) (sym w.trees)
-        (subst (λ n. NumberedAreKept roots (next_of net) (numbered roots (next_of net) n)) many (walk_keeps roots (next_of net) (registers net) among))
+    kept = subst (NumberedAreKept roots (next_of net)) (sym (w.trees (registers net) among)) (walk_keeps roots (next_of net) (registers net) among)
 
     id_kept : (t : tree.Whole) (known : Option NodeId) → IsIdOf new t known → IsKeptAs roots (next_of net) new t known
     id_kept t None h = λ k. h ((kept.kept t).1 k)
@@ -191,13 +191,6 @@ module _ (net : NetParts) (is : IsNet net) where
 
     from_net : (now : ℕ × ℕ) → IsIn now (kept_nexts ids net.nexts) → From now net.nexts
     from_net now i = from net.nexts (λ p k. k) now i
-
-    register_leaf : (t : tree.Whole) → is_register t ≡ true → (o : tree.Origin) × (t ≡ tree.Leaf o)
-    register_leaf (tree.Const b) e = cc
-    register_leaf (tree.Leaf o) e = (o, refl)
-    register_leaf (tree.One op a) e = cc
-    register_leaf (tree.Two op a b) e = cc
-    register_leaf (tree.Mux c a b) e = cc
 
     next_stands : (now : ℕ × ℕ) → IsIn now (kept_nexts ids net.nexts) → NextStands (next_of net) new now
     next_stands now i =

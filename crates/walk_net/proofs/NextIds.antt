@@ -34,6 +34,14 @@ got_in x [] k e = cc
 got_in x (y ∷ ys) zero e = inl (let s : y ≡ x = cc in sym s)
 got_in x (y ∷ ys) (suc k) e = inr (got_in x ys k e)
 
+-- a register's tree is a leaf
+pub register_leaf : (t : tree.Whole) → is_register t ≡ true → (o : tree.Origin) × (t ≡ tree.Leaf o)
+register_leaf (tree.Const b) e = cc
+register_leaf (tree.Leaf o) e = (o, refl)
+register_leaf (tree.One op a) e = cc
+register_leaf (tree.Two op a b) e = cc
+register_leaf (tree.Mux c a b) e = cc
+
 module _ (ns : List Shape) (shared : AreShared ns) (nexts : List (ℕ × ℕ)) (fit : NextsFit ns nexts) where
   pub is_next : (pair : ℕ × ℕ) → IsIn pair nexts → IsNext ns pair
   is_next pair i = let g = in_got pair nexts i in fit.registers g.place pair g.is
@@ -85,13 +93,6 @@ module _ (ns : List Shape) (shared : AreShared ns) (nexts : List (ℕ × ℕ)) (
           e ∙ ap Some (sym b.next ∙ ap (tree_of ns) (one_next b.pair pair b.among i same))
 
   -- ---- by node
-
-  register_leaf : (t : tree.Whole) → is_register t ≡ true → (o : tree.Origin) × (t ≡ tree.Leaf o)
-  register_leaf (tree.Const b) e = cc
-  register_leaf (tree.Leaf o) e = (o, refl)
-  register_leaf (tree.One op a) e = cc
-  register_leaf (tree.Two op a b) e = cc
-  register_leaf (tree.Mux c a b) e = cc
 
   -- what a list of ids by node says
   pub record AreBeside (ids : List (Option NodeId)) : Type 0 where

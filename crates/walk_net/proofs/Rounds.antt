@@ -10,23 +10,11 @@ use Rattle.exec_core.specs.Kept.{walk, was_walked, waits, pending, go_on, rounds
 use Rattle.exec_core.proofs.Lists.{in_left, in_right, apart_split, not_in}
 use Rattle.net_core.specs.Nodes.{tree_at}
 use Rattle.walk_net.specs.Next.{next_tree}
-use Rattle.walk_net.specs.Registers.{Ends, ended, passed, walked}
-use Rattle.walk_net.proofs.Walking.{GoesOn, same_list, further, walk_grows}
+use Rattle.walk_net.specs.Registers.{HasEach, Ends, ended, passed, walked}
+use Rattle.walk_net.proofs.Walking.{or_left, or_right, or_split, GoesOn, same_list, further, walk_grows}
 use Rattle.walk_net.proofs.Following.{no_more}
 
 -- ---- registers whose next-value tree was walked
-
-or_right : (a b : Bool) → b ≡ true → (a || b) ≡ true
-or_right true b e = refl
-or_right false b e = e
-
-or_left : (a b : Bool) → a ≡ true → (a || b) ≡ true
-or_left true b e = refl
-or_left false b e = cc
-
-or_split : (a b : Bool) → (a || b) ≡ true → (a ≡ true) ⊎ (b ≡ true)
-or_split true b e = inl refl
-or_split false b e = inr e
 
 walked_in : (o : Origin) (done : List Origin) → was_walked o done ≡ true → IsIn o done
 walked_in o [] e = cc
@@ -108,7 +96,7 @@ module _ (next : Origin → Option Whole) where
   none_left zero done ts e = refl
   none_left (suc n) done ts e = ap (λ p. go_on (λ done ts. rounds next n done ts) p done ts) e
 
-  module _ (registers : List Origin) (among : (o : Origin) (t : Whole) → next o ≡ Some t → IsIn o registers) where
+  module _ (registers : List Origin) (among : HasEach next registers) where
     -- enough rounds are left, and those that were made were of registers that differ
     record Left (n : ℕ) (done : List Origin) : Type 0 where
       differ : AreApart done

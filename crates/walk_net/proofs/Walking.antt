@@ -18,11 +18,11 @@ has_is t (x ∷ xs) = ap (λ b. same_tree same_origin t x || b) (has_is t xs)
 pub with_is_add : (t : Whole) (ts : List Whole) → with_tree t ts ≡ add t ts
 with_is_add t ts = ap (λ b. if b then ts else ts ++ t ∷ []) (has_is t ts)
 
-or_left : (a b : Bool) → a ≡ true → (a || b) ≡ true
+pub or_left : (a b : Bool) → a ≡ true → (a || b) ≡ true
 or_left true b e = refl
 or_left false b e = cc
 
-or_right : (a b : Bool) → b ≡ true → (a || b) ≡ true
+pub or_right : (a b : Bool) → b ≡ true → (a || b) ≡ true
 or_right true b e = refl
 or_right false b e = e
 
@@ -31,7 +31,7 @@ in_has t [] i = absurd i
 in_has t (x ∷ xs) (inl e) = or_left (same_tree same_origin t x) (has_number t xs) ((tests_trees t x).1 e)
 in_has t (x ∷ xs) (inr i) = or_right (same_tree same_origin t x) (has_number t xs) (in_has t xs i)
 
-or_split : (a b : Bool) → (a || b) ≡ true → (a ≡ true) ⊎ (b ≡ true)
+pub or_split : (a b : Bool) → (a || b) ≡ true → (a ≡ true) ⊎ (b ≡ true)
 or_split true b e = inl refl
 or_split false b e = inr e
 

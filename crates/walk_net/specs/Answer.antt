@@ -8,6 +8,7 @@ use Rattle.net_core.specs.Nodes.{Shape, trees_of, tree_of}
 use Rattle.net_core.specs.Builder.{Stands, AreShared}
 use Rattle.net_core.specs.Nets.{NetParts}
 use Rattle.walk_net.specs.Next.{trees_by, next_of}
+use Rattle.walk_net.specs.Registers.{HasEach}
 use Rattle.walk_net.specs.Renaming.{id_at, IsIdOf}
 
 -- an output's tree is among the roots
@@ -61,10 +62,14 @@ abbrev pub kept_nexts : List (Option NodeId) → List (ℕ × ℕ) → List (ℕ
 kept_nexts ids [] = []
 kept_nexts ids (pair ∷ pairs) = kept_next (id_at ids pair.0) (id_at ids pair.1) ++ kept_nexts ids pairs
 
+-- the trees are the numbered ones, in as many rounds as some list has registers that has each of them
+abbrev pub AreNumbers : List Whole → (Origin → Option Whole) → List Whole → Type 0
+AreNumbers roots next trees = (registers : List Origin) → HasEach next registers → trees ≡ numbered roots next (length registers)
+
 -- what the walk over a net comes to: its trees, numbered, and for each of its nodes the number of its tree, if it has one
 pub record IsWalked (net : NetParts) (roots : List Whole) (new : List Shape) (ids : List (Option NodeId)) : Type 0 where
   pub shared : AreShared new
-  pub trees : trees_of new ≡ numbered roots (next_of net) (length net.nexts)
+  pub trees : AreNumbers roots (next_of net) (trees_of new)
   pub among : (t : Whole) → IsIn t (trees_of new) → IsIn t (trees_of net.nodes)
   pub long : length ids ≡ length net.nodes
   pub each : (j : ℕ) → j < length net.nodes → IsIdOf new (tree_of net.nodes j) (id_at ids j)

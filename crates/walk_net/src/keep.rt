@@ -6,7 +6,7 @@ ghost use Rattle.exec_core.specs.Lists.{EachOf};
 ghost use Rattle.exec_core.specs.Kept.{numbered, NumberedAreKept};
 ghost use Rattle.walk_net.specs.Next.{trees_by, next_of};
 ghost use Rattle.walk_net.specs.Renaming.{id_at, IsNode};
-ghost use Rattle.walk_net.specs.Answer.{IsRoot, AreIds, OutputsStand, NextStands, IsWalked};
+ghost use Rattle.walk_net.specs.Answer.{IsRoot, AreIds, AreNumbers, OutputsStand, NextStands, IsWalked};
 
 use crate::ends::{nexts_of, outputs_of};
 use crate::registers::{next_ids, no_ids, walk_nexts};
@@ -74,6 +74,7 @@ pub fn keep_nodes(alloc: Global, net: &Net, roots: &[NodeId]) -> Result<Walked, 
     requires roots { EachOf (IsNode net.now.nodes) roots.now }
     requires outputs { EachOf (IsRoot net.now.nodes (trees_by net.now.nodes roots.now)) net.now.outputs }
     ensures nodes { IfOk result (λ walked. trees_of walked.net.nodes ≡ numbered (trees_by net.now.nodes roots.now) (next_of net.now) (length net.now.nexts)) }
+    ensures rounds { IfOk result (λ walked. AreNumbers (trees_by net.now.nodes roots.now) (next_of net.now) (trees_of walked.net.nodes)) }
     ensures kept { IfOk result (λ walked. NumberedAreKept (trees_by net.now.nodes roots.now) (next_of net.now) (trees_of walked.net.nodes)) }
     ensures ids { IfOk result (λ walked. AreIds (trees_by net.now.nodes roots.now) (next_of net.now) net.now.nodes walked.net.nodes walked.ids) }
     ensures outputs { IfOk result (λ walked. OutputsStand net.now.nodes walked.net.nodes net.now.outputs walked.net.outputs) }

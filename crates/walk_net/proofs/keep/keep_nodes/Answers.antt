@@ -4,8 +4,8 @@ use Rattle.exec_core.specs.Kept.{numbered, NumberedAreKept}
 use Rattle.net_core.specs.Nodes.{Shape, trees_of}
 use Rattle.net_core.specs.Nets.{NetParts, OutputsFit, NextsFit, outputs_of as net_outputs, nexts_of as net_nexts}
 use Rattle.walk_net.specs.Next.{trees_by, next_of}
-use Rattle.walk_net.specs.Answer.{AreIds, OutputsStand, NextStands, kept_outputs, kept_nexts}
-use Rattle.walk_net.proofs.Keeping.{kept, are_ids, outputs_stand, outputs_fit, nexts_stand, nexts_fit}
+use Rattle.walk_net.specs.Answer.{AreIds, AreNumbers, OutputsStand, NextStands, kept_outputs, kept_nexts}
+use Rattle.walk_net.proofs.Keeping.{trees_numbered, kept, are_ids, outputs_stand, outputs_fit, nexts_stand, nexts_fit}
 use Rattle.walk_net.proofs.keep.keep_nodes.Goals as goal
 
 pub finish-requires-clause-outputs : goal.finish-requires-clause-outputs
@@ -21,7 +21,11 @@ finish-requires-clause-nexts c =
     (nexts_fit c.args.net.now c.walked_ids.ensures.net _ c.walked_ids.new.builder c.in_ok-ids.ids.items c.in_ok-ids.ensures.walked)
 
 pub returns-clause-nodes : goal.returns-clause-nodes
-returns-clause-nodes c = ap (λ (n : NetParts). trees_of n.nodes) c.finish.ensures.parts ∙ c.in_ok-ids.ensures.walked.trees
+returns-clause-nodes c = ap (λ (n : NetParts). trees_of n.nodes) c.finish.ensures.parts ∙ trees_numbered c.args.net.now c.walked_ids.ensures.net (trees_by c.args.net.now.nodes c.args.roots.now) c.walked_ids.new.builder c.in_ok-ids.ids.items c.in_ok-ids.ensures.walked
+
+pub returns-clause-rounds : goal.returns-clause-rounds
+returns-clause-rounds c =
+    subst (λ (n : NetParts). AreNumbers (trees_by c.args.net.now.nodes c.args.roots.now) (next_of c.args.net.now) (trees_of n.nodes)) (sym c.finish.ensures.parts) c.in_ok-ids.ensures.walked.trees
 
 pub returns-clause-kept : goal.returns-clause-kept
 returns-clause-kept c =
