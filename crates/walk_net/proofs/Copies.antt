@@ -1,6 +1,6 @@
 -- Copies of nodes: one more of them.
-use Rattle.std.proofs.Common.{◌≡◌, ◌≢◌, ℕ, zero, suc, ◌+◌, ◌<◌, ◌≤◌, Bool, true, false, List, [], ◌∷◌, ◌++◌, length, Option, Some, None, if◌then◌else◌, inl, inr, ⊎_elim, refl, sym, ap, ap₂, ◌∙◌, subst, arith, length-append}
-use Rattle.std.specs.Prelude.{map, nat_lt, slice_set}
+use Rattle.std.proofs.Common.{◌≡◌, ℕ, ◌+◌, ◌<◌, ◌≤◌, Bool, true, false, List, [], ◌∷◌, ◌++◌, length, Option, Some, None, if◌then◌else◌, ⊎_elim, refl, sym, ap, ap₂, ◌∙◌, subst, arith, length-append}
+use Rattle.std.specs.Prelude.{nat_lt, slice_set}
 use Rattle.std.proofs.lemmas.List.{get_or-set_same, get_or-set_other, length-map, map-append}
 use Rattle.std.proofs.Math.ListN.{length-set}
 use Rattle.std.proofs.lemmas.Bool.{cases_lt}
@@ -11,14 +11,14 @@ use Rattle.tree_core.specs.Width.{IsWhole}
 use Rattle.tree_core.specs.Fold.{folded}
 use Rattle.exec_core.specs.Lists.{EachOf, IsIn}
 use Rattle.exec_core.specs.Kept.{has_number, add}
-use Rattle.net_core.specs.Nodes.{Shape, Fixed, TopInput, Register, OfOne, OfTwo, OfMux, shape_at, node_tree, trees_of, tree_of, OperandsBelow, AreNumbered}
+use Rattle.net_core.specs.Nodes.{Shape, Fixed, TopInput, Register, OfOne, OfTwo, OfMux, shape_at, node_tree, trees_of, tree_of, OperandsBelow}
 use Rattle.net_core.specs.Builder.{Stands, AreShared, Keeps, Adds}
 use Rattle.net_core.proofs.TreeLists.{trees_length, tree_is}
 use Rattle.walk_net.specs.Next.{tree_by, trees_by}
 use Rattle.walk_net.specs.Tasks.{OperandsIn}
 use Rattle.walk_net.specs.Renaming.{id_at, IsIdOf, IsNode, AreCopies, with_origin, number, copied_tree, HasCopy, OperandsHaveCopies}
 use Rattle.walk_net.proofs.Walking.{with_is_add, add_split}
-use Rattle.walk_net.proofs.Nodes.{tree_in, stands_in, one_node, whole_at, folded_at}
+use Rattle.walk_net.proofs.Nodes.{stands_in, one_node, whole_at, folded_at}
 use Rattle.walk_net.proofs.Doing.{IsKnown}
 
 pub known_by : (new : List Shape) (t : tree.Whole) (known : Option NodeId) → IsIdOf new t known → IsKnown known t (trees_of new)

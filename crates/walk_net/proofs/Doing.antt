@@ -9,7 +9,7 @@ use Rattle.net_core.specs.Nodes.{Shape, Fixed, TopInput, Register, OfOne, OfTwo,
 use Rattle.net_core.proofs.TreeLists.{tree_is}
 use Rattle.walk_net.specs.declared.task.Task.{Task}
 use Rattle.walk_net.specs.declared.task.Task.TheVariants.{Enter, Leave}
-use Rattle.walk_net.specs.Tasks.{did, all_done, OperandsIn, CanDo, CanDoAll, id_of, operand_tasks, entered, height, weight, work, Stacked}
+use Rattle.walk_net.specs.Tasks.{did, all_done, OperandsIn, CanDo, CanDoAll, operand_tasks, entered, height, weight, work, Stacked}
 use Rattle.walk_net.proofs.Walking.{walk_grows, walk_has, walk_there, still_in, HasOperands}
 
 -- a node that has an id has its tree among the numbered ones
@@ -114,10 +114,14 @@ module _ (ns : List Shape) (ts : List tree.Whole) (id : NodeId) (within : id.0 <
       let us = walk y (walk x ts) in
       record {
         done = ap (λ t. add t (walk z us)) e ∙ sym (ap (λ t. walk t ts) e);
-        can =
-            ((within, subst (λ t. OperandsIn t (walk z us)) (sym e)
-            (still_in (walk_grows z us) x (still_in (walk_grows y (walk x ts)) x (walk_has x ts)), still_in (walk_grows z us) y (walk_has y (walk x ts)), walk_has z us)),
-            (omega arith, (omega arith, (omega arith, tt))));
+        can = (
+          (
+            within,
+            subst (λ t. OperandsIn t (walk z us)) (sym e)
+                (still_in (walk_grows z us) x (still_in (walk_grows y (walk x ts)) x (walk_has x ts)), still_in (walk_grows z us) y (walk_has y (walk x ts)), walk_has z us),
+          ),
+          (omega arith, (omega arith, (omega arith, tt))),
+        );
         less =
             let l = lower c id.0 h.0 in let m = lower a id.0 h.1 in let k = lower b id.0 h.2 in
             let n = height_some c in let o = height_some a in let p = height_some b in omega (arith, l, m, k, n, o, p);

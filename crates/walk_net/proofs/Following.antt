@@ -1,20 +1,17 @@
 -- The walk over the next values of registers, place by place.
-use Rattle.std.proofs.Common.{◌≡◌, ℕ, zero, suc, ◌+◌, ◌<◌, ◌≤◌, List, [], ◌∷◌, ◌++◌, length, get_or, take, drop, Option, Some, None, ◌⊎◌, inl, inr, ⊎_elim, refl, sym, ap, ◌∙◌, subst, arith}
-use Rattle.std.specs.Prelude.{map, option_map}
+use Rattle.std.proofs.Common.{◌≡◌, ℕ, zero, suc, ◌+◌, ◌<◌, ◌≤◌, List, [], ◌∷◌, ◌++◌, length, get_or, take, drop, Option, Some, None, inl, inr, ⊎_elim, refl, sym, ap, ◌∙◌, subst, arith}
+use Rattle.std.specs.Prelude.{option_map}
 use Rattle.std.proofs.lemmas.List.{length-map}
 use Rattle.std.proofs.Math.Seq.{take-append_seam}
 use Rattle.bv_core.specs.declared.reference.NodeId.{NodeId}
 use Rattle.tree_core.specs.Tree.{Origin, Whole}
 use Rattle.exec_core.specs.Lists.{EachOf, IsIn, IsNotIn, AreApart}
-use Rattle.exec_core.specs.Kept.{walk}
-use Rattle.exec_core.proofs.Lists.{each_member}
 use Rattle.net_core.specs.Nodes.{Shape, tree_at, trees_of, tree_of}
 use Rattle.net_core.specs.Nets.{NetParts}
-use Rattle.net_core.specs.Builder.{AreShared}
 use Rattle.net_core.proofs.TreeLists.{trees_length}
 use Rattle.walk_net.specs.Next.{tree_by, trees_by, next_of, next_tree}
 use Rattle.walk_net.specs.Renaming.{id_at, IsNode, AreCopies}
-use Rattle.walk_net.specs.Registers.{Ends, ended, passed, walked, followed, AreNextIds}
+use Rattle.walk_net.specs.Registers.{Ends, passed, walked, followed, AreNextIds}
 use Rattle.walk_net.proofs.Nodes.{tree_in, trees_apart}
 
 -- what is written through a slice of a vector

@@ -1,23 +1,22 @@
 -- What the walk over a net comes to is what is kept of it.
-use Rattle.std.proofs.Common.{◌≡◌, ℕ, zero, suc, ◌+◌, ◌<◌, ◌≤◌, true, List, [], ◌∷◌, ◌++◌, length, Option, Some, None, ◌⊎◌, inl, inr, ⊎_elim, refl, sym, ap, ◌∙◌, subst, arith}
+use Rattle.std.proofs.Common.{◌≡◌, ℕ, zero, suc, ◌<◌, true, List, [], ◌∷◌, ◌++◌, length, Option, Some, None, ◌⊎◌, inl, inr, ⊎_elim, refl, sym, ap, ◌∙◌, subst, arith}
 use Rattle.std.specs.Prelude.{map, slice_get}
 use Rattle.std.proofs.lemmas.List.{length-map}
 use Rattle.bv_core.specs.declared.reference.NodeId.{NodeId}
-use Rattle.bv_core.specs.Value.{Bits}
 use Rattle.tree_core.specs.Tree as tree
 use Rattle.tree_core.specs.Width.{tree_width}
 use Rattle.exec_core.specs.Lists.{EachOf, IsIn, IsNotIn, AreApart}
 use Rattle.exec_core.specs.Kept.{IsKept, root, of_register, walk_all, numbered, rounds, NumberedAreKept}
-use Rattle.exec_core.proofs.Lists.{each_member, each_from, in_left, in_right, not_in}
+use Rattle.exec_core.proofs.Lists.{each_from, in_left, in_right, not_in}
 use Rattle.exec_core.proofs.Keeping.{walk_keeps}
-use Rattle.net_core.specs.Nodes.{Shape, trees_of, tree_of, width_at}
+use Rattle.net_core.specs.Nodes.{Shape, trees_of, tree_of}
 use Rattle.net_core.specs.Builder.{Stands, AreShared}
 use Rattle.net_core.specs.Nets.{NetParts, is_register, IsNext, NextsFit, OutputsFit, IsNet}
 use Rattle.net_core.proofs.TreeLists.{no_trees, trees_length}
-use Rattle.walk_net.specs.Next.{tree_by, trees_by, next_of}
+use Rattle.walk_net.specs.Next.{trees_by, next_of}
 use Rattle.walk_net.specs.Renaming.{id_at, IsIdOf, IsNode, AreCopies}
 use Rattle.walk_net.specs.Registers.{HasEach, Ends}
-use Rattle.walk_net.specs.Answer.{IsRoot, IsKeptAs, AreIds, OutputStands, OutputsStand, NextStands, kept_output, kept_outputs, kept_next, kept_nexts, IsWalked}
+use Rattle.walk_net.specs.Answer.{IsRoot, IsKeptAs, AreIds, OutputsStand, NextStands, kept_output, kept_outputs, kept_next, kept_nexts, IsWalked}
 use Rattle.walk_net.proofs.Walking.{in_at}
 use Rattle.walk_net.proofs.Nodes.{tree_in, stands_in, one_node, trees_apart}
 use Rattle.walk_net.proofs.Copies.{Has, has}
@@ -45,13 +44,14 @@ pub record HaveOnePlace (pairs : List (ℕ × ℕ)) : Type 0 where
 
 firsts_apart : (pairs : List (ℕ × ℕ)) → HaveOnePlace pairs → AreApart (firsts pairs)
 firsts_apart [] h = tt
-firsts_apart (p ∷ ps) h =
-    (not_first p.0 ps (λ q i e.
-    let g = in_got q ps i in
-    let there : slice_get ps g.place ≡ Some (p.0, q.1) = g.is ∙ ap (λ (x : ℕ). Some (x, q.1)) e in
-    let s : 0 ≡ suc g.place = h.one 0 (suc g.place) p.0 p.1 q.1 refl there in
-    absurd (omega arith)),
-    firsts_apart ps (record { one = λ j k i m n e f. let s : suc j ≡ suc k = h.one (suc j) (suc k) i m n e f in omega arith }))
+firsts_apart (p ∷ ps) h = (
+  not_first p.0 ps (λ q i e.
+      let g = in_got q ps i in
+      let there : slice_get ps g.place ≡ Some (p.0, q.1) = g.is ∙ ap (λ (x : ℕ). Some (x, q.1)) e in
+      let s : 0 ≡ suc g.place = h.one 0 (suc g.place) p.0 p.1 q.1 refl there in
+      absurd (omega arith)),
+  firsts_apart ps (record { one = λ j k i m n e f. let s : suc j ≡ suc k = h.one (suc j) (suc k) i m n e f in omega arith }),
+)
 
 one_place : (pairs : List (ℕ × ℕ)) → AreApart (firsts pairs) → (j k i m n : ℕ) → slice_get pairs j ≡ Some (i, m) → slice_get pairs k ≡ Some (i, n) → j ≡ k
 one_place [] a j k i m n e f = cc
@@ -253,14 +253,15 @@ module _ (net : NetParts) (is : IsNet net) where
         by_ids : (r n : Option NodeId) → IsIdOf new (tree_of net.nodes p.0) r → AreApart (firsts (kept_nexts ids ps)) → ((now : ℕ × ℕ) → IsIn now (kept_nexts ids ps) → From now ps) → AreApart (firsts (kept_next r n ++ kept_nexts ids ps))
         by_ids None n s rest g = rest
         by_ids (Some r) None s rest g = rest
-        by_ids (Some r) (Some n) s rest g =
-            (not_first r.0 (kept_nexts ids ps) (λ now i e.
-            let f = g now i in
-            let same : f.pair.0 ≡ p.0 =
-            one_node net.nodes is.shared f.pair.0 p.0 (within_first f.pair (h f.pair (inr f.among))) (within_first p (h p (inl refl)))
-            (sym f.is_kept.register.tree ∙ ap (tree_of new) e ∙ s.tree) in
-            not_in p.0 (firsts ps) a.0 (subst (λ x. IsIn x (firsts ps)) same (first_in f.pair ps f.among))),
-            rest)
+        by_ids (Some r) (Some n) s rest g = (
+          not_first r.0 (kept_nexts ids ps) (λ now i e.
+              let f = g now i in
+              let same : f.pair.0 ≡ p.0 =
+              one_node net.nodes is.shared f.pair.0 p.0 (within_first f.pair (h f.pair (inr f.among))) (within_first p (h p (inl refl)))
+              (sym f.is_kept.register.tree ∙ ap (tree_of new) e ∙ s.tree) in
+              not_in p.0 (firsts ps) a.0 (subst (λ x. IsIn x (firsts ps)) same (first_in f.pair ps f.among))),
+          rest,
+        )
 
     kept_next_fits : (now : ℕ × ℕ) → IsIn now (kept_nexts ids net.nexts) → IsNext new now
     kept_next_fits now i =

@@ -1,6 +1,6 @@
 -- The next values of a net, by node and by register.
-use Rattle.std.proofs.Common.{◌≡◌, ◌≢◌, ℕ, zero, suc, ◌+◌, ◌<◌, ◌≤◌, Bool, true, false, List, [], ◌∷◌, ◌++◌, length, Option, Some, None, if◌then◌else◌, ◌⊎◌, inl, inr, ⊎_elim, refl, sym, ap, ◌∙◌, subst, arith}
-use Rattle.std.specs.Prelude.{map, option_map, slice_get, slice_set}
+use Rattle.std.proofs.Common.{◌≡◌, ℕ, zero, suc, ◌<◌, Bool, true, false, List, [], ◌∷◌, length, Option, Some, None, if◌then◌else◌, ◌⊎◌, inl, inr, ⊎_elim, refl, sym, ap, ◌∙◌, subst, arith}
+use Rattle.std.specs.Prelude.{option_map, slice_get, slice_set}
 use Rattle.std.proofs.lemmas.List.{get_or-set_same, get_or-set_other}
 use Rattle.std.proofs.Math.ListN.{length-set}
 use Rattle.bv_core.specs.declared.reference.NodeId.{NodeId}
@@ -8,11 +8,11 @@ use Rattle.tree_core.specs.Tree as tree
 use Rattle.tree_core.specs.Fold.{same_tree, same_origin}
 use Rattle.tree_core.proofs.Same.{tests_trees}
 use Rattle.exec_core.specs.Lists.{EachOf, IsIn}
-use Rattle.exec_core.proofs.Lists.{each_member, each_from}
+use Rattle.exec_core.proofs.Lists.{each_from}
 use Rattle.net_core.specs.Nodes.{Shape, tree_of}
 use Rattle.net_core.specs.Nets.{NetParts, nexts_of, is_register, IsNext, NextsFit, IsNet}
 use Rattle.net_core.specs.Builder.{AreShared}
-use Rattle.walk_net.specs.Next.{tree_by, next_among, next_of, next_tree}
+use Rattle.walk_net.specs.Next.{tree_by, next_among, next_tree}
 use Rattle.walk_net.specs.Renaming.{id_at}
 use Rattle.walk_net.specs.Registers.{with_nexts, HasPlace, AreNextIds}
 use Rattle.walk_net.proofs.Nodes.{one_node}
@@ -181,10 +181,13 @@ next_ids_are net is pairs same none ids long blank e = subst (AreNextIds net) (s
   where
     fit : NextsFit net.nodes (nexts_of pairs)
     fit = subst (NextsFit net.nodes) (sym same) is.nexts
+
     places : EachOf (HasPlace (length net.nodes)) pairs
     places = have_places net.nodes pairs fit
+
     unset : (j : ℕ) (id : NodeId) → id_at none j ≡ Some id → ⊥
     unset j id k = let n : id_at none j ≡ None = blank j in cc
+
     b : AreBeside net.nodes is.shared net.nexts is.nexts (with_nexts none pairs)
     b = record {
       sound = λ j id k. ⊎_elim (λ i. subst (IsIn (j, id.0)) same i) (λ f. absurd (unset j id f)) (written (length net.nodes) none pairs long places j id k);

@@ -1,5 +1,5 @@
 -- The trees of the nodes of a builder.
-use Rattle.std.proofs.Common.{◌≡◌, ℕ, zero, suc, ◌<◌, ◌≤◌, List, [], ◌∷◌, ◌++◌, length, refl, sym, ap, ◌∙◌, subst, arith}
+use Rattle.std.proofs.Common.{◌≡◌, ℕ, suc, ◌<◌, List, [], ◌∷◌, length, sym, ◌∙◌, subst, arith}
 use Rattle.tree_core.specs.Tree as tree
 use Rattle.tree_core.specs.Width.{IsWhole}
 use Rattle.tree_core.specs.Fold.{folded}
@@ -47,6 +47,7 @@ not_in_by x (t ∷ ts) h = (λ e. h 0 (omega arith) e, not_in_by x ts (λ j l e.
 -- the trees of a list with one id each differ
 pub trees_apart : (ts : List tree.Whole) → HaveOneIdEach ts → AreApart ts
 trees_apart [] h = tt
-trees_apart (t ∷ ts) h =
-    (not_in_by t ts (λ j l e. let s : suc j ≡ 0 = h.one (suc j) 0 (omega arith) (omega arith) e in absurd (omega arith)),
-    trees_apart ts (record { one = λ i j l m e. let s : suc i ≡ suc j = h.one (suc i) (suc j) (omega arith) (omega arith) e in omega arith }))
+trees_apart (t ∷ ts) h = (
+  not_in_by t ts (λ j l e. let s : suc j ≡ 0 = h.one (suc j) 0 (omega arith) (omega arith) e in absurd (omega arith)),
+  trees_apart ts (record { one = λ i j l m e. let s : suc i ≡ suc j = h.one (suc i) (suc j) (omega arith) (omega arith) e in omega arith }),
+)

@@ -2,12 +2,12 @@
 use Rattle.std.specs.Prelude.{◌≡◌, ℕ, ◌<◌, List, [], ◌∷◌, ◌++◌, length, Option, Some, None}
 use Rattle.bv_core.specs.declared.reference.NodeId.{NodeId}
 use Rattle.tree_core.specs.Tree.{Leaf, Origin, Whole}
-use Rattle.exec_core.specs.Lists.{EachOf, IsIn}
+use Rattle.exec_core.specs.Lists.{IsIn}
 use Rattle.exec_core.specs.Kept.{IsKept, numbered}
 use Rattle.net_core.specs.Nodes.{Shape, trees_of, tree_of}
 use Rattle.net_core.specs.Builder.{Stands, AreShared}
 use Rattle.net_core.specs.Nets.{NetParts}
-use Rattle.walk_net.specs.Next.{trees_by, next_of}
+use Rattle.walk_net.specs.Next.{next_of}
 use Rattle.walk_net.specs.Registers.{HasEach}
 use Rattle.walk_net.specs.Renaming.{id_at, IsIdOf}
 

@@ -1,8 +1,6 @@
 -- The next values of a net's registers, as trees.
 use Rattle.std.specs.Prelude.{ℕ, List, [], ◌∷◌, Option, Some, None, if◌then◌else◌, map}
 use Rattle.bv_core.specs.declared.reference.NodeId.{NodeId}
-use Rattle.bv_core.specs.declared.operators.Op1.{Op1}
-use Rattle.bv_core.specs.declared.operators.Op2.{Op2}
 use Rattle.tree_core.specs.Tree.{Const, Leaf, One, Two, Mux, Origin, Whole}
 use Rattle.tree_core.specs.Fold.{same_tree, same_origin}
 use Rattle.net_core.specs.Nodes.{Shape, tree_of}

@@ -85,11 +85,7 @@ fn copied_choice(
 }
 
 /// The copy of a node, over those of its operands.
-fn copied(
-    builder: &mut NetBuilder,
-    ids: &[Option<NodeId>],
-    node: &Node,
-) -> Result<NodeId, NoMemory>
+fn copied(builder: &mut NetBuilder, ids: &[Option<NodeId>], node: &Node) -> Result<NodeId, NoMemory>
     requires operands { OperandsHaveCopies builder.old ids.now (shape_of node.now) }
     requires whole { IsWhole (copied_tree builder.old ids.now (shape_of node.now)) }
     ensures stands { IfOk result (λ id. Stands builder.new id.0 (folded (copied_tree builder.old ids.now (shape_of node.now)))) }

@@ -1,8 +1,8 @@
-use Rattle.std.proofs.Common.{◌≡◌, List, sym, ap, ◌∙◌, subst}
+use Rattle.std.proofs.Common.{sym, ap, ◌∙◌, subst}
 use Rattle.exec_core.specs.Lists.{EachOf}
-use Rattle.exec_core.specs.Kept.{numbered, NumberedAreKept}
-use Rattle.net_core.specs.Nodes.{Shape, trees_of}
-use Rattle.net_core.specs.Nets.{NetParts, OutputsFit, NextsFit, outputs_of as net_outputs, nexts_of as net_nexts}
+use Rattle.exec_core.specs.Kept.{NumberedAreKept}
+use Rattle.net_core.specs.Nodes.{trees_of}
+use Rattle.net_core.specs.Nets.{NetParts, OutputsFit, NextsFit}
 use Rattle.walk_net.specs.Next.{trees_by, next_of}
 use Rattle.walk_net.specs.Answer.{AreIds, AreNumbers, OutputsStand, NextStands, kept_outputs, kept_nexts}
 use Rattle.walk_net.proofs.Keeping.{trees_numbered, kept, are_ids, outputs_stand, outputs_fit, nexts_stand, nexts_fit}

@@ -1,7 +1,6 @@
 use Rattle.std.proofs.Common.{◌≡◌, length, sym, ap, ◌∙◌, subst}
 use Rattle.exec_core.specs.Lists.{EachOf}
 use Rattle.net_core.specs.Nets.{NextsFit}
-use Rattle.walk_net.specs.Renaming.{id_at}
 use Rattle.walk_net.specs.Registers.{HasPlace, AreNextIds, with_nexts}
 use Rattle.walk_net.proofs.Following.{written_back}
 use Rattle.walk_net.proofs.NextIds.{have_places, nexts_length, next_ids_are}

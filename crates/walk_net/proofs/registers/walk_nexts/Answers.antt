@@ -1,7 +1,6 @@
 use Rattle.std.proofs.Common.{◌<◌, ◌≤◌, length, arith, sym}
 use Rattle.std.proofs.lemmas.Grind.{common_steps}
 use Rattle.net_core.specs.Nodes.{trees_of}
-use Rattle.walk_net.specs.Next.{next_of}
 use Rattle.walk_net.specs.Registers.{ended}
 use Rattle.walk_net.proofs.Following.{few, long, at_place}
 use Rattle.walk_net.proofs.registers.walk_nexts.Goals as goal

@@ -2,7 +2,6 @@ use Rattle.std.proofs.Common.{OnOk, subst, sym}
 use Rattle.std.proofs.lemmas.Result.{on_ok_weaker}
 use Rattle.net_core.specs.Nodes.{tree_of, trees_of}
 use Rattle.walk_net.specs.Tasks.{did, CanDo, CanDoAll, Stacked}
-use Rattle.walk_net.specs.declared.task.Task.TheVariants.{Enter}
 use Rattle.walk_net.specs.Renaming.{id_at}
 use Rattle.walk_net.proofs.Nodes.{has_operands}
 use Rattle.walk_net.proofs.Doing.{entered_stack, entered_at}

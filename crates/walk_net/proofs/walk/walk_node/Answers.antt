@@ -1,6 +1,5 @@
-use Rattle.std.proofs.Common.{[], ◌++◌, ◌∷◌, ◌≡◌, List, sym, ap, ◌∙◌, subst}
-use Rattle.net_core.specs.Nodes.{trees_of, tree_of}
-use Rattle.exec_core.specs.Kept.{walk}
+use Rattle.std.proofs.Common.{[], ◌++◌, ◌∷◌, ap, ◌∙◌}
+use Rattle.net_core.specs.Nodes.{trees_of}
 use Rattle.walk_net.specs.declared.task.Task.TheVariants.{Enter}
 use Rattle.walk_net.proofs.Doing.{can_enter, enter_done}
 use Rattle.walk_net.proofs.walk.walk_node.Goals as goal
