@@ -6,3 +6,4 @@ pub mod Following
 pub mod NextIds
 pub mod Rounds
 pub mod Keeping
+pub mod Outputs

@@ -1,5 +1,5 @@
 -- What is kept of a net.
-use Rattle.std.specs.Prelude.{◌≡◌, ℕ, ◌<◌, List, [], ◌∷◌, ◌++◌, length, Option, Some, None}
+use Rattle.std.specs.Prelude.{◌≡◌, ℕ, ◌<◌, List, [], ◌∷◌, ◌++◌, length, map, Option, Some, None}
 use Rattle.bv_core.specs.declared.reference.NodeId.{NodeId}
 use Rattle.tree_core.specs.Tree.{Leaf, Origin, Whole}
 use Rattle.exec_core.specs.Lists.{IsIn}
@@ -14,6 +14,20 @@ use Rattle.walk_net.specs.Renaming.{id_at, IsIdOf}
 -- an output's tree is among the roots
 abbrev pub IsRoot : List Shape → List Whole → List ℕ × ℕ → Type 0
 IsRoot ns roots output = IsIn (tree_of ns output.1) roots
+
+-- the trees of the outputs, in order
+abbrev pub output_tree : List Shape → List ℕ × ℕ → Whole
+output_tree ns output = tree_of ns output.1
+
+abbrev pub output_trees : NetParts → List Whole
+output_trees net = map (output_tree net.nodes) net.outputs
+
+-- their nodes
+abbrev pub output_node : List ℕ × NodeId → NodeId
+output_node output = output.1
+
+abbrev pub output_nodes : List (List ℕ × NodeId) → List NodeId
+output_nodes outputs = map output_node outputs
 
 -- a node got an id exactly where its tree is kept, and the id stands for that tree
 abbrev pub IsKeptAs : List Whole → (Origin → Option Whole) → List Shape → Whole → Option NodeId → Type 0

@@ -6,7 +6,9 @@ mod copy;
 mod ends;
 mod keep;
 mod registers;
+mod roots;
 mod task;
 mod walk;
 
 pub use keep::{Walked, keep_nodes};
+pub use roots::output_roots;
