@@ -1,0 +1,9 @@
+pub mod Walking
+pub mod Nodes
+pub mod Doing
+pub mod Copies
+pub mod Following
+pub mod NextIds
+pub mod Rounds
+pub mod Keeping
+pub mod Outputs

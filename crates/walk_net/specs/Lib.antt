@@ -1,0 +1,5 @@
+pub mod Next
+pub mod Tasks
+pub mod Renaming
+pub mod Registers
+pub mod Answer
