@@ -1,5 +1,5 @@
 -- A command asks for one answer, or for the loops of one design; and the text that goes with what was judged is that of each answer.
-use Rattle.std.proofs.Common.{◌≡◌, ℕ, List, [], ◌∷◌, Option, Some, None, Result, Ok, Err, length, nat_le, if◌then◌else◌, refl, sym, ◌∙◌, ap, subst, ◌⊎◌, inl, inr}
+use Rattle.std.proofs.Common.{◌≡◌, ℕ, List, [], ◌∷◌, Option, Some, None, Result, Ok, Err, length, nat_le, if◌then◌else◌, refl, sym, ◌∙◌, ap, ap₂, subst, ◌⊎◌, inl, inr}
 use Rattle.std.specs.Prelude.{option_map}
 use Rattle.std.specs.Str.Lines.{lines}
 use Rattle.io_edge.specs.Taken.{Appends}
@@ -13,14 +13,16 @@ use Rattle.exec_core.specs.Block.{Name}
 use Rattle.design_core.specs.declared.Ports.{Ports}
 use Rattle.design_core.specs.Design.{Design}
 use Rattle.design_core.specs.DesignView.{design_of}
-use Rattle.dep_order.specs.Results.{TellsLoop}
+use Rattle.dep_order.specs.Results.{TellsOrder, TellsLoop}
 use Rattle.dep_order.proofs.Exclusive.{orders_have_no_loop}
 use Rattle.stim_text.specs.Rows.{rows_after_header, rows_of}
 use Rattle.stim_text.specs.declared.StimFault.{StimFault}
 use Rattle.stim_text.specs.declared.StimFault.TheVariants.{TooLong}
 use Rattle.world_core.specs.World.{trail_text}
 use Rattle.world_core.specs.Source.{source_world}
-use Rattle.trail_net.specs.Runs.{RunsOver}
+use Rattle.world_core.specs.declared.mode.Mode.{Mode}
+use Rattle.trim_laws.specs.Runs.{RunsOver}
+use Rattle.trim_laws.proofs.Orders.{one_length}
 use Rattle.dbg_app.specs.Command.{Top, Row}
 use Rattle.dbg_app.specs.declared.design_fault.DesignFault.{DesignFault}
 use Rattle.dbg_app.specs.declared.design_fault.DesignFault.TheVariants.{Text, Elaboration, Check, CombLoop}
@@ -156,8 +158,8 @@ refusal_said files row a r = record { source = r.source; found = r.found; accept
 abbrev rows_said : (files : Contents) (row : Row) (a : Answer) → (s : ShowsTrail files row a) → Said files row s.design (Ok s.rows)
 rows_said files row a s = record { source = s.source; found = s.found; accepted = s.accepted; stimulus = s.stimulus; also_found = s.also_found; ports = s.ports; are = s.are; is = s.read }
 
-abbrev both_said : (files : Contents) (row : Row) (a : Accepted) (stim : _) → (h : HoldsBoth files row a stim) → Said files row (design_of a.design) (Ok stim.rows)
-both_said files row a stim h = record { source = h.source; found = h.found; accepted = h.accepted; stimulus = h.stimulus; also_found = h.also_found; ports = h.ports; are = h.are; is = h.read }
+abbrev both_said : (files : Contents) (row : Row) (a : Accepted) (mode : Mode) (stim : _) → (h : HoldsBoth files row a mode stim) → Said files row (design_of a.design) (Ok stim.rows)
+both_said files row a mode stim h = record { source = h.source; found = h.found; accepted = h.accepted; stimulus = h.stimulus; also_found = h.also_found; ports = h.ports; are = h.are; is = h.read }
 
 ok_err : (rows : List (List Bits)) (fault : StimFault) → ◌≡◌ {A = Result (List (List Bits)) StimFault} (Ok rows) (Err fault) → ⊥
 ok_err rows fault e = cc
@@ -195,15 +197,20 @@ stimulus_taken files row given asked r s =
     r.is ∙ (ap (λ (f : StimFault). record { status = 4; text = stimulus_fault f }) same ∙ sym s.is)
 
 -- a run that is asked for is one of what was judged
-trail_taken : (files : Contents) (row : Row) (a : Accepted) (stim : _) (asked : Answer) (old new : Option (List ℕ)) → HoldsBoth files row a stim → (s : ShowsTrail files row asked) → TakesText (judged.Accepted a stim) old new → Appends old new asked.text
-trail_taken files row a stim asked old new h s t =
-    let design : s.design ≡ design_of a.design = same_design files row _ _ _ _ (rows_said files row asked s) (both_said files row a stim h) in
-    let both : ◌≡◌ {A = Result (List (List Bits)) StimFault} (Ok s.rows) (Ok stim.rows) = one_saying files row _ _ _ _ (rows_said files row asked s) (both_said files row a stim h) in
+trail_taken : (files : Contents) (row : Row) (a : Accepted) (mode : Mode) (stim : _) (asked : Answer) (old new : Option (List ℕ)) → HoldsBoth files row a mode stim → (s : ShowsTrail files row asked) → TakesText (judged.Accepted a mode stim) old new → Appends old new asked.text
+trail_taken files row a mode stim asked old new h s t =
+    let design : s.design ≡ design_of a.design = same_design files row _ _ _ _ (rows_said files row asked s) (both_said files row a mode stim h) in
+    let both : ◌≡◌ {A = Result (List (List Bits)) StimFault} (Ok s.rows) (Ok stim.rows) = one_saying files row _ _ _ _ (rows_said files row asked s) (both_said files row a mode stim h) in
     let rows : s.rows ≡ stim.rows = cc in
     let over : RunsOver (design_of a.design) s.rows s.run = subst (λ (d : Design). RunsOver d s.rows s.run) design s.runs in
     let runs : RunsOver (design_of a.design) stim.rows s.run = subst (λ (l : List (List Bits)). RunsOver (design_of a.design) l s.run) rows over in
-    let text : asked.text ≡ trail_text (source_world (design_of a.design) s.run) = text_of asked _ s.is ∙ ap (λ (d : Design). trail_text (source_world d s.run)) design in
-    subst (λ (l : List ℕ). Appends old new l) (sym text) (t.taken (trail_text (source_world (design_of a.design) s.run)) (s.run, runs, refl))
+    let order : TellsOrder (design_of a.design) s.accepted.pairs = subst (λ (d : Design). TellsOrder d s.accepted.pairs) design s.accepted.order in
+    let long : length s.accepted.pairs ≡ length a.order = one_length (design_of a.design) s.accepted.pairs a.order order h.ordered.order in
+    let text : asked.text ≡ trail_text (source_world (design_of a.design) (length a.order) mode s.run) =
+    text_of asked _ s.is
+    ∙ ap (λ (d : Design). trail_text (source_world d (length s.accepted.pairs) row.mode s.run)) design
+    ∙ ap₂ (λ (n : ℕ) (m : Mode). trail_text (source_world (design_of a.design) n m s.run)) long (sym h.mode_is) in
+    subst (λ (l : List ℕ). Appends old new l) (sym text) (t.taken (trail_text (source_world (design_of a.design) (length a.order) mode s.run)) (s.run, runs, refl))
 
 -- the text that goes with what was judged is that of every answer that is asked for
 pub answer_taken : (files : Contents) (row : Row) (found : Judged) (old new : Option (List ℕ)) → JudgesRow files row found → TakesText found old new → (asked : Answer) → Asks files row asked → (judged_status found ≡ asked.status) × TakesAnswer files row asked old new
@@ -218,7 +225,7 @@ answer_taken files row (judged.NoStimulus fault) old new j t asked (NoStimulus s
     (status_of _ asked same, inl (subst (λ (l : List ℕ). Appends old new l) (text_of _ asked same) (t.taken (stimulus_fault fault) refl)))
 answer_taken files row (judged.NoStimulus fault) old new j t asked (Trail s) =
     absurd (ok_err s.rows j.fault (one_saying files row _ _ _ _ (rows_said files row asked s) (refusal_said files row _ j)))
-answer_taken files row (judged.Accepted a stim) old new j t asked (NoDesign s) = absurd (no_source files row _ s j.source j.found (design_of a.design) j.accepted)
-answer_taken files row (judged.Accepted a stim) old new j t asked (NoStimulus s) =
-    absurd (ok_err stim.rows s.fault (one_saying files row _ _ _ _ (both_said files row a stim j) (refusal_said files row asked s)))
-answer_taken files row (judged.Accepted a stim) old new j t asked (Trail s) = (sym (status_of asked _ s.is), inl (trail_taken files row a stim asked old new j s t))
+answer_taken files row (judged.Accepted a mode stim) old new j t asked (NoDesign s) = absurd (no_source files row _ s j.source j.found (design_of a.design) j.accepted)
+answer_taken files row (judged.Accepted a mode stim) old new j t asked (NoStimulus s) =
+    absurd (ok_err stim.rows s.fault (one_saying files row _ _ _ _ (both_said files row a mode stim j) (refusal_said files row asked s)))
+answer_taken files row (judged.Accepted a mode stim) old new j t asked (Trail s) = (sym (status_of asked _ s.is), inl (trail_taken files row a mode stim asked old new j s t))

@@ -1,11 +1,13 @@
 -- How a run ends, from what was judged and written.
-use Rattle.std.proofs.Common.{◌≡◌, ◌<◌, ℕ, Bool, true, false, ◌||◌, ◌==◌, nat_lt, lit<, List, [], Option, Some, None, refl, sym, ◌∙◌, subst, IsTrue, ◌⊎◌, inl, inr, append-nil, arith}
+use Rattle.std.proofs.Common.{◌≡◌, ◌<◌, ℕ, Bool, true, false, ◌||◌, ◌==◌, nat_lt, lit<, List, [], Option, Some, None, length, refl, sym, ap₂, ◌∙◌, subst, IsTrue, ◌⊎◌, inl, inr, append-nil, arith}
 use Rattle.std.proofs.lemmas.Bool.Decides.{nat_tests}
 use Rattle.io_edge.specs.Taken.{AppendsFront}
 use Rattle.io_edge.proofs.Growth.{front_from_whole}
 use Rattle.design_core.specs.DesignView.{design_of}
 use Rattle.world_core.specs.World.{trail_text}
+use Rattle.world_core.specs.declared.mode.Mode.{Mode}
 use Rattle.world_core.specs.Source.{source_world}
+use Rattle.trim_laws.proofs.Orders.{one_length}
 use Rattle.dbg_app.specs.Command.{Row}
 use Rattle.dbg_app.specs.Answers.{Contents, Asks, NoDesign, NoStimulus, Trail, usage_fault, design_fault, stimulus_fault, IfAsked}
 use Rattle.dbg_app.specs.Judged.{JudgesRow, HasRows, HasTrail, HoldsBoth, TakesText, TakesTextFront, judged_status}
@@ -75,19 +77,19 @@ pub design_line_taken : (status : ℕ) (judged : Judged) (old new : Option (List
 design_line_taken status NoCommand old new three is h t = absurd (let same : 3 ≡ 2 = sym three ∙ is in cc)
 design_line_taken status (judged.NoDesign fault) old new three is h t = record { fault = fault; refuses = h; taken = t.taken (design_fault fault) refl }
 design_line_taken status (judged.NoStimulus fault) old new three is h t = absurd (let same : 3 ≡ 4 = sym three ∙ is in cc)
-design_line_taken status (judged.Accepted a stim) old new three is h t = absurd (let same : 3 ≡ 0 = sym three ∙ is in cc)
+design_line_taken status (judged.Accepted a mode stim) old new three is h t = absurd (let same : 3 ≡ 0 = sym three ∙ is in cc)
 
 pub stimulus_line_taken : (status : ℕ) (judged : Judged) (old new : Option (List ℕ)) → status ≡ 4 → status ≡ judged_status judged → HasRows judged → TakesText judged old new → TakesStimulusLine old new
 stimulus_line_taken status NoCommand old new four is h t = absurd (let same : 4 ≡ 2 = sym four ∙ is in cc)
 stimulus_line_taken status (judged.NoDesign fault) old new four is h t = absurd (let same : 4 ≡ 3 = sym four ∙ is in cc)
 stimulus_line_taken status (judged.NoStimulus fault) old new four is h t = record { fault = fault; refuses = h; taken = t.taken (stimulus_fault fault) refl }
-stimulus_line_taken status (judged.Accepted a stim) old new four is h t = absurd (let same : 4 ≡ 0 = sym four ∙ is in cc)
+stimulus_line_taken status (judged.Accepted a mode stim) old new four is h t = absurd (let same : 4 ≡ 0 = sym four ∙ is in cc)
 
 -- ---- the answer that was judged
 
 -- a design and a stimulus that the files hold ask for the trail of their run
-trail_asked : (files : Contents) (row : Row) (a : Accepted) (stim : _) → HoldsBoth files row a stim → (h : HasTrail a stim) → Asks files row (record { status = 0; text = trail_text (source_world (design_of a.design) h.run) })
-trail_asked files row a stim j h =
+trail_asked : (files : Contents) (row : Row) (a : Accepted) (mode : Mode) (stim : _) → HoldsBoth files row a mode stim → (h : HasTrail a stim) → Asks files row (record { status = 0; text = trail_text (source_world (design_of a.design) (length a.order) mode h.run) })
+trail_asked files row a mode stim j h =
     Trail (record {
       source = j.source;
       found = j.found;
@@ -101,7 +103,7 @@ trail_asked files row a stim j h =
       read = j.read;
       run = h.run;
       runs = h.runs;
-      is = refl;
+      is = ap₂ (λ (n : ℕ) (m : Mode). record { status = 0; text = trail_text (source_world (design_of a.design) n m h.run) }) (one_length (design_of a.design) a.order j.accepted.pairs j.ordered.order j.accepted.order) j.mode_is;
     })
 
 -- ---- a front of the text
@@ -112,12 +114,12 @@ front_taken (Some files) None judged old new j h t = tt
 front_taken (Some files) (Some row) NoCommand old new j h t = absurd j
 front_taken (Some files) (Some row) (judged.NoDesign fault) old new j h t = inr (record { status = 3; text = design_fault fault; asked = NoDesign j; taken = t.taken (design_fault fault) refl })
 front_taken (Some files) (Some row) (judged.NoStimulus fault) old new j h t = inr (record { status = 4; text = stimulus_fault fault; asked = NoStimulus j; taken = t.taken (stimulus_fault fault) refl })
-front_taken (Some files) (Some row) (judged.Accepted a stim) old new j h t =
+front_taken (Some files) (Some row) (judged.Accepted a mode stim) old new j h t =
     inr (record {
       status = 0;
-      text = trail_text (source_world (design_of a.design) h.run);
-      asked = trail_asked files row a stim j h;
-      taken = t.taken (trail_text (source_world (design_of a.design) h.run)) (h.run, h.runs, refl);
+      text = trail_text (source_world (design_of a.design) (length a.order) mode h.run);
+      asked = trail_asked files row a mode stim j h;
+      taken = t.taken (trail_text (source_world (design_of a.design) (length a.order) mode h.run)) (h.run, h.runs, refl);
     })
 
 -- ---- the whole text
@@ -131,10 +133,10 @@ done_taken (Some files) (Some row) (judged.NoDesign fault) status old new j h e 
     record { text = design_fault fault; asked = subst (λ (s : ℕ). Asks files row (record { status = s; text = design_fault fault })) (sym e) (NoDesign j); taken = t.taken (design_fault fault) refl }
 done_taken (Some files) (Some row) (judged.NoStimulus fault) status old new j h e t =
     record { text = stimulus_fault fault; asked = subst (λ (s : ℕ). Asks files row (record { status = s; text = stimulus_fault fault })) (sym e) (NoStimulus j); taken = t.taken (stimulus_fault fault) refl }
-done_taken (Some files) (Some row) (judged.Accepted a stim) status old new j h e t = record {
-  text = trail_text (source_world (design_of a.design) h.run);
-  asked = subst (λ (s : ℕ). Asks files row (record { status = s; text = trail_text (source_world (design_of a.design) h.run) })) (sym e) (trail_asked files row a stim j h);
-  taken = t.taken (trail_text (source_world (design_of a.design) h.run)) (h.run, h.runs, refl);
+done_taken (Some files) (Some row) (judged.Accepted a mode stim) status old new j h e t = record {
+  text = trail_text (source_world (design_of a.design) (length a.order) mode h.run);
+  asked = subst (λ (s : ℕ). Asks files row (record { status = s; text = trail_text (source_world (design_of a.design) (length a.order) mode h.run) })) (sym e) (trail_asked files row a mode stim j h);
+  taken = t.taken (trail_text (source_world (design_of a.design) (length a.order) mode h.run)) (h.run, h.runs, refl);
 }
 
 -- ---- completeness

@@ -8,12 +8,13 @@ use Rattle.stim_text.specs.Rows.{Gives}
 use Rattle.stim_text.specs.Stimulus.{Stimulus}
 use Rattle.stim_text.specs.declared.StimFault.{StimFault}
 use Rattle.stim_text.specs.declared.StimFault.TheVariants.{HeaderMismatch, BadRow, DoesNotFit, TooLong, NoMemory}
-use Rattle.trail_net.specs.Runs.{HasInputs}
+use Rattle.world_core.specs.declared.mode.Mode.{Mode}
+use Rattle.trim_laws.specs.Runs.{HasInputs}
 use Rattle.dbg_app.specs.Command.{Row}
 use Rattle.dbg_app.specs.Answers.{Contents, ArePortsOf, RefusesStimulus, stimulus_fault}
 use Rattle.dbg_app.specs.declared.accepted.Accepted.{Accepted}
 use Rattle.dbg_app.specs.Judged.{IsOrdered, JudgesSource, JudgesStimulus, IsWhole, HasTrail, HoldsBoth}
-use Rattle.trail_net.proofs.Running.{designs_run}
+use Rattle.trim_laws.proofs.Running.{designs_run}
 
 -- ---- a stimulus
 
@@ -36,12 +37,12 @@ has_trail a ports stim ordered inputs whole =
     record { ordered = ordered; inputs = has; run = found.0; runs = found.1 }
 
 -- the source is this design, and the stimulus has these rows for it
-pub accepted_row : (told : Option Contents) (row : Row) (a : Accepted) (ports : Ports) (stim : Stimulus) → ArePortsOf (design_of a.design) ports
+pub accepted_row : (told : Option Contents) (row : Row) (a : Accepted) (ports : Ports) (stim : Stimulus) → IsOrdered a → ArePortsOf (design_of a.design) ports
     → IfSome told (λ files. JudgesSource (files row.source) row.top (Ok a)) → IfSome told (λ files. JudgesStimulus (files row.stimulus) ports (Ok stim))
-    → IfSome told (λ files. HoldsBoth files row a stim)
-accepted_row None row a ports stim are s t = tt
-accepted_row (Some files) row a ports stim are s t =
-    record { source = s.0; found = s.1; accepted = s.2; stimulus = t.0; also_found = t.1; ports = ports; are = are; read = t.2 }
+    → IfSome told (λ files. HoldsBoth files row a row.mode stim)
+accepted_row None row a ports stim ordered are s t = tt
+accepted_row (Some files) row a ports stim ordered are s t =
+    record { mode_is = refl; ordered = ordered; source = s.0; found = s.1; accepted = s.2; stimulus = t.0; also_found = t.1; ports = ports; are = are; read = t.2 }
 
 -- the source is this design, and the stimulus is refused for it
 pub refused_row : (told : Option Contents) (row : Row) (a : Accepted) (ports : Ports) (fault : StimFault) → ArePortsOf (design_of a.design) ports

@@ -1,10 +1,11 @@
 -- What was written is the text that goes with what was judged.
-use Rattle.std.proofs.Common.{◌≡◌, List, ℕ, Option, Result, Ok, Err, OnErr, refl, sym, subst}
+use Rattle.std.proofs.Common.{◌≡◌, List, ℕ, Option, Result, Ok, Err, OnErr, length, refl, sym, subst}
 use Rattle.io_edge.specs.Taken.{Appends}
 use Rattle.io_edge.proofs.Growth.{no_growth}
 use Rattle.design_core.specs.DesignView.{design_of}
 use Rattle.stim_text.specs.Stimulus.{Stimulus}
-use Rattle.trail_net.specs.Runs.{TakesTrail}
+use Rattle.world_core.specs.declared.mode.Mode.{Mode}
+use Rattle.trail_net.specs.Taken.{TakesTrail}
 use Rattle.dbg_app.specs.Answers.{usage_fault}
 use Rattle.dbg_app.specs.Judged.{TakesText, TakesTextFront}
 use Rattle.dbg_app.specs.declared.accepted.Accepted.{Accepted}
@@ -22,6 +23,6 @@ nothing_written j old = record { taken = λ text is. no_growth old old text refl
 pub usage_written : (j : Judged) (old new : Option (List ℕ)) → j ≡ judged.NoCommand → Appends old new usage_fault → TakesText j old new
 usage_written j old new e t = subst (λ (k : Judged). TakesText k old new) (sym e) (record { taken = λ text is. subst (λ (l : List ℕ). Appends old new l) (sym is) t })
 
-pub trail_written : (j : Judged) (a : Accepted) (stim : Stimulus) (old new : Option (List ℕ)) → j ≡ judged.Accepted a stim → TakesTrail (design_of a.design) stim.rows old new → TakesText j old new
-trail_written j a stim old new e t =
+pub trail_written : (j : Judged) (a : Accepted) (mode : Mode) (stim : Stimulus) (old new : Option (List ℕ)) → j ≡ judged.Accepted a mode stim → TakesTrail (design_of a.design) (length a.order) mode stim.rows old new → TakesText j old new
+trail_written j a mode stim old new e t =
     subst (λ (k : Judged). TakesText k old new) (sym e) (record { taken = λ text is. subst (λ (l : List ℕ). Appends old new l) (sym is.2) (t.taken is.0 is.1) })

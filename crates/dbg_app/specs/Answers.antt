@@ -1,5 +1,5 @@
 -- What a command asks for: the status and the text that the contents of its files give.
-use Rattle.std.specs.Prelude.{◌≡◌, ◌≢◌, ℕ, false, true, List, [], ◌++◌, Option, Some, None, Ok, Err, codes}
+use Rattle.std.specs.Prelude.{◌≡◌, ◌≢◌, ℕ, false, true, List, [], ◌++◌, length, Option, Some, None, Ok, Err, codes}
 use Rattle.std.specs.Fmt.{decimal}
 use Rattle.bv_core.specs.Value.{Bits}
 use Rattle.gen_tree.specs.Tree as tree
@@ -20,7 +20,7 @@ use Rattle.stim_text.specs.declared.StimFault.{StimFault}
 use Rattle.stim_text.specs.declared.StimFault.TheVariants.{HeaderMismatch, BadRow, DoesNotFit, TooLong, NoMemory}
 use Rattle.world_core.specs.World.{trail_text}
 use Rattle.world_core.specs.Source.{source_world}
-use Rattle.trail_net.specs.Runs.{RunsOver}
+use Rattle.trim_laws.specs.Runs.{RunsOver}
 use Rattle.dbg_app.specs.declared.design_fault.DesignFault.{DesignFault}
 use Rattle.dbg_app.specs.declared.design_fault.DesignFault.TheVariants.{Text, Elaboration, Check, CombLoop}
 use Rattle.dbg_app.specs.Loops.{signal_paths, loop_fault}
@@ -143,7 +143,7 @@ pub record ShowsTrail (files : Contents) (row : Row) (answer : Answer) : Type 0 
   pub read : rows_of ports stimulus ≡ Ok rows
   pub run : List (Place → Bits)
   pub runs : RunsOver design rows run
-  pub is : answer ≡ record { status = 0; text = trail_text (source_world design run) }
+  pub is : answer ≡ record { status = 0; text = trail_text (source_world design (length accepted.pairs) row.mode run) }
 
 -- what a command asks for, where these are the files: the source is judged first, then the stimulus
 pub data Asks (files : Contents) (row : Row) (answer : Answer) : Type 0 where

@@ -1,11 +1,13 @@
 -- The words of the program.
-use Rattle.std.specs.Prelude.{ℕ, ◌+◌, ◌==◌, ℤ, pos, ◌-ℤ◌, Bool, false, not, List, [], ◌∷◌, length, take, drop, Option, Some, None, option_map, is_some, codes, if◌then◌else◌, ◌&&◌, nat_le, nat_lt}
+use Rattle.std.specs.Prelude.{ℕ, ◌+◌, ◌==◌, ℤ, pos, ◌-ℤ◌, Bool, false, not, List, [], ◌∷◌, length, take, drop, Option, Some, None, option_map, option_and_then, is_some, codes, if◌then◌else◌, ◌&&◌, nat_le, nat_lt}
 use Rattle.std.specs.List.{list_all, prefix_len, filter_map}
 use Rattle.std.specs.Str.{bytes_eq}
 use Rattle.text_core.specs.Digits.{is_digit_of, number_of}
 use Rattle.gen_token.specs.Spelling.{is_name}
 use Rattle.design_core.specs.Design.{Gens}
 use Rattle.exec_core.specs.Block.{Name}
+use Rattle.world_core.specs.declared.mode.Mode.{Mode}
+use Rattle.world_core.specs.declared.mode.Mode.TheVariants.{Opt, Keep}
 
 -- ---- an argument NAME=N of the top
 
@@ -48,22 +50,27 @@ pub record Top : Type 0 where
   pub name : List ℕ
   pub given : Gens
 
--- a command `trail keep SRC STIM TOP [NAME=N]..`
+-- which names are kept: `opt`, those that are needed anyway; `keep`, all of them
+abbrev pub mode_of : List ℕ → Option Mode
+mode_of word = if bytes_eq word (codes "opt") then Some Opt else if bytes_eq word (codes "keep") then Some Keep else None
+
+-- a command `trail MODE SRC STIM TOP [NAME=N]..`
 pub record Row : Type 0 where
+  pub mode : Mode
   pub source : List ℕ
   pub stimulus : List ℕ
   pub top : Top
 
 -- the files are any words that are not empty, TOP is a name of the language, and the rest are at most 64 arguments
-abbrev pub trail_row : List ℕ → List ℕ → List ℕ → List (List ℕ) → Option Row
-trail_row source stimulus top rest =
+abbrev pub trail_row : List ℕ → List ℕ → List ℕ → List (List ℕ) → Mode → Option Row
+trail_row source stimulus top rest mode =
     if not (bytes_eq source []) && not (bytes_eq stimulus []) && is_name top && nat_le (length rest) 64 && list_all is_argument rest then
-    Some (record { source = source; stimulus = stimulus; top = record { name = top; given = filter_map argument_of rest } }) else None
+    Some (record { mode = mode; source = source; stimulus = stimulus; top = record { name = top; given = filter_map argument_of rest } }) else None
 
 -- the command that the words are, if they are one
 abbrev pub row_of : List (List ℕ) → Option Row
 row_of (command ∷ mode ∷ source ∷ stimulus ∷ top ∷ rest) =
-    if bytes_eq command (codes "trail") && bytes_eq mode (codes "keep") then trail_row source stimulus top rest else None
+    if bytes_eq command (codes "trail") then option_and_then (trail_row source stimulus top rest) (mode_of mode) else None
 row_of words = None
 
 -- the names of the files, in the order of the words

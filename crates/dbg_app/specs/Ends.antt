@@ -1,6 +1,6 @@
 -- How a trail that was not written to its end stops a run.
-use Rattle.trail_net.specs.declared.TrailEnd.{TrailEnd}
-use Rattle.trail_net.specs.declared.TrailEnd.TheVariants as trail
+use Rattle.trail_out.specs.declared.TrailEnd.{TrailEnd}
+use Rattle.trail_out.specs.declared.TrailEnd.TheVariants as trail
 use Rattle.dbg_app.specs.declared.stop.Stop.{Stop}
 use Rattle.dbg_app.specs.declared.stop.Stop.TheVariants.{WriteFault, NoMemory}
 

@@ -18,7 +18,8 @@ use Rattle.stim_text.specs.declared.StimFault.{StimFault}
 use Rattle.stim_text.specs.declared.StimFault.TheVariants.{NoMemory}
 use Rattle.world_core.specs.World.{trail_text}
 use Rattle.world_core.specs.Source.{source_world}
-use Rattle.trail_net.specs.Runs.{HasInputs, RunsOver}
+use Rattle.world_core.specs.declared.mode.Mode.{Mode}
+use Rattle.trim_laws.specs.Runs.{HasInputs, RunsOver}
 use Rattle.dbg_app.specs.Command.{Top, Row}
 use Rattle.dbg_app.specs.Loops.{signal_paths}
 use Rattle.dbg_app.specs.Refusals.{is_no_memory}
@@ -104,10 +105,12 @@ abbrev pub HasRows : Judged → Type 0
 HasRows judged.NoCommand = Unit {0}
 HasRows (judged.NoDesign fault) = is_no_memory fault ≡ false
 HasRows (judged.NoStimulus fault) = fault ≢ NoMemory
-HasRows (judged.Accepted a stim) = HasTrail a stim
+HasRows (judged.Accepted a mode stim) = HasTrail a stim
 
--- the files hold this design, and a stimulus for its ports with these rows
-pub record HoldsBoth (files : Contents) (row : Row) (a : Accepted) (stim : Stimulus) : Type 0 where
+-- the command is of this mode, and the files hold this design, and a stimulus for its ports with these rows
+pub record HoldsBoth (files : Contents) (row : Row) (a : Accepted) (mode : Mode) (stim : Stimulus) : Type 0 where
+  pub mode_is : mode ≡ row.mode
+  pub ordered : IsOrdered a
   pub source : List ℕ
   pub found : files row.source ≡ Some source
   pub accepted : IsAccepted row.top source (design_of a.design)
@@ -122,22 +125,22 @@ abbrev pub JudgesRow : Contents → Row → Judged → Type 0
 JudgesRow files row judged.NoCommand = ⊥
 JudgesRow files row (judged.NoDesign fault) = RefusesDesign files row (record { status = 3; text = design_fault fault })
 JudgesRow files row (judged.NoStimulus fault) = RefusesStimulus files row (record { status = 4; text = stimulus_fault fault })
-JudgesRow files row (judged.Accepted a stim) = HoldsBoth files row a stim
+JudgesRow files row (judged.Accepted a mode stim) = HoldsBoth files row a mode stim
 
 -- the status that goes with what was judged
 abbrev pub judged_status : Judged → ℕ
 judged_status judged.NoCommand = 2
 judged_status (judged.NoDesign fault) = 3
 judged_status (judged.NoStimulus fault) = 4
-judged_status (judged.Accepted a stim) = 0
+judged_status (judged.Accepted a mode stim) = 0
 
 -- the text that goes with what was judged: a fault line, or the trail of a run over the rows
 abbrev pub IsTextOf : Judged → List ℕ → Type 0
 IsTextOf judged.NoCommand text = text ≡ usage_fault
 IsTextOf (judged.NoDesign fault) text = text ≡ design_fault fault
 IsTextOf (judged.NoStimulus fault) text = text ≡ stimulus_fault fault
-IsTextOf (judged.Accepted a stim) text =
-    (run : List (Place → Bits)) × RunsOver (design_of a.design) stim.rows run × (text ≡ trail_text (source_world (design_of a.design) run))
+IsTextOf (judged.Accepted a mode stim) text =
+    (run : List (Place → Bits)) × RunsOver (design_of a.design) stim.rows run × (text ≡ trail_text (source_world (design_of a.design) (length a.order) mode run))
 
 -- the text that goes with what was judged was taken, or a front of it
 pub record TakesText (judged : Judged) (old new : Option (List ℕ)) : Type 0 where

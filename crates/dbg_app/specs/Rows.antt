@@ -10,4 +10,4 @@ abbrev pub given_in : List (List ℕ) → Gens
 given_in words = filter_map argument_of (drop 5 words)
 
 abbrev pub row_as : rust.Row → Row
-row_as row = record { source = row.source.now; stimulus = row.stimulus.now; top = record { name = row.top.now; given = given_in row.words.now } }
+row_as row = record { mode = row.mode; source = row.source.now; stimulus = row.stimulus.now; top = record { name = row.top.now; given = given_in row.words.now } }

@@ -19,6 +19,7 @@ use gen_text::TextFault;
 use io_edge::{FileEnd, Files, Words};
 use std::alloc::Global;
 use stim_text::{Stim, StimFault, read_stim};
+use world_core::Mode;
 
 /// A command, judged: the words are none, the source or the stimulus is refused, or both are accepted.
 #[derive(Drop)]
@@ -26,7 +27,7 @@ pub(crate) enum Judged {
     NoCommand,
     NoDesign(DesignFault),
     NoStimulus(StimFault),
-    Accepted(Accepted, Stim),
+    Accepted(Accepted, Mode, Stim),
 }
 
 impl Judged {
@@ -40,7 +41,7 @@ impl Judged {
             Judged::NoCommand => 2,
             Judged::NoDesign(_) => 3,
             Judged::NoStimulus(_) => 4,
-            Judged::Accepted(_, _) => 0,
+            Judged::Accepted(_, _, _) => 0,
         }
     }
 }
@@ -147,7 +148,7 @@ fn judge_row<F: Files>(alloc: Global, row: &Row<'_>, files: &mut F) -> Result<Ju
     };
     let ports = accepted.ports(alloc)?;
     match judge_stimulus(alloc, row.stimulus, &ports, files)? {
-        Ok(stim) => Ok(Judged::Accepted(accepted, stim)),
+        Ok(stim) => Ok(Judged::Accepted(accepted, row.mode, stim)),
         Err(fault) => Ok(Judged::NoStimulus(fault)),
     }
 }

@@ -21,7 +21,7 @@ pub struct Ended {
 
 /// Does what the words say.
 ///
-/// The one command is `trail keep SRC STIM TOP [NAME=N]..`. The files are read in the order of the words, and each is judged before
+/// The one command is `trail MODE SRC STIM TOP [NAME=N]..`, where MODE is `opt` or `keep`. The files are read in the order of the words, and each is judged before
 /// the next is read. Nothing is written before all of them were judged.
 ///
 /// | Status | Where | Output |
@@ -131,8 +131,8 @@ fn write<S: Sink>(alloc: Global, judged: Judged, out: &mut S) -> Result<(), Stop
         Judged::NoCommand => write_line(b"usage fault\n", out),
         Judged::NoDesign(fault) => write_line(&design_line(alloc, &fault)?, out),
         Judged::NoStimulus(fault) => write_line(&stimulus_line(alloc, fault)?, out),
-        Judged::Accepted(accepted, stim) => {
-            write_trail(alloc, &accepted.design, &accepted.order, stim, out)?;
+        Judged::Accepted(accepted, mode, stim) => {
+            write_trail(alloc, &accepted.design, &accepted.order, mode, stim, out)?;
             Ok(())
         }
     }

@@ -1,11 +1,11 @@
 ghost use Rattle.std.specs.Prelude.{◌≡◌, ◌≤◌, IsTrue};
-ghost use Rattle.trail_net.specs.declared.TrailEnd.TheVariants as trail;
+ghost use Rattle.trail_out.specs.declared.TrailEnd.TheVariants as trail;
 ghost use Rattle.dbg_app.specs.declared.stop.Stop.TheVariants.{WriteFault, NoMemory};
 ghost use Rattle.dbg_app.specs.Outcome.{is_status, stop_status};
 
 use io_edge::Failed;
 use std::alloc::{AllocError, AllocFailed};
-use trail_net::TrailEnd;
+use trail_out::TrailEnd;
 
 /// Why a run stops before its text is written.
 #[derive(Clone, Copy, Debug, PartialEq, Eq)]

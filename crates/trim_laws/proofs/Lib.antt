@@ -6,3 +6,4 @@ pub mod Visits
 pub mod Tables
 pub mod Values
 pub mod Worlds
+pub mod Orders

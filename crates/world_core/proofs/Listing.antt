@@ -98,7 +98,7 @@ without x (y ∷ ys) (inr i) =
     let w = without x ys i in
     record { rest = y ∷ w.rest; one_less = ap suc w.one_less; others = λ z j n. ⊎_elim (λ s. inl s) (λ m. inr (w.others z m n)) j }
 
-no_more : {A : Type 0} (xs ys : List A) → AreApart xs → ((z : A) → IsIn z xs → IsIn z ys) → length xs ≤ length ys
+pub no_more : {A : Type 0} (xs ys : List A) → AreApart xs → ((z : A) → IsIn z xs → IsIn z ys) → length xs ≤ length ys
 no_more [] ys a h = omega arith
 no_more (x ∷ xs) ys a h =
     let w = without x ys (h x (inl refl)) in

@@ -14,7 +14,7 @@ returns-in_err-stim-clause-front g c =
 
 pub returns-in-Ok-2-clause-judged : goal.returns-in-Ok-2-clause-judged
 returns-in-Ok-2-clause-judged g c =
-    accepted_row (g.F.Files.told c.args.files.now) (row_as c.args.row.now) c.in-Ok.accepted c.in_ok-ports.ports c.in-Ok-2.stim c.in_ok-ports.ensures (rw c.in-Ok.is at c.in_ok-accepted.ensures.judged) (rw (c.judge_source.ensures.same, c.in-Ok-2.is) at c.in_ok-stim.ensures.judged)
+    accepted_row (g.F.Files.told c.args.files.now) (row_as c.args.row.now) c.in-Ok.accepted c.in_ok-ports.ports c.in-Ok-2.stim (rw c.in-Ok.is at c.in_ok-accepted.ensures.fit) c.in_ok-ports.ensures (rw c.in-Ok.is at c.in_ok-accepted.ensures.judged) (rw (c.judge_source.ensures.same, c.in-Ok-2.is) at c.in_ok-stim.ensures.judged)
 
 pub returns-in-Ok-2-clause-front : goal.returns-in-Ok-2-clause-front
 returns-in-Ok-2-clause-front g c =

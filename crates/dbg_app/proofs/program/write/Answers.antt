@@ -9,4 +9,4 @@ pub returns-in-NoCommand-clause-ok : goal.returns-in-NoCommand-clause-ok
 returns-in-NoCommand-clause-ok g c = on_ok_weaker c.write_line.result (usage_written c.args.judged _ _ c.in-NoCommand.is) c.write_line.ensures.ok
 
 pub returns-in_ok-write_trail-in-Accepted-clause-ok : goal.returns-in_ok-write_trail-in-Accepted-clause-ok
-returns-in_ok-write_trail-in-Accepted-clause-ok g c = trail_written c.args.judged c.in-Accepted.accepted c.in-Accepted.stim _ _ c.in-Accepted.is c.in_ok-write_trail-in-Accepted.ensures.ok
+returns-in_ok-write_trail-in-Accepted-clause-ok g c = trail_written c.args.judged c.in-Accepted.accepted c.in-Accepted.mode c.in-Accepted.stim _ _ c.in-Accepted.is c.in_ok-write_trail-in-Accepted.ensures.ok
