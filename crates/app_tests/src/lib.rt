@@ -11,6 +11,8 @@ mod designs_refused;
 #[cfg(test)]
 mod failing_outside;
 #[cfg(test)]
+mod modes;
+#[cfg(test)]
 mod outcome;
 #[cfg(test)]
 mod stimuli_accepted;

@@ -7,13 +7,14 @@ use std::test::Fail;
 use text_core::NoMemory;
 
 /// Words that are no command.
-static NO_COMMANDS: [&[&str]; 22] = [
+static NO_COMMANDS: [&[&str]; 23] = [
     &["trail", "keep"],
     &[],
     &["trail", "keep", "P.hg", "P.stim"],
     &["trail", "keep", "P.hg", "P.stim", "P", "P"],
-    &["trail", "opt", "P.hg", "P.stim", "P"],
     &["sim", "keep", "P.hg", "P.stim", "P"],
+    &["trail", "Keep", "P.hg", "P.stim", "P"],
+    &["trail", "optional", "P.hg", "P.stim", "P"],
     &["trail", "keep", "P.hg", "P.stim", ""],
     &["trail", "keep", "P.hg", "P.stim", "1P"],
     &["trail", "keep", "P.hg", "P.stim", "P.q"],
