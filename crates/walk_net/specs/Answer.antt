@@ -1,15 +1,14 @@
 -- What is kept of a net.
-use Rattle.std.specs.Prelude.{◌≡◌, ℕ, ◌<◌, List, [], ◌∷◌, ◌++◌, length, map, Option, Some, None}
+use Rattle.std.specs.Prelude.{◌≡◌, ℕ, ◌<◌, List, [], ◌∷◌, length, map, Option, Some, None}
 use Rattle.bv_core.specs.declared.reference.NodeId.{NodeId}
 use Rattle.tree_core.specs.Tree.{Leaf, Origin, Whole}
 use Rattle.exec_core.specs.Lists.{IsIn}
 use Rattle.exec_core.specs.Kept.{IsKept, numbered}
-use Rattle.net_core.specs.Nodes.{Shape, trees_of, tree_of}
-use Rattle.net_core.specs.Builder.{Stands, AreShared}
+use Rattle.net_core.specs.Nodes.{Shape, tree_of}
+use Rattle.net_core.specs.Builder.{Stands}
 use Rattle.net_core.specs.Nets.{NetParts}
-use Rattle.walk_net.specs.Next.{next_of}
 use Rattle.walk_net.specs.Next.{HasEach}
-use Rattle.walk_net.specs.Renaming.{id_at, IsIdOf}
+use Rattle.walk_net.specs.Renaming.{id_at}
 
 -- an output's tree is among the roots
 abbrev pub IsRoot : List Shape → List Whole → List ℕ × ℕ → Type 0
