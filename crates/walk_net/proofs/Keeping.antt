@@ -13,10 +13,11 @@ use Rattle.net_core.specs.Nodes.{Shape, trees_of, tree_of}
 use Rattle.net_core.specs.Builder.{Stands, AreShared}
 use Rattle.net_core.specs.Nets.{NetParts, is_register, IsNext, NextsFit, OutputsFit, IsNet}
 use Rattle.net_core.proofs.TreeLists.{no_trees, trees_length}
-use Rattle.walk_net.specs.Next.{trees_by, next_of}
+use Rattle.walk_net.specs.Next.{trees_by, next_of, HasEach}
 use Rattle.walk_net.specs.Renaming.{id_at, IsIdOf, IsNode, AreCopies}
-use Rattle.walk_net.specs.Registers.{HasEach, Ends}
-use Rattle.walk_net.specs.Answer.{IsRoot, IsKeptAs, AreIds, OutputsStand, NextStands, kept_output, kept_outputs, kept_next, kept_nexts, IsWalked}
+use Rattle.walk_net.specs.Registers.{Ends}
+use Rattle.walk_net.specs.Answer.{IsRoot, IsKeptAs, AreIds, OutputsStand, NextStands}
+use Rattle.walk_net.specs.Walked.{kept_output, kept_outputs, kept_next, kept_nexts, IsWalked}
 use Rattle.walk_net.proofs.Walking.{in_at}
 use Rattle.walk_net.proofs.Nodes.{tree_in, stands_in, one_node, trees_apart}
 use Rattle.walk_net.proofs.Copies.{Has, has}

@@ -9,7 +9,8 @@ use Rattle.net_core.specs.Nodes.{Shape, tree_of}
 use Rattle.net_core.specs.Nets.{outputs_of, OutputsFit}
 use Rattle.walk_net.specs.Next.{trees_by}
 use Rattle.walk_net.specs.Renaming.{IsNode}
-use Rattle.walk_net.specs.Answer.{IsRoot, output_tree, output_nodes}
+use Rattle.walk_net.specs.Answer.{IsRoot, output_tree}
+use Rattle.walk_net.specs.Walked.{output_nodes}
 use Rattle.walk_net.proofs.NextIds.{in_got}
 
 pub same_trees : (ns : List Shape) (outputs : List (List ℕ × NodeId)) → trees_by ns (output_nodes outputs) ≡ map (output_tree ns) (outputs_of outputs)

@@ -9,8 +9,8 @@ use Rattle.exec_core.specs.Design.{or_else}
 use Rattle.exec_core.specs.Kept.{walk, was_walked, waits, pending, go_on, rounds}
 use Rattle.exec_core.proofs.Lists.{in_left, in_right, apart_split, not_in}
 use Rattle.net_core.specs.Nodes.{tree_at}
-use Rattle.walk_net.specs.Next.{next_tree}
-use Rattle.walk_net.specs.Registers.{HasEach, Ends, ended, passed, walked}
+use Rattle.walk_net.specs.Next.{next_tree, HasEach}
+use Rattle.walk_net.specs.Registers.{Ends, ended, passed, walked}
 use Rattle.walk_net.proofs.Walking.{or_left, or_right, or_split, GoesOn, same_list, further, walk_grows}
 use Rattle.walk_net.proofs.Following.{no_more}
 

@@ -1,15 +1,14 @@
 -- What is kept of a net.
-use Rattle.std.specs.Prelude.{◌≡◌, ℕ, ◌<◌, List, [], ◌∷◌, ◌++◌, length, map, Option, Some, None}
+use Rattle.std.specs.Prelude.{◌≡◌, ℕ, ◌<◌, List, [], ◌∷◌, length, map, Option, Some, None}
 use Rattle.bv_core.specs.declared.reference.NodeId.{NodeId}
 use Rattle.tree_core.specs.Tree.{Leaf, Origin, Whole}
 use Rattle.exec_core.specs.Lists.{IsIn}
 use Rattle.exec_core.specs.Kept.{IsKept, numbered}
-use Rattle.net_core.specs.Nodes.{Shape, trees_of, tree_of}
-use Rattle.net_core.specs.Builder.{Stands, AreShared}
+use Rattle.net_core.specs.Nodes.{Shape, tree_of}
+use Rattle.net_core.specs.Builder.{Stands}
 use Rattle.net_core.specs.Nets.{NetParts}
-use Rattle.walk_net.specs.Next.{next_of}
-use Rattle.walk_net.specs.Registers.{HasEach}
-use Rattle.walk_net.specs.Renaming.{id_at, IsIdOf}
+use Rattle.walk_net.specs.Next.{HasEach}
+use Rattle.walk_net.specs.Renaming.{id_at}
 
 -- an output's tree is among the roots
 abbrev pub IsRoot : List Shape → List Whole → List ℕ × ℕ → Type 0
@@ -21,13 +20,6 @@ output_tree ns output = tree_of ns output.1
 
 abbrev pub output_trees : NetParts → List Whole
 output_trees net = map (output_tree net.nodes) net.outputs
-
--- their nodes
-abbrev pub output_node : List ℕ × NodeId → NodeId
-output_node output = output.1
-
-abbrev pub output_nodes : List (List ℕ × NodeId) → List NodeId
-output_nodes outputs = map output_node outputs
 
 -- a node got an id exactly where its tree is kept, and the id stands for that tree
 abbrev pub IsKeptAs : List Whole → (Origin → Option Whole) → List Shape → Whole → Option NodeId → Type 0
@@ -58,32 +50,6 @@ pub record NextStands (next : Origin → Option Whole) (new : List Shape) (pair 
   pub register : Stands new pair.0 (Leaf origin)
   pub stands : Stands new pair.1 tree
 
--- the outputs and next values over the ids that their nodes got, where they got one
-abbrev pub kept_output : List ℕ → Option NodeId → List (List ℕ × ℕ)
-kept_output name None = []
-kept_output name (Some id) = (name, id.0) ∷ []
-
-abbrev pub kept_outputs : List (Option NodeId) → List (List ℕ × ℕ) → List (List ℕ × ℕ)
-kept_outputs ids [] = []
-kept_outputs ids (o ∷ outputs) = kept_output o.0 (id_at ids o.1) ++ kept_outputs ids outputs
-
-abbrev pub kept_next : Option NodeId → Option NodeId → List (ℕ × ℕ)
-kept_next None next = []
-kept_next (Some register) None = []
-kept_next (Some register) (Some next) = (register.0, next.0) ∷ []
-
-abbrev pub kept_nexts : List (Option NodeId) → List (ℕ × ℕ) → List (ℕ × ℕ)
-kept_nexts ids [] = []
-kept_nexts ids (pair ∷ pairs) = kept_next (id_at ids pair.0) (id_at ids pair.1) ++ kept_nexts ids pairs
-
 -- the trees are the numbered ones, in as many rounds as some list has registers that has each of them
 abbrev pub AreNumbers : List Whole → (Origin → Option Whole) → List Whole → Type 0
 AreNumbers roots next trees = (registers : List Origin) → HasEach next registers → trees ≡ numbered roots next (length registers)
-
--- what the walk over a net comes to: its trees, numbered, and for each of its nodes the number of its tree, if it has one
-pub record IsWalked (net : NetParts) (roots : List Whole) (new : List Shape) (ids : List (Option NodeId)) : Type 0 where
-  pub shared : AreShared new
-  pub trees : AreNumbers roots (next_of net) (trees_of new)
-  pub among : (t : Whole) → IsIn t (trees_of new) → IsIn t (trees_of net.nodes)
-  pub long : length ids ≡ length net.nodes
-  pub each : (j : ℕ) → j < length net.nodes → IsIdOf new (tree_of net.nodes j) (id_at ids j)

@@ -3,3 +3,4 @@ pub mod Tasks
 pub mod Renaming
 pub mod Registers
 pub mod Answer
+pub mod Walked

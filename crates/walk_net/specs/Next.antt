@@ -1,8 +1,9 @@
 -- The next values of a net's registers, as trees.
-use Rattle.std.specs.Prelude.{ℕ, List, [], ◌∷◌, Option, Some, None, if◌then◌else◌, map}
+use Rattle.std.specs.Prelude.{◌≡◌, ℕ, List, [], ◌∷◌, Option, Some, None, if◌then◌else◌, map}
 use Rattle.bv_core.specs.declared.reference.NodeId.{NodeId}
 use Rattle.tree_core.specs.Tree.{Const, Leaf, One, Two, Mux, Origin, Whole}
 use Rattle.tree_core.specs.Fold.{same_tree, same_origin}
+use Rattle.exec_core.specs.Lists.{IsIn}
 use Rattle.net_core.specs.Nodes.{Shape, tree_of}
 use Rattle.net_core.specs.Nets.{NetParts}
 
@@ -28,3 +29,7 @@ next_tree next (Leaf o) = next o
 next_tree next (One op a) = None
 next_tree next (Two op a b) = None
 next_tree next (Mux c a b) = None
+
+-- each register that has a next value is among these
+abbrev pub HasEach : (Origin → Option Whole) → List Origin → Type 0
+HasEach next registers = (o : Origin) (t : Whole) → next o ≡ Some t → IsIn o registers

@@ -2,16 +2,11 @@
 use Rattle.std.specs.Prelude.{◌≡◌, ℕ, ◌+◌, ◌≤◌, ◌<◌, List, [], ◌∷◌, length, Option, Some, None, option_map, slice_set}
 use Rattle.bv_core.specs.declared.reference.NodeId.{NodeId}
 use Rattle.tree_core.specs.Tree.{Origin, Whole}
-use Rattle.exec_core.specs.Lists.{IsIn}
 use Rattle.exec_core.specs.Kept.{walk}
 use Rattle.net_core.specs.Nodes.{tree_at, tree_of}
 use Rattle.net_core.specs.Nets.{NetParts}
 use Rattle.walk_net.specs.Next.{tree_by, next_of, next_tree}
 use Rattle.walk_net.specs.Renaming.{id_at}
-
--- each register that has a next value is among these
-abbrev pub HasEach : (Origin → Option Whole) → List Origin → Type 0
-HasEach next registers = (o : Origin) (t : Whole) → next o ≡ Some t → IsIn o registers
 
 -- what numbered trees come to: from a number on, the next-value tree of each register is walked
 pub data Ends (next : Origin → Option Whole) : ℕ → List Whole → List Whole → Type 0 where

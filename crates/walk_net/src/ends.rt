@@ -1,7 +1,7 @@
 ghost use Rattle.std.specs.Prelude.{◌≡◌, ◌++◌, IfOk, OnOk};
 ghost use Rattle.net_core.specs.Nets.{outputs_of as net_outputs, nexts_of as net_nexts};
 ghost use Rattle.walk_net.specs.Renaming.{id_at};
-ghost use Rattle.walk_net.specs.Answer.{kept_output, kept_outputs, kept_next, kept_nexts};
+ghost use Rattle.walk_net.specs.Walked.{kept_output, kept_outputs, kept_next, kept_nexts};
 
 use bv_core::NodeId;
 use net_core::Net;

@@ -6,7 +6,8 @@ ghost use Rattle.exec_core.specs.Lists.{EachOf};
 ghost use Rattle.exec_core.specs.Kept.{numbered, NumberedAreKept};
 ghost use Rattle.walk_net.specs.Next.{trees_by, next_of};
 ghost use Rattle.walk_net.specs.Renaming.{id_at, IsNode};
-ghost use Rattle.walk_net.specs.Answer.{IsRoot, AreIds, AreNumbers, OutputsStand, NextStands, IsWalked};
+ghost use Rattle.walk_net.specs.Answer.{IsRoot, AreIds, AreNumbers, OutputsStand, NextStands};
+ghost use Rattle.walk_net.specs.Walked.{IsWalked};
 
 use crate::ends::{nexts_of, outputs_of};
 use crate::registers::{next_ids, no_ids, walk_nexts};

@@ -3,7 +3,8 @@ ghost use Rattle.exec_core.specs.Lists.{EachOf};
 ghost use Rattle.net_core.specs.Nets.{outputs_of as net_outputs};
 ghost use Rattle.walk_net.specs.Next.{trees_by};
 ghost use Rattle.walk_net.specs.Renaming.{IsNode};
-ghost use Rattle.walk_net.specs.Answer.{IsRoot, output_trees, output_nodes};
+ghost use Rattle.walk_net.specs.Answer.{IsRoot, output_trees};
+ghost use Rattle.walk_net.specs.Walked.{output_nodes};
 
 use bv_core::NodeId;
 use net_core::Net;

@@ -1,6 +1,6 @@
 use Rattle.std.proofs.Common.{◌≡◌, ◌++◌, drop}
 use Rattle.net_core.specs.Nets.{nexts_of as net_nexts}
-use Rattle.walk_net.specs.Answer.{kept_nexts}
+use Rattle.walk_net.specs.Walked.{kept_nexts}
 use Rattle.walk_net.proofs.ends.nexts_of.Given as goal
 
 abbrev pub invariant-loop-register : goal.invariant-loop-register

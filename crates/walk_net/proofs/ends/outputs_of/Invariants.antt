@@ -1,6 +1,6 @@
 use Rattle.std.proofs.Common.{◌≡◌, ◌++◌, drop}
 use Rattle.net_core.specs.Nets.{outputs_of as net_outputs}
-use Rattle.walk_net.specs.Answer.{kept_outputs}
+use Rattle.walk_net.specs.Walked.{kept_outputs}
 use Rattle.walk_net.proofs.ends.outputs_of.Given as goal
 
 abbrev pub invariant-loop-name : goal.invariant-loop-name

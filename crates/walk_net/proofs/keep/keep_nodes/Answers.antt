@@ -4,7 +4,8 @@ use Rattle.exec_core.specs.Kept.{NumberedAreKept}
 use Rattle.net_core.specs.Nodes.{trees_of}
 use Rattle.net_core.specs.Nets.{NetParts, OutputsFit, NextsFit}
 use Rattle.walk_net.specs.Next.{trees_by, next_of}
-use Rattle.walk_net.specs.Answer.{AreIds, AreNumbers, OutputsStand, NextStands, kept_outputs, kept_nexts}
+use Rattle.walk_net.specs.Answer.{AreIds, AreNumbers, OutputsStand, NextStands}
+use Rattle.walk_net.specs.Walked.{kept_outputs, kept_nexts}
 use Rattle.walk_net.proofs.Keeping.{trees_numbered, kept, are_ids, outputs_stand, outputs_fit, nexts_stand, nexts_fit}
 use Rattle.walk_net.proofs.keep.keep_nodes.Goals as goal
 

@@ -1,5 +1,5 @@
 use Rattle.std.proofs.Common.{◌≡◌, ◌++◌, drop}
-use Rattle.walk_net.specs.Answer.{output_nodes}
+use Rattle.walk_net.specs.Walked.{output_nodes}
 use Rattle.walk_net.proofs.roots.nodes_of.Given as goal
 
 abbrev pub invariant-loop-id : goal.invariant-loop-id
