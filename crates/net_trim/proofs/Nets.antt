@@ -4,14 +4,15 @@ use Rattle.std.specs.Prelude.{slice_get}
 use Rattle.std.proofs.lemmas.List.{length-map}
 use Rattle.std.proofs.lemmas.Option.{none-some, same_Some, slice_get_within, get_or_from_slice_get, slice_get-get_or}
 use Rattle.bv_core.specs.Value.{Bits}
-use Rattle.tree_core.specs.Tree.{Leaf, Origin, Input, Register, Whole}
+use Rattle.bv_core.specs.declared.reference.NodeId.{NodeId}
+use Rattle.tree_core.specs.Tree.{Leaf, One, Two, Mux, Origin, Input, Register, Whole}
 use Rattle.tree_core.specs.Width.{tree_width}
 use Rattle.exec_core.specs.Block.{Name}
 use Rattle.exec_core.specs.Lists.{EachOf, IsIn, AreApart}
 use Rattle.exec_core.specs.Whole.{Place}
 use Rattle.exec_core.specs.Design.{next_tree, folded_tree}
 use Rattle.exec_core.specs.States.{OverGivens}
-use Rattle.exec_core.specs.Kept.{IsKept, NumberedAreKept, next_in, numbered}
+use Rattle.exec_core.specs.Kept.{IsKept, root, of_one, of_left, of_right, of_test, of_then, of_else, of_register, NumberedAreKept, next_in, numbered}
 use Rattle.exec_core.proofs.Lists.{each_member, each_from}
 use Rattle.design_core.specs.Design.{Design}
 use Rattle.design_core.specs.Ports.{ports_in, top_signals}
@@ -25,12 +26,13 @@ use Rattle.world_core.specs.declared.mode.Mode.{Mode}
 use Rattle.world_core.specs.Kept.{asked_trees, IsKeptIn, kept_trees}
 use Rattle.lower_core.specs.declared.row.Lowered as code
 use Rattle.lower_core.specs.Lowered.{OutputTold, OutputsTold, HasNext, IsLowered}
-use Rattle.walk_net.specs.Next.{trees_by, next_of}
-use Rattle.walk_net.specs.Answer.{OutputsStand, NextStands}
+use Rattle.walk_net.specs.Next.{tree_by, trees_by, next_of}
+use Rattle.walk_net.specs.Renaming.{IsNode}
+use Rattle.walk_net.specs.Answer.{AreNumbers, OutputsStand, NextStands}
 use Rattle.trim_core.specs.Trimmed.{NextKept, IsKeptNet}
 use Rattle.net_trim.specs.Roots.{root_ids}
-use Rattle.net_trim.proofs.Roots.{asked_are}
-use Rattle.net_trim.proofs.Nexts.{nexts_same, next_given, register_next}
+use Rattle.net_trim.proofs.Roots.{asked_are, asked_nodes}
+use Rattle.net_trim.proofs.Nexts.{nexts_same, next_given, next_over, register_next}
 
 got_in : {A : Type 0} (xs : List A) (k : ℕ) (x : A) → slice_get xs k ≡ Some x → IsIn x xs
 got_in [] k x e = absurd (none-some x e)
@@ -39,9 +41,8 @@ got_in (y ∷ xs) (suc k) x e = inr (got_in xs k x e)
 
 -- what the walk over a net gave
 pub record IsKeptOf (net : NetParts) (roots : List Whole) (kept : NetParts) : Type 0 where
-  pub nodes : (registers : List Origin) → ((o : Origin) (t : Whole) → next_of net o ≡ Some t → IsIn o registers) → trees_of kept.nodes ≡ numbered roots (next_of net) (length registers)
+  pub rounds : AreNumbers roots (next_of net) (trees_of kept.nodes)
   pub are_kept : NumberedAreKept roots (next_of net) (trees_of kept.nodes)
-  pub among : (t : Whole) → IsIn t (trees_of kept.nodes) → IsIn t (trees_of net.nodes)
   pub outputs : OutputsStand net.nodes kept.nodes net.outputs kept.outputs
   pub nexts : EachOf (NextStands (next_of net) kept.nodes) kept.nexts
   pub is_net : IsNet kept
@@ -84,12 +85,28 @@ module _ (d : Design) (n : ℕ) (mode : Mode) (l : code.Lowered) (h : IsLowered 
 
   trees_same : trees_of kept.nodes ≡ kept_trees d n l.mode
   trees_same =
-      g.nodes registers (λ o t e. (next_given d n mode l h o t e).0)
+      g.rounds registers (λ o t e. (next_given d n mode l h o t e).0)
       ∙ (λ i. numbered (roots_same i) (next_same i) (length registers))
       ∙ ap (numbered (asked_trees d n l.mode) (next_in (processes_of d) n)) (length-map (processes_of d).givens (λ (given : Given). given.1))
 
   pub kept_same : NumberedAreKept (asked_trees d n l.mode) (next_in (processes_of d) n) (trees_of kept.nodes)
   kept_same = subst (λ next. NumberedAreKept (asked_trees d n l.mode) next (trees_of kept.nodes)) next_same (subst (λ roots. NumberedAreKept roots (next_of l.net) (trees_of kept.nodes)) roots_same g.are_kept)
+
+  -- what is kept is of inputs of the top and registers
+  roots_over : (ids : List NodeId) → EachOf (IsNode l.net.nodes) ids → (t : Whole) → IsIn t (map (tree_by l.net.nodes) ids) → OverGivens (processes_of d) t
+  roots_over [] e t i = absurd i
+  roots_over (id ∷ ids) e t (inl same) = subst (OverGivens (processes_of d)) (sym same) (h.over id.0 e.0)
+  roots_over (id ∷ ids) e t (inr i) = roots_over ids e.1 t i
+
+  over_kept : (t : Whole) → IsKept (trees_by l.net.nodes (root_ids l.net.outputs l.mode l.rows)) (next_of l.net) t → OverGivens (processes_of d) t
+  over_kept t (root u i) = roots_over (root_ids l.net.outputs l.mode l.rows) (asked_nodes d n l.net.nodes l.net.outputs h.outputs l.mode l.rows h.rows) t i
+  over_kept t (of_one op a k) = over_kept (One op t) k
+  over_kept t (of_left op a b k) = (over_kept (Two op t b) k).0
+  over_kept t (of_right op a b k) = (over_kept (Two op a t) k).1
+  over_kept t (of_test c a b k) = (over_kept (Mux t a b) k).0
+  over_kept t (of_then c a b k) = (over_kept (Mux c t b) k).1
+  over_kept t (of_else c a b k) = (over_kept (Mux c a t) k).2
+  over_kept t (of_register o u e k) = next_over d n mode l h o t e
 
   next_kept : (p : Place) (o : Origin) → IsIn (p, o) (processes_of d).givens → NextKept d n kept p o
   next_kept p (Input name width) i = tt
@@ -119,6 +136,5 @@ module _ (d : Design) (n : ℕ) (mode : Mode) (l : code.Lowered) (h : IsLowered 
     outputs = outputs_told d n l.net.nodes kept.nodes (ports_in true (top_signals d)) l.net.outputs kept.outputs h.outputs g.outputs;
     nexts = each_from (λ (given : Given). NextKept d n kept given.0 given.1) (processes_of d).givens (λ given i. next_kept given.0 given.1 i);
     over = λ j within.
-        let old = in_node l.net.nodes (tree_of kept.nodes j) (g.among (tree_of kept.nodes j) (node_in kept.nodes j (tree_of kept.nodes j) (record { within = within; tree = refl }))) in
-        subst (OverGivens (processes_of d)) old.1.tree (h.over old.0 old.1.within);
+        over_kept (tree_of kept.nodes j) ((g.are_kept.kept (tree_of kept.nodes j)).0 (node_in kept.nodes j (tree_of kept.nodes j) (record { within = within; tree = refl })));
   }

@@ -88,6 +88,13 @@ module _ (d : Design) (n : ℕ) (mode : Mode) (l : code.Lowered) (h : IsLowered 
       let first : IsNext l.net.nodes found.pair = h.is_net.nexts.registers found.place found.pair found.at in
       (subst (OverGivens (processes_of d)) found.register (h.over found.pair.0 first.within), ap is_register (sym found.register) ∙ first.register)
 
+  -- and its tree is one of inputs of the top and registers
+  pub next_over : (o : Origin) (t : Whole) → next_of l.net o ≡ Some t → OverGivens (processes_of d) t
+  next_over o t e =
+      let found = found_next l.net.nodes l.net.nexts o t e in
+      let first : IsNext l.net.nodes found.pair = h.is_net.nexts.registers found.place found.pair found.at in
+      subst (OverGivens (processes_of d)) found.tree (h.over found.pair.1 first.next)
+
   pub nexts_same : (o : Origin) → next_of l.net o ≡ next_in (processes_of d) n o
   nexts_same o = by_found (find (λ (given : Given). same_origin given.1 o) (processes_of d).givens) refl
     where
