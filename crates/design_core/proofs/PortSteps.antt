@@ -9,9 +9,10 @@ use Rattle.design_core.specs.declared.variant.Kind.TheVariants.{Input, Output, W
 use Rattle.design_core.specs.declared.design.Instance.{Instance}
 use Rattle.design_core.specs.Design.{Variant}
 use Rattle.exec_core.specs.Block.{Name}
-use Rattle.gen_token.specs.Spelling.{IsName}
+use Rattle.gen_token.specs.Spelling.{IsName, is_name}
+use Rattle.gen_token.proofs.ReadName.{test_from_name}
 use Rattle.exec_core.specs.Lists.{EachOf}
-use Rattle.design_core.specs.Ports.{has_width, IsNamed, HaveNames, bits, is_port, is_width, fits, all_fit, one_port, ports_in}
+use Rattle.design_core.specs.Ports.{has_width, has_name, have_names, bits, is_port, is_width, fits, all_fit, one_port, ports_in}
 use Rattle.design_core.specs.WellFormed.{if_reg, regs, registers, signals_at, IfPort, IsVariant}
 
 ports_both : (output : Bool) (first second : List Signal) → ports_in output (first ++ second) ≡ ports_in output first ++ ports_in output second
@@ -132,22 +133,22 @@ widths_kept variants seen signals inputs outputs known is fit ins outs =
 
 -- ---- the names of ports
 
-each_both : {A : Type 0} (P : A → Type 0) (first second : List A) → EachOf P first → EachOf P second → EachOf P (first ++ second)
-each_both P [] second h g = g
-each_both P (a ∷ first) second h g = (h.0, each_both P first second h.1 g)
+names_both : (first second : List (Name × ℕ)) → list_all has_name first ≡ true → list_all has_name second ≡ true → list_all has_name (first ++ second) ≡ true
+names_both [] second h g = g
+names_both (p ∷ first) second h g = let parts = and_parts (has_name p) (list_all has_name first) h in true_both (has_name p) (list_all has_name (first ++ second)) parts.0 (names_both first second parts.1 g)
 
-one_named : (output : Bool) (s : Signal) (k : Kind) → IfPort IsName s k → EachOf IsNamed (if is_port output k then (s.name, bits s.width) ∷ [] else [])
-one_named true s Input h = tt
-one_named false s Input h = (h, tt)
-one_named true s Output h = (h, tt)
-one_named false s Output h = tt
-one_named output s Wire h = tt
-one_named output s (Reg start) h = tt
-one_named output s (ChildOut k port) h = tt
+one_named : (output : Bool) (s : Signal) (k : Kind) → IfPort IsName s k → list_all has_name (if is_port output k then (s.name, bits s.width) ∷ [] else []) ≡ true
+one_named true s Input h = refl
+one_named false s Input h = true_both _ _ (test_from_name s.name h) refl
+one_named true s Output h = true_both _ _ (test_from_name s.name h) refl
+one_named false s Output h = refl
+one_named output s Wire h = refl
+one_named output s (Reg start) h = refl
+one_named output s (ChildOut k port) h = refl
 
-ports_named : (output : Bool) (signals : List Signal) → EachOf (λ s. IfPort IsName s s.kind) signals → EachOf IsNamed (ports_in output signals)
-ports_named output [] h = tt
-ports_named output (s ∷ signals) h = each_both IsNamed (one_port output s) (ports_in output signals) (one_named output s s.kind h.0) (ports_named output signals h.1)
+ports_named : (output : Bool) (signals : List Signal) → EachOf (λ s. IfPort IsName s s.kind) signals → list_all has_name (ports_in output signals) ≡ true
+ports_named output [] h = refl
+ports_named output (s ∷ signals) h = names_both (one_port output s) (ports_in output signals) (one_named output s s.kind h.0) (ports_named output signals h.1)
 
 first_named : (all variants : List Variant) (top : Name) → EachOf (IsVariant all) variants → option_map (λ v. v.«module») (slice_get variants 0) ≡ Some top
     → IsName top × EachOf (λ s. IfPort IsName s s.kind) (signals_at 0 variants)
@@ -156,11 +157,13 @@ first_named all (v ∷ variants) top h e = (subst IsName (same_Some v.«module»
 
 -- a design's ports have names
 pub names_kept : (variants seen : List Variant) (signals : List Signal) (top «module» : Name) (inputs outputs : List (Name × ℕ)) → seen ≡ variants → signals ≡ signals_at 0 seen → EachOf (IsVariant variants) variants
-    → option_map (λ v. v.«module») (slice_get variants 0) ≡ Some top → «module» ≡ top → inputs ≡ ports_in false signals → outputs ≡ ports_in true signals → HaveNames «module» inputs outputs
+    → option_map (λ v. v.«module») (slice_get variants 0) ≡ Some top → «module» ≡ top → inputs ≡ ports_in false signals → outputs ≡ ports_in true signals → have_names «module» inputs outputs ≡ true
 names_kept variants seen signals top «module» inputs outputs known is each named same ins outs =
     let first = first_named variants variants top each named in
     let all : EachOf (λ s. IfPort IsName s s.kind) signals = subst (EachOf (λ s. IfPort IsName s s.kind)) (sym (is ∙ ap (signals_at 0) known)) first.1 in
-    (subst IsName (sym same) first.0, subst (EachOf IsNamed) (sym ins) (ports_named false signals all), subst (EachOf IsNamed) (sym outs) (ports_named true signals all))
+    true_both _ _
+    (true_both _ _ (ap is_name same ∙ test_from_name top first.0) (ap (list_all has_name) ins ∙ ports_named false signals all))
+    (ap (list_all has_name) outs ∙ ports_named true signals all)
 
 pub ruleset register_steps = (registers_more, registers_within)
 

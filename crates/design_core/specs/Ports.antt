@@ -1,11 +1,11 @@
 -- The ports of a design.
 use Rattle.std.specs.Prelude.{ℕ, ℤ, pos, negsuc, int_le, Bool, true, false, List, [], ◌∷◌, ◌++◌, nat_le, ◌&&◌, if◌then◌else◌}
+use Rattle.std.specs.List.{list_all}
 use Rattle.design_core.specs.declared.variant.Signal.{Signal}
 use Rattle.design_core.specs.declared.variant.Kind.{Kind}
 use Rattle.design_core.specs.declared.variant.Kind.TheVariants.{Input, Output, Wire, Reg, ChildOut}
-use Rattle.gen_token.specs.Spelling.{IsName}
+use Rattle.gen_token.specs.Spelling.{is_name}
 use Rattle.exec_core.specs.Block.{Name}
-use Rattle.exec_core.specs.Lists.{EachOf}
 use Rattle.design_core.specs.Design.{Design}
 use Rattle.design_core.specs.WellFormed.{signals_at}
 
@@ -13,12 +13,13 @@ use Rattle.design_core.specs.WellFormed.{signals_at}
 abbrev pub has_width : List ℕ × ℕ → Bool
 has_width port = nat_le 1 port.1 && nat_le port.1 128
 
--- a port with its width has a name, and so has the module, and each input and output
-abbrev pub IsNamed : Name × ℕ → Type 0
-IsNamed port = IsName port.0
+-- a port with its width: its name is a name of the language
+abbrev pub has_name : List ℕ × ℕ → Bool
+has_name port = is_name port.0
 
-abbrev pub HaveNames : Name → List (Name × ℕ) → List (Name × ℕ) → Type 0
-HaveNames top inputs outputs = IsName top × EachOf IsNamed inputs × EachOf IsNamed outputs
+-- so is that of a module, and of each of its inputs and outputs
+abbrev pub have_names : List ℕ → List (List ℕ × ℕ) → List (List ℕ × ℕ) → Bool
+have_names top inputs outputs = is_name top && list_all has_name inputs && list_all has_name outputs
 
 -- a width in bits; a negative one is none
 abbrev pub bits : ℤ → ℕ

@@ -10,7 +10,6 @@ use Rattle.exec_core.specs.Block.{Name}
 use Rattle.exec_core.specs.Lists.{EachOf, IsNotIn, AreApart}
 use Rattle.design_core.specs.Design.{Gens, AreInRange, Child, Variant, Design}
 use Rattle.design_core.specs.WellFormed.{IsChild, AreChildren, IfPort, HasLines, IsVariant, IsDesign}
-use Rattle.design_core.specs.Ports.{IsNamed, HaveNames}
 
 kind_set : IsSet Kind
 kind_set = hlevel props
@@ -64,11 +63,3 @@ variant_prop variants v = hlevel (props, signal_set, each_prop, gens_prop, name_
 
 pub design_prop : (d : Design) → IsProp (IsDesign d)
 design_prop d = hlevel (props, instance_set, each_prop, variant_prop, children_prop, apart_prop)
-
--- ---- and so do the names of its ports
-
-named_prop : (port : Name × ℕ) → IsProp (IsNamed port)
-named_prop port = name_prop port.0
-
-pub names_prop : (top : Name) (inputs outputs : List (Name × ℕ)) → IsProp (HaveNames top inputs outputs)
-names_prop top inputs outputs = hlevel (props, name_prop, each_prop, named_prop)

@@ -1,7 +1,6 @@
 ghost use Rattle.std.specs.Prelude.{◌≡◌, IsTrue, IfOk, ◌&&◌};
 ghost use Rattle.std.specs.List.{list_all};
-ghost use Rattle.design_core.specs.Ports.{has_width, HaveNames};
-ghost use Rattle.design_core.specs.Single.{names_prop};
+ghost use Rattle.design_core.specs.Ports.{has_width, have_names};
 
 use std::alloc::Global;
 use text_core::{Listed, NoMemory, Text};
@@ -16,7 +15,7 @@ pub struct Ports {
     pub outputs: Listed<(Text, u8)>,
     pub registers: u32,
     pub ghost widths: { IsTrue (list_all has_width inputs && list_all has_width outputs) },
-    pub ghost names: { HaveNames «module» inputs outputs } by { names_prop «module» inputs outputs },
+    pub ghost names: { IsTrue (have_names «module» inputs outputs) },
 }
 
 impl Ports {

@@ -1,11 +1,18 @@
 -- The counter of 4 bits, over three rows.
-use Rattle.std.specs.Prelude.{◌≡◌, [], ◌∷◌, codes, refl}
+use Rattle.std.specs.Prelude.{◌≡◌, true, [], ◌∷◌, codes, refl}
 use Rattle.bv_core.specs.declared.reference.Sample.TheVariants.{Known}
+use Rattle.gen_token.specs.Spelling.{is_name}
 use Rattle.design_core.specs.declared.Ports.{Ports}
+use Rattle.design_core.specs.Ports.{have_names}
 use Rattle.trace_core.specs.Samples.{Samples}
 use Rattle.stim_text.specs.Stimulus.{Stimulus}
 use Rattle.sim_core.specs.Sample.{bits, counter}
 use Rattle.sim_hist.specs.Run.{run_samples}
+
+-- the names of its ports
+pub counter_names : have_names (codes "Top") ((codes "d", 8) ∷ (codes "en", 1) ∷ []) ((codes "count", 4) ∷ []) ≡ true
+unfolding is_name
+counter_names = refl
 
 -- its ports are more than its net's inputs
 abbrev pub counter_ports : Ports
@@ -15,6 +22,7 @@ counter_ports = record {
   outputs = (codes "count", 4) ∷ [];
   registers = 1;
   widths = refl;
+  names = counter_names;
 }
 
 -- it is enabled in the first row and in the last

@@ -1,7 +1,7 @@
 ghost use Rattle.std.specs.Prelude.{IfOk, IfSome, IsTrue};
 ghost use Rattle.std.specs.List.{list_all};
-ghost use Rattle.exec_core.specs.Lists.{EachOf};
-ghost use Rattle.design_core.specs.Ports.{has_width, IsNamed};
+ghost use Rattle.gen_token.specs.Spelling.{is_name};
+ghost use Rattle.design_core.specs.Ports.{has_width, has_name};
 
 use crate::counter::{are_ports, counter, takes};
 use bv_core::{Bv, NodeId, Sample};
@@ -45,9 +45,10 @@ fn counts_where_it_is_enabled(rt: HostRuntime) -> Result<(), Fail> {
 }
 
 /// The inputs of the stimulus: one that the net does not have, and its enable.
+#[tactic(auto, unfolding(gen_token::specs::Spelling::is_name))]
 fn inputs(alloc: Global) -> Result<Listed<(Text, u8)>, Fail>
     ensures widths { IfOk result (λ found. IsTrue (list_all has_width found)) }
-    ensures names { IfOk result (λ found. EachOf IsNamed found) }
+    ensures names { IfOk result (λ found. IsTrue (list_all has_name found)) }
 {
     let mut inputs = Vec::new(alloc);
     inputs.push((Text::new(alloc, b"d")?, 8))?;
@@ -55,10 +56,18 @@ fn inputs(alloc: Global) -> Result<Listed<(Text, u8)>, Fail>
     Ok(Listed::new(inputs))
 }
 
+/// The name of its module.
+#[tactic(auto, unfolding(gen_token::specs::Spelling::is_name))]
+fn module_name(alloc: Global) -> Result<Text, Fail>
+    ensures { IfOk result (λ name. IsTrue (is_name name)) }
+{
+    Ok(Text::new(alloc, b"Top")?)
+}
+
 /// The trace of the counter under a stimulus.
 fn trace(alloc: Global, rows: &[u8]) -> Result<SimTrace, Fail> {
     let ports = Ports {
-        module: Text::new(alloc, b"Top")?,
+        module: module_name(alloc)?,
         inputs: inputs(alloc)?,
         outputs: Listed::new(Vec::new(alloc)),
         registers: 1,

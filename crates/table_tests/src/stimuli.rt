@@ -2,8 +2,8 @@
 
 ghost use Rattle.std.specs.Prelude.{IfOk, IfSome, IsTrue};
 ghost use Rattle.std.specs.List.{list_all};
-ghost use Rattle.exec_core.specs.Lists.{EachOf};
-ghost use Rattle.design_core.specs.Ports.{has_width, IsNamed};
+ghost use Rattle.gen_token.specs.Spelling.{is_name};
+ghost use Rattle.design_core.specs.Ports.{has_width, has_name};
 
 use design_core::Ports;
 use gen_token::is_name;
@@ -15,7 +15,7 @@ use text_core::{Listed, NoMemory, Text};
 /// These names with their widths. None where one of them is no name, or a width is not 1 to 128.
 fn inputs_of(alloc: Global, names: &[(&str, u8)]) -> Result<Option<Listed<(Text, u8)>>, NoMemory>
     ensures widths { IfOk result (λ found. IfSome found (λ inputs. IsTrue (list_all has_width inputs))) }
-    ensures names { IfOk result (λ found. IfSome found (λ inputs. EachOf IsNamed inputs)) }
+    ensures names { IfOk result (λ found. IfSome found (λ inputs. IsTrue (list_all has_name inputs))) }
 {
     let mut inputs = Vec::new(alloc);
     for (name, width) in names {
@@ -25,6 +25,14 @@ fn inputs_of(alloc: Global, names: &[(&str, u8)]) -> Result<Option<Listed<(Text,
         inputs.push((Text::new(alloc, name.as_bytes())?, *width))?;
     }
     Ok(Some(Listed::new(inputs)))
+}
+
+/// The name of a module.
+#[tactic(auto, unfolding(gen_token::specs::Spelling::is_name))]
+fn module_name(alloc: Global) -> Result<Text, NoMemory>
+    ensures { IfOk result (λ name. IsTrue (is_name name)) }
+{
+    Text::new(alloc, b"A")
 }
 
 /// Ports with these inputs, and so many registers. None where one of them has no name, or a width is not 1 to 128.
@@ -37,7 +45,7 @@ fn ports_of(
         return Ok(None);
     };
     Ok(Some(Ports {
-        module: Text::new(alloc, b"A")?,
+        module: module_name(alloc)?,
         inputs,
         outputs: Listed::new(Vec::new(alloc)),
         registers,
