@@ -1,4 +1,4 @@
-pub mod Roots
+pub mod Asked
 pub mod Nexts
 pub mod Nets
 pub mod Told

@@ -31,7 +31,7 @@ use Rattle.walk_net.specs.Renaming.{IsNode}
 use Rattle.walk_net.specs.Answer.{AreNumbers, OutputsStand, NextStands}
 use Rattle.trim_core.specs.Trimmed.{NextKept, IsKeptNet}
 use Rattle.net_trim.specs.Roots.{root_ids}
-use Rattle.net_trim.proofs.Roots.{asked_are, asked_nodes}
+use Rattle.net_trim.proofs.Asked.{asked_are, asked_nodes}
 use Rattle.net_trim.proofs.Nexts.{nexts_same, next_given, next_over, register_next}
 
 got_in : {A : Type 0} (xs : List A) (k : ℕ) (x : A) → slice_get xs k ≡ Some x → IsIn x xs
@@ -80,7 +80,7 @@ module _ (d : Design) (n : ℕ) (mode : Mode) (l : code.Lowered) (h : IsLowered 
   next_same : next_of l.net ≡ next_in (processes_of d) n
   next_same = λ i o. nexts_same d n mode l h o i
 
-  registers : List Origin
+  abbrev registers : List Origin
   registers = map (λ (given : Given). given.1) (processes_of d).givens
 
   trees_same : trees_of kept.nodes ≡ kept_trees d n l.mode

@@ -35,31 +35,42 @@ record FoundNext (ns : List Shape) (pairs : List (ℕ × ℕ)) (o : Origin) (t :
 
 found_next : (ns : List Shape) (pairs : List (ℕ × ℕ)) (o : Origin) (t : Whole) → next_among ns pairs o ≡ Some t → FoundNext ns pairs o t
 found_next ns [] o t e = absurd (none-some t e)
-found_next ns (pair ∷ pairs) o t e = by_test (same_tree same_origin (Leaf o) (tree_of ns pair.0)) refl e
+found_next ns (pair ∷ pairs) o t e = by_test (λ h. found_next ns pairs o t h) (same_tree same_origin (Leaf o) (tree_of ns pair.0)) refl e
   where
-    by_test : (b : Bool) → same_tree same_origin (Leaf o) (tree_of ns pair.0) ≡ b → (if b then Some (tree_of ns pair.1) else next_among ns pairs o) ≡ Some t → FoundNext ns (pair ∷ pairs) o t
-    by_test true s h = record {
+    by_test : (next_among ns pairs o ≡ Some t → FoundNext ns pairs o t) → (b : Bool) → same_tree same_origin (Leaf o) (tree_of ns pair.0) ≡ b → (if b then Some (tree_of ns pair.1) else next_among ns pairs o) ≡ Some t → FoundNext ns (pair ∷ pairs) o t
+    by_test later true s h = record {
       pair = pair;
       place = 0;
       at = refl;
       register = sym (same_tree-sound same_origin same_origin-sound (Leaf o) (tree_of ns pair.0) s);
       tree = same_Some (tree_of ns pair.1) t h;
     }
-    by_test false s h =
-        let f = found_next ns pairs o t h in record { pair = f.pair; place = suc f.place; at = f.at; register = f.register; tree = f.tree }
+    by_test later false s h =
+        let f = later h in record { pair = f.pair; place = suc f.place; at = f.at; register = f.register; tree = f.tree }
 
 -- a register that stands among the pairs is found
 not_missed : (ns : List Shape) (pairs : List (ℕ × ℕ)) (o : Origin) (pair : ℕ × ℕ) → IsIn pair pairs → tree_of ns pair.0 ≡ Leaf o → (t : Whole) × (next_among ns pairs o ≡ Some t)
 not_missed ns [] o pair i e = absurd i
-not_missed ns (p ∷ pairs) o pair i e = by_test (same_tree same_origin (Leaf o) (tree_of ns p.0)) refl i
+not_missed ns (p ∷ pairs) o pair i e = by_test (λ j. not_missed ns pairs o pair j e) (same_tree same_origin (Leaf o) (tree_of ns p.0)) refl i
   where
     itself : same_tree same_origin (Leaf o) (tree_of ns pair.0) ≡ true
     itself = subst (λ (u : Whole). same_tree same_origin (Leaf o) u ≡ true) (sym e) (same_tree-refl same_origin same_origin-refl (Leaf o))
 
-    by_test : (b : Bool) → same_tree same_origin (Leaf o) (tree_of ns p.0) ≡ b → IsIn pair (p ∷ pairs) → (t : Whole) × ((if b then Some (tree_of ns p.1) else next_among ns pairs o) ≡ Some t)
-    by_test true s j = (tree_of ns p.1, refl)
-    by_test false s (inl same) = absurd (true≢false (sym itself ∙ ap (λ (q : ℕ × ℕ). same_tree same_origin (Leaf o) (tree_of ns q.0)) same ∙ s))
-    by_test false s (inr j) = not_missed ns pairs o pair j e
+    by_test : (IsIn pair pairs → (t : Whole) × (next_among ns pairs o ≡ Some t)) → (b : Bool) → same_tree same_origin (Leaf o) (tree_of ns p.0) ≡ b → IsIn pair (p ∷ pairs) → (t : Whole) × ((if b then Some (tree_of ns p.1) else next_among ns pairs o) ≡ Some t)
+    by_test later true s j = (tree_of ns p.1, refl)
+    by_test later false s (inl same) = absurd (true≢false (sym itself ∙ ap (λ (q : ℕ × ℕ). same_tree same_origin (Leaf o) (tree_of ns q.0)) same ∙ s))
+    by_test later false s (inr j) = later j
+
+-- what is given is found
+some_given : (o : Origin) (list : List Given) → IsIn o (map (λ (given : Given). given.1) list) → find (λ (given : Given). same_origin given.1 o) list ≡ None → ⊥
+some_given o [] i f = i
+some_given o (given ∷ list) i f = at_test (λ j g. some_given o list j g) (same_origin given.1 o) refl i f
+  where
+    at_test : (IsIn o (map (λ (q : Given). q.1) list) → find (λ (q : Given). same_origin q.1 o) list ≡ None → ⊥) → (b : Bool) → same_origin given.1 o ≡ b → IsIn o (given.1 ∷ map (λ (q : Given). q.1) list)
+        → (if b then Some given else find (λ (q : Given). same_origin q.1 o) list) ≡ None → ⊥
+    at_test later true s j g = none-some given (sym g)
+    at_test later false s (inl same) g = true≢false (sym (subst (λ u. same_origin u o ≡ true) same (same_origin-refl o)) ∙ s)
+    at_test later false s (inr j) g = later j g
 
 module _ (d : Design) (n : ℕ) (mode : Mode) (l : code.Lowered) (h : IsLowered d n mode l) where
   -- of each register of the design its tree is found
@@ -98,19 +109,9 @@ module _ (d : Design) (n : ℕ) (mode : Mode) (l : code.Lowered) (h : IsLowered 
   pub nexts_same : (o : Origin) → next_of l.net o ≡ next_in (processes_of d) n o
   nexts_same o = by_found (find (λ (given : Given). same_origin given.1 o) (processes_of d).givens) refl
     where
-      some_given : (list : List Given) → IsIn o (map (λ (given : Given). given.1) list) → find (λ (given : Given). same_origin given.1 o) list ≡ None → ⊥
-      some_given [] i f = i
-      some_given (given ∷ list) i f = at_test (same_origin given.1 o) refl i f
-        where
-          at_test : (b : Bool) → same_origin given.1 o ≡ b → IsIn o (given.1 ∷ map (λ (q : Given). q.1) list) → (if b then Some given else find (λ (q : Given). same_origin q.1 o) list) ≡ None → ⊥
-          at_test true s j g = none-some given (sym g)
-          at_test false s (inl same) g =
-              true≢false (sym (subst (λ u. same_origin u o ≡ true) same (same_origin-refl o)) ∙ s)
-          at_test false s (inr j) g = some_given list j g
-
       none_next : (o' : Option Whole) → next_of l.net o ≡ o' → find (λ (given : Given). same_origin given.1 o) (processes_of d).givens ≡ None → o' ≡ None
       none_next None e f = refl
-      none_next (Some t) e f = absurd (some_given (processes_of d).givens (next_given o t e).0 f)
+      none_next (Some t) e f = absurd (some_given o (processes_of d).givens (next_given o t e).0 f)
 
       by_origin : (p : Place) (q : Origin) → q ≡ o → IsIn (p, q) (processes_of d).givens → next_of l.net o ≡ next_if (processes_of d) n (Some (p, q))
       by_origin p (Register instance name start) same i = ap (next_of l.net) (sym same) ∙ register_next p instance name start i

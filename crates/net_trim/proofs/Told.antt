@@ -37,7 +37,7 @@ use Rattle.trim_core.specs.Trimmed as trimmed
 use Rattle.trim_core.specs.Trimmed.{FoundTold, NameTold, NamesTold, RowsTold, SlotsTold, bare_slot}
 use Rattle.net_trim.specs.Made.{ref_by, ref_made, found_binding, cell_made, IsMade, AreMade, CanBeMade, front_of, rest_of, IsFilled, AreFilled}
 use Rattle.world_core.proofs.Listing.{map_in, map_from, flat_from, from_in}
-use Rattle.net_trim.proofs.Roots.{enable_is, name_is}
+use Rattle.net_trim.proofs.Asked.{enable_is, name_is}
 
 -- ---- where a tree is found
 
@@ -68,7 +68,7 @@ module _ (kept : Whole → Type 0) (old new : List Shape) (ids : List (Option No
       by_constant None k (Some new_id) i f =
           let stands = h.some id.0 new_id s.within i in
           subst (FoundTold new t) (same_Some (Node new_id (width_at old id.0)) at f)
-          (k, record { within = stands.within; tree = stands.tree ∙ s.tree }, ap tree_width s.tree)
+          (k, (record { within = stands.within; tree = stands.tree ∙ s.tree }, ap tree_width s.tree))
       by_constant None k None i f = absurd (none-some at f)
 
   not_found : (id : NodeId) (t : Whole) → Stands old id.0 t → ref_made old ids id ≡ None → (constant t ≡ None) × (kept t → ⊥)

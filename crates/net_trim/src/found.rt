@@ -1,6 +1,6 @@
 //! Where the nodes of a net are found among those that were kept of it.
 
-ghost use Rattle.std.specs.Prelude.{◌≡◌, ◌<◌, ◌↔◌, IfOk, All, Some, IsSome, length, map};
+ghost use Rattle.std.specs.Prelude.{◌≡◌, ◌<◌, ◌++◌, [], ◌∷◌, IfOk, OnOk, All, IsSome, length, map};
 ghost use Rattle.std.specs.Option.{ForSome};
 ghost use Rattle.net_core.specs.Nodes.{shape_of, shape_at};
 ghost use Rattle.net_core.specs.Builder.{constant_shape};
@@ -51,6 +51,21 @@ fn binding(net: &Net, ids: &[Option<NodeId>], cell: Option<NodeId>) -> Binding
     }
 }
 
+/// Puts what a name stands for last.
+fn push_binding(
+    made: &mut Vec<Binding>,
+    net: &Net,
+    ids: &[Option<NodeId>],
+    cell: Option<NodeId>,
+) -> Result<(), NoMemory>
+    requires within { ForSome cell (λ id. id.0 < length net.now.nodes) }
+    requires long { length ids.now ≡ length net.now.nodes }
+    ensures { OnOk result (made.new.items ≡ made.old.items ++ cell_made net.now.nodes ids.now cell ∷ []) }
+{
+    made.push(binding(net, ids, cell))?;
+    Ok(())
+}
+
 /// What names stand for, in order.
 fn bindings(
     alloc: Global,
@@ -64,7 +79,7 @@ fn bindings(
 {
     let mut made = Vec::new(alloc);
     for cell in cells {
-        made.push(binding(net, ids, *cell))?;
+        push_binding(&mut made, net, ids, *cell)?;
     }
     Ok(made)
 }

@@ -5,6 +5,6 @@ mod found;
 mod names;
 mod roots;
 mod slots;
-mod trim;
+mod whole;
 
-pub use trim::trim;
+pub use whole::trim;

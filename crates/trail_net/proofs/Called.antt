@@ -36,7 +36,7 @@ use Rattle.trace_world.specs.TraceWorld.{trace_world}
 use Rattle.trim_core.specs.Named.{named, node_names}
 use Rattle.trim_core.specs.Trimmed.{IsTrimmed}
 use Rattle.trim_laws.specs.Runs.{HasInputs, RunsOver}
-use Rattle.trim_laws.proofs.RowsFit.{IsPort, inputs_ports}
+use Rattle.world_laws.proofs.RowsFit.{IsPort, inputs_ports}
 use Rattle.trim_laws.proofs.Worlds.{worlds_are_same}
 use Rattle.trail_net.specs.Taken.{TakesTrail, TakesTrailFront}
 

@@ -11,7 +11,7 @@ use Rattle.check_exec.specs.Premises.{IsSound}
 use Rattle.check_exec.proofs.Ready.{runs_of_accepted_agree}
 use Rattle.world_core.specs.Source.{rows_named}
 use Rattle.trim_laws.specs.Runs.{HasInputs, DesignsRun}
-use Rattle.trim_laws.proofs.RowsFit.{Port, HasWidths, rows_fit}
+use Rattle.world_laws.proofs.RowsFit.{Port, HasWidths, rows_fit}
 
 pub rows_of_stimulus : (d : Design) (stim : Stimulus) → IsSound d → IsStimulus stim → HasInputs d stim.ports → EachOf (RowFits (processes_of d)) (rows_named (ports_in false (top_signals d)) stim.rows)
 rows_of_stimulus d stim sound kept inputs =

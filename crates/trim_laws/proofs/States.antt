@@ -34,7 +34,7 @@ use Rattle.sim_hist.proofs.Running.{input_widths, register_widths, first_registe
 use Rattle.check_exec.proofs.Facts.{in_index}
 use Rattle.world_core.specs.Source.{value_named, rows_named}
 use Rattle.lower_core.specs.Lowered.{HasNode, NextTold}
-use Rattle.trim_laws.proofs.RowsFit.{Port, first_width, HasWidths, IsFirst}
+use Rattle.world_laws.proofs.RowsFit.{Port, first_width, HasWidths, IsFirst}
 
 -- ---- lists
 

@@ -29,7 +29,7 @@ use Rattle.world_core.specs.Kept.{block_row, whole_in, enable_tree, name_tree}
 use Rattle.world_core.specs.Source.{nothing, settled_in, visit_in, unset_among, unset_at}
 use Rattle.world_core.proofs.Status.{unset_means, unset_told}
 use Rattle.world_laws.proofs.SitesOf.{SiteIs, sites_are, IsOrdered, ordered, spot_is}
-use Rattle.trim_laws.proofs.Spots.{scope_known, process_in, row_slot, enable_value, name_value}
+use Rattle.world_laws.proofs.Spots.{scope_known, process_in, row_slot, enable_value, name_value}
 
 -- ---- options
 

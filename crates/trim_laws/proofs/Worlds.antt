@@ -55,10 +55,10 @@ use Rattle.trace_world.specs.TraceWorld.{gen_of, found_by, is_on, status_by, val
 use Rattle.trim_core.specs.Trimmed.{FoundTold, NameTold, NextKept, bare_slot, IsTrimmed}
 use Rattle.world_laws.proofs.SitesOf.{order_slots, ordered}
 use Rattle.trim_laws.specs.Worlds.{IsRunOf, WorldsAreSame}
-use Rattle.trim_laws.proofs.RowsFit.{Port, IsFirst, inputs_first}
+use Rattle.world_laws.proofs.RowsFit.{Port, IsFirst, inputs_first}
 use Rattle.trim_laws.proofs.Running.{rows_of_stimulus}
 use Rattle.trim_laws.proofs.States.{state_in, GivensKept, are_states}
-use Rattle.trim_laws.proofs.Spots.{not_there}
+use Rattle.world_laws.proofs.Spots.{not_there}
 use Rattle.trim_laws.proofs.Visits.{mapped_from, row_of_enable, SpotUnset, SpotTells, spot_unset, spot_tells, state_at, CyclesAre, cycles_are, kept_values}
 use Rattle.trim_laws.proofs.Tables.{variant_places, slot_instances, RowIs, row_is, enable_is, CellIs, cell_is}
 use Rattle.trim_laws.proofs.Values.{number_told, has_told, found_status, removed_status, found_value, enable_on}

@@ -1,1 +1,3 @@
 pub mod SitesOf
+pub mod RowsFit
+pub mod Spots

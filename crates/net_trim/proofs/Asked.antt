@@ -89,20 +89,20 @@ module _ (d : Design) (n : ℕ) (nodes : List Shape) where
   cells_nodes i row [] [] h = tt
   cells_nodes i row [] (cell ∷ cells) h = absurd h
   cells_nodes i row (x ∷ names) [] h = absurd h
-  cells_nodes i row (x ∷ names) (cell ∷ cells) h = by_cell (row.before (Now x)) cell h.0
+  cells_nodes i row (x ∷ names) (cell ∷ cells) h = by_cell (row.before (Now x)) cell h.0 (cells_nodes i row names cells h.1)
     where
-      by_cell : (o : Option (Tree Name)) (cell : Option NodeId) → CellTold d n nodes i o cell → EachOf (IsNode nodes) (cell_ids (cell ∷ cells))
-      by_cell None None g = cells_nodes i row names cells h.1
-      by_cell None (Some id) g = absurd g
-      by_cell (Some t) None g = absurd g
-      by_cell (Some t) (Some id) g = (g.within, cells_nodes i row names cells h.1)
+      by_cell : (o : Option (Tree Name)) (cell : Option NodeId) → CellTold d n nodes i o cell → EachOf (IsNode nodes) (cell_ids cells) → EachOf (IsNode nodes) (cell_ids (cell ∷ cells))
+      by_cell None None g rest = rest
+      by_cell None (Some id) g rest = absurd g
+      by_cell (Some t) None g rest = absurd g
+      by_cell (Some t) (Some id) g rest = (g.within, rest)
 
   rows_trees : (spots : List Spot) (rows : List FullRow) → AreTold d n nodes spots rows → map (tree_by nodes) (flat_map row_ids rows) ≡ name_trees d n spots
   rows_trees [] [] h = refl
   rows_trees [] (row ∷ rows) h = absurd h
   rows_trees (p ∷ spots) [] h = absurd h
   rows_trees (p ∷ spots) (row ∷ rows) h =
-      map-append (cell_ids row.cells) (flat_map row_ids rows) (tree_by nodes)
+      map-append (tree_by nodes) (cell_ids row.cells) (flat_map row_ids rows)
       ∙ ap₂ (λ (a b : List Whole). a ++ b) (cells_trees p h.0.row h.0.is p.0.names row.cells h.0.cells) (rows_trees spots rows h.1)
 
   each_append : (a b : List NodeId) → EachOf (IsNode nodes) a → EachOf (IsNode nodes) b → EachOf (IsNode nodes) (a ++ b)
@@ -128,9 +128,9 @@ module _ (d : Design) (n : ℕ) (nodes : List Shape) where
   pub asked_are : (outputs : List (Name × ℕ)) → OutputsTold d n nodes (ports_in true (top_signals d)) outputs → (mode : Mode) (rows : List FullRow) → AreTold d n nodes (all_spots d) rows
       → trees_by nodes (root_ids outputs mode rows) ≡ asked_trees d n mode
   asked_are outputs o mode rows h =
-      map-append (map id_of outputs) (map on_of rows ++ named_ids mode rows) (tree_by nodes)
+      map-append (tree_by nodes) (map id_of outputs) (map on_of rows ++ named_ids mode rows)
       ∙ ap₂ (λ (a b : List Whole). a ++ b) (outputs_trees (ports_in true (top_signals d)) outputs o)
-      (map-append (map on_of rows) (named_ids mode rows) (tree_by nodes) ∙ ap₂ (λ (a b : List Whole). a ++ b) (enables_trees (all_spots d) rows h) (named_same mode rows h))
+      (map-append (tree_by nodes) (map on_of rows) (named_ids mode rows) ∙ ap₂ (λ (a b : List Whole). a ++ b) (enables_trees (all_spots d) rows h) (named_same mode rows h))
 
   pub asked_nodes : (outputs : List (Name × ℕ)) → OutputsTold d n nodes (ports_in true (top_signals d)) outputs → (mode : Mode) (rows : List FullRow) → AreTold d n nodes (all_spots d) rows
       → EachOf (IsNode nodes) (root_ids outputs mode rows)
@@ -149,7 +149,7 @@ outputs_asked nodes outputs mode rows = each outputs outputs (λ t i. i)
 
     there : (o : List ℕ × ℕ) → IsIn o outputs → IsIn (tree_of nodes o.1) (trees_by nodes (root_ids outputs mode rows))
     there o i =
-        subst (λ ts. IsIn (tree_of nodes o.1) ts) (sym (map-append (map id_of outputs) (map on_of rows ++ named_ids mode rows) (tree_by nodes)))
+        subst (λ ts. IsIn (tree_of nodes o.1) ts) (sym (map-append (tree_by nodes) (map id_of outputs) (map on_of rows ++ named_ids mode rows)))
         (in_left (tree_of nodes o.1) (map (tree_by nodes) (map id_of outputs)) (map (tree_by nodes) (map on_of rows ++ named_ids mode rows)) (among outputs o i))
 
     each : (some all : List (List ℕ × ℕ)) → ((o : List ℕ × ℕ) → IsIn o some → IsIn o outputs) → EachOf (IsRoot nodes (trees_by nodes (root_ids outputs mode rows))) some
@@ -159,9 +159,9 @@ outputs_asked nodes outputs mode rows = each outputs outputs (λ t i. i)
 -- and so are the enables
 pub enable_asked : (nodes : List Shape) (outputs : List (List ℕ × ℕ)) (mode : Mode) (rows : List FullRow) (row : FullRow) → IsIn row rows → IsIn (tree_of nodes row.on.0) (trees_by nodes (root_ids outputs mode rows))
 enable_asked nodes outputs mode rows row i =
-    subst (λ ts. IsIn (tree_of nodes row.on.0) ts) (sym (map-append (map id_of outputs) (map on_of rows ++ named_ids mode rows) (tree_by nodes)))
+    subst (λ ts. IsIn (tree_of nodes row.on.0) ts) (sym (map-append (tree_by nodes) (map id_of outputs) (map on_of rows ++ named_ids mode rows)))
     (in_right (tree_of nodes row.on.0) (map (tree_by nodes) (map id_of outputs)) (map (tree_by nodes) (map on_of rows ++ named_ids mode rows))
-    (subst (λ ts. IsIn (tree_of nodes row.on.0) ts) (sym (map-append (map on_of rows) (named_ids mode rows) (tree_by nodes)))
+    (subst (λ ts. IsIn (tree_of nodes row.on.0) ts) (sym (map-append (tree_by nodes) (map on_of rows) (named_ids mode rows)))
     (in_left (tree_of nodes row.on.0) (map (tree_by nodes) (map on_of rows)) (map (tree_by nodes) (named_ids mode rows)) (among rows i))))
   where
     among : (some : List FullRow) → IsIn row some → IsIn (tree_of nodes row.on.0) (map (tree_by nodes) (map on_of some))

@@ -23,7 +23,10 @@ use Rattle.design_exec.specs.Processes.{Numbered, Given, processes_of, given_by,
 use Rattle.check_core.specs.Known.{Known, none, with}
 use Rattle.check_core.specs.Names.{signal_thing}
 use Rattle.check_exec.specs.Premises.{IsSound}
-use Rattle.check_exec.proofs.Facts.{each_flat, name_same, eq_turned}
+use Rattle.gen_token.specs.Spelling.{is_name_text, IsName}
+use Rattle.design_core.specs.WellFormed.{IfPort, IsVariant}
+use Rattle.exec_core.proofs.Lists.{each_member}
+use Rattle.check_exec.proofs.Facts.{each_at, each_flat, name_same, eq_turned}
 use Rattle.check_exec.proofs.Instances.{Stands, clean, each_instance}
 use Rattle.check_exec.proofs.Names.{Differ, other_behind, signals_differ}
 use Rattle.world_core.specs.Source.{value_named, rows_named}
@@ -181,3 +184,26 @@ rows_fit d sound (row ∷ rows) long bits = (
   row_fits d sound row (All-head (HasWidths (ports_in false (top_signals d))) row rows long) (All-head (All IsBits) row rows bits),
   rows_fit d sound rows (All-tail (HasWidths (ports_in false (top_signals d))) row rows long) (All-tail (All IsBits) row rows bits),
 )
+
+-- ---- the names of inputs
+
+abbrev pub HasInputName : Origin → Type 0
+HasInputName (Input name width) = is_name_text name ≡ true
+HasInputName (Register instance name start) = Unit {0}
+
+pub inputs_named : (d : Design) → IsSound d → EachOf (λ (given : Given). HasInputName given.1) (processes_of d).givens
+inputs_named d sound =
+    let P : Name → ℕ → Type 0 = λ x w. is_name_text x ≡ true in
+    each_of (λ (given : Given). Of P given.1) (λ (given : Given). HasInputName given.1) (processes_of d).givens (λ given h. by_origin P given.1 (λ x w e. e) h)
+    (each_given d sound P (λ s at differ e. named (slice_get d.variants 0) refl s at e))
+  where
+    by_origin : (P : Name → ℕ → Type 0) (o : Origin) → ((x : Name) (w : ℕ) → P x w → is_name_text x ≡ true) → Of P o → HasInputName o
+    by_origin P (Input name width) f h = f name width h
+    by_origin P (Register instance name start) f h = tt
+
+    named : (o : Option Variant) → slice_get d.variants 0 ≡ o → (s : Signal) → IsIn s (unwrap_or (option_map (λ (w : Variant). w.signals) o) []) → s.kind ≡ kind.Input → is_name_text s.name ≡ true
+    named None e s at k = absurd at
+    named (Some v) e s at k =
+        let variant : IsVariant d.variants v = each_at (IsVariant d.variants) d.variants 0 v e sound.kept.each in
+        let port : IfPort IsName s s.kind = each_member (λ (t : Signal). IfPort IsName t t.kind) v.signals variant.ports s at in
+        (subst (λ q. IfPort IsName s q) k port).text
