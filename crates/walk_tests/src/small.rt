@@ -150,7 +150,11 @@ fn kept_nodes_are_those_worked_by_hand(rt: HostRuntime) -> Result<(), Fail> {
         let walked = keep_nodes(alloc, &lowered.net, &roots)?;
         let texts = tree_texts(alloc, &walked.net)?;
         assert_eq!(rt; lines(alloc, &texts)?.as_str(), case.trees, "case {i}");
-        assert_eq!(rt; ends_text(alloc, &walked.net)?.as_str(), case.ends, "case {i}");
+        assert_eq!(rt;
+            ends_text(alloc, &walked.net)?.as_str(),
+            case.ends,
+            "case {i}"
+        );
         let before = tree_texts(alloc, &lowered.net)?;
         assert!(rt; are_ids(&before, &texts, walked.ids.items()), "case {i}");
     }
