@@ -1,5 +1,5 @@
 -- What the rows of a table are made of: where a node of a net is found among those that were kept of it.
-use Rattle.std.specs.Prelude.{◌≡◌, ℕ, ◌+◌, ◌<◌, ◌==◌, List, [], ◌∷◌, length, map, Option, Some, None, IsSome, All, if◌then◌else◌}
+use Rattle.std.specs.Prelude.{◌≡◌, ℕ, zero, suc, ◌+◌, ◌<◌, ◌≤◌, ◌==◌, List, [], ◌∷◌, length, map, Option, Some, None, IsSome, All, slice_get, if◌then◌else◌}
 use Rattle.std.specs.Option.{ForSome}
 use Rattle.bv_core.specs.Value.{Bits}
 use Rattle.bv_core.specs.declared.reference.NodeId.{NodeId}
@@ -75,3 +75,22 @@ AreFilled ns ids k rows [] [] = Unit {0}
 AreFilled ns ids k rows [] (new ∷ filled) = ⊥
 AreFilled ns ids k rows (old ∷ slots) [] = ⊥
 AreFilled ns ids k rows (old ∷ slots) (new ∷ filled) = IsFilled ns ids (front_of k rows) old new × AreFilled ns ids (k + 1) (rest_of k rows) slots filled
+
+-- the rows behind those of the first slots
+abbrev pub rest_after : ℕ → List FullRow → List FullRow
+rest_after zero rows = rows
+rest_after (suc k) rows = rest_of k (rest_after k rows)
+
+-- the slot of a number was filled
+pub record IsFilledAt (ns : List Shape) (ids : List (Option NodeId)) (rows : List FullRow) (before now : List Slot) (k : ℕ) : Type 0 where
+  pub old : Slot
+  pub new : Slot
+  pub was : slice_get before k ≡ Some old
+  pub is : slice_get now k ≡ Some new
+  pub filled : IsFilled ns ids (front_of k (rest_after k rows)) old new
+
+-- the slots below a number were filled, and the others are as they were
+pub record AreFilledBelow (ns : List Shape) (ids : List (Option NodeId)) (rows : List FullRow) (before now : List Slot) (k : ℕ) : Type 0 where
+  pub long : length now ≡ length before
+  pub below : (j : ℕ) → j < k → IsFilledAt ns ids rows before now j
+  pub others : (j : ℕ) → k ≤ j → slice_get now j ≡ slice_get before j

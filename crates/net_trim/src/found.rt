@@ -36,21 +36,6 @@ fn found(net: &Net, ids: &[Option<NodeId>], id: NodeId) -> Option<Ref>
     Some(Ref::Node(kept, net.width(id)))
 }
 
-/// What a name stands for.
-fn binding(net: &Net, ids: &[Option<NodeId>], cell: Option<NodeId>) -> Binding
-    requires within { ForSome cell (λ id. id.0 < length net.now.nodes) }
-    requires long { length ids.now ≡ length net.now.nodes }
-    ensures { result ≡ cell_made net.now.nodes ids.now cell }
-{
-    match cell {
-        Some(id) => match found(net, ids, id) {
-            Some(at) => Binding::Value(at),
-            None => Binding::Removed,
-        },
-        None => Binding::Unset,
-    }
-}
-
 /// Puts what a name stands for last.
 fn push_binding(
     made: &mut Vec<Binding>,
@@ -62,7 +47,14 @@ fn push_binding(
     requires long { length ids.now ≡ length net.now.nodes }
     ensures { OnOk result (made.new.items ≡ made.old.items ++ cell_made net.now.nodes ids.now cell ∷ []) }
 {
-    made.push(binding(net, ids, cell))?;
+    let stands_for = match cell {
+        Some(id) => match found(net, ids, id) {
+            Some(at) => Binding::Value(at),
+            None => Binding::Removed,
+        },
+        None => Binding::Unset,
+    };
+    made.push(stands_for)?;
     Ok(())
 }
 

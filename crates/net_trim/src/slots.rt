@@ -1,7 +1,7 @@
 //! The slots of a table with their rows.
 
-ghost use Rattle.std.specs.Prelude.{◌≡◌, ◌≤◌, ℕ, IfOk, OnOk, All, length, drop};
-ghost use Rattle.net_trim.specs.Made.{AreMade, front_of, rest_of, AreFilled, CanBeMade};
+ghost use Rattle.std.specs.Prelude.{◌≡◌, ◌<◌, ◌^◌, IfOk, OnOk, All, length};
+ghost use Rattle.net_trim.specs.Made.{AreMade, front_of, AreFilled, CanBeMade};
 
 use crate::found::row_of;
 use bv_core::NodeId;
@@ -43,6 +43,7 @@ pub(crate) fn fill_slots(
 ) -> Result<(), NoMemory>
     requires long { length ids.now ≡ length net.now.nodes }
     requires can { All (CanBeMade net.now.nodes ids.now) rows.now }
+    requires few { length slots.old < 2 ^ 32 }
     ensures { OnOk result (AreFilled net.now.nodes ids.now 0 rows.now slots.old slots.new) }
 {
     let mut at = 0;

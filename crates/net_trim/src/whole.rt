@@ -1,4 +1,4 @@
-ghost use Rattle.std.specs.Prelude.{◌≡◌, IfOk, All, length};
+ghost use Rattle.std.specs.Prelude.{◌≡◌, ◌<◌, ◌^◌, IfOk, All, length};
 ghost use Rattle.net_trim.specs.Made.{CanBeMade};
 ghost use Rattle.net_trim.specs.Whole.{Ordered, IsLoweredOf, ArePartsMade};
 ghost use Rattle.trim_core.specs.Trimmed.{IsTrimmed};
@@ -25,6 +25,7 @@ fn parts_of(
 ) -> Result<TableParts, NoMemory>
     requires long { length ids.now ≡ length net.now.nodes }
     requires can { All (CanBeMade net.now.nodes ids.now) rows.now }
+    requires few { length shape.slots < 2 ^ 32 }
     ensures { IfOk result (λ parts. ArePartsMade net.now.nodes ids.now rows.now kept.now.nodes shape parts) }
 {
     let nodes = node_names(alloc, kept)?;
