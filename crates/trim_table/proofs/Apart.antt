@@ -11,7 +11,7 @@ use Rattle.symtab.specs.Apart as symtab
 
 all_other : (x : List ℕ) (xs : List (List ℕ)) → IsNotIn x xs → All (λ y. x ≢ y) xs
 all_other x [] h = All-nil (λ y. x ≢ y)
-all_other x (y ∷ xs) h = All-cons (λ z. x ≢ z) y xs h.0 (all_other x xs h.1)
+all_other x (y ∷ xs) h = All-cons (λ z. x ≢ z) y xs (λ e. h.0 (sym e)) (all_other x xs h.1)
 
 all_pairs : (xs : List (List ℕ)) → AreApart xs → AllPairs (λ x y. x ≢ y) xs
 all_pairs [] a = λ i j d l m. absurd (nothing j m)

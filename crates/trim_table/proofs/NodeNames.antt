@@ -86,6 +86,7 @@ module _ (d : Design) (sound : IsSound d) (n : ℕ) (mode : Mode) (net : NetPart
 
   -- two nodes have two names
   differ : (i j : ℕ) (a b : Shape) → slice_get net.nodes i ≡ Some a → slice_get net.nodes j ≡ Some b → i < j → name_of i a ≡ name_of j b → ⊥
+  unfolding called
   differ i j a b at there less same = by_inputs (input_of a) refl (input_of b) refl
     where
       in_i : i < length net.nodes
@@ -98,7 +99,6 @@ module _ (d : Design) (sound : IsSound d) (n : ℕ) (mode : Mode) (net : NetPart
       not_equal e = omega (arith, e, less)
 
       by_inputs : (x : Option (List ℕ × ℕ)) → input_of a ≡ x → (y : Option (List ℕ × ℕ)) → input_of b ≡ y → ⊥
-      unfolding called
       by_inputs None e None f =
           let names : numbered_name i ≡ numbered_name j = sym (name_is i a ∙ ap (called i) e) ∙ same ∙ (name_is j b ∙ ap (called j) f) in
           not_equal (decimal_injective i j (omega (arith, in_i, few)) (omega (arith, in_j, few)) (ap (drop 1) names))
@@ -124,7 +124,7 @@ module _ (d : Design) (sound : IsSound d) (n : ℕ) (mode : Mode) (net : NetPart
   not_named : (i : ℕ) (a : Shape) → slice_get net.nodes i ≡ Some a → (k : ℕ) (ns : List Shape) → i < k → ((j : ℕ) (b : Shape) → slice_get ns j ≡ Some b → slice_get net.nodes (k + j) ≡ Some b) → IsNotIn (name_of i a) (names_from k ns)
   not_named i a at k [] less h = tt
   not_named i a at k (b ∷ ns) less h = (
-    (λ same. differ i k a b at (ap (slice_get net.nodes) (let e : k ≡ k + 0 = omega arith in e) ∙ h 0 b refl) less same),
+    (λ same. differ i k a b at (ap (slice_get net.nodes) (let e : k ≡ k + 0 = omega arith in e) ∙ h 0 b refl) less (sym same)),
     not_named i a at (k + 1) ns (omega (arith, less)) (λ j c e. ap (slice_get net.nodes) (let f : k + 1 + j ≡ k + suc j = omega arith in f) ∙ h (suc j) c e),
   )
 

@@ -1,5 +1,5 @@
 -- The names in scope in a block of an accepted design differ.
-use Rattle.std.proofs.Common.{◌≡◌, ℕ, Bool, true, false, true≢false, ◌||◌, bytes_eq, List, [], ◌∷◌, ◌++◌, map, inl, inr, refl, sym, ap, ap₂, ◌∙◌, subst}
+use Rattle.std.proofs.Common.{◌≡◌, ℕ, Bool, true, false, true≢false, ◌||◌, bytes_eq, List, [], ◌∷◌, ◌++◌, map, None, inl, inr, refl, sym, ap, ap₂, ◌∙◌, subst}
 use Rattle.std.proofs.lemmas.List.{map-append}
 use Rattle.exec_core.specs.Block.{Name}
 use Rattle.exec_core.specs.Lists.{EachOf, IsIn, IsNotIn, AreApart}
@@ -35,10 +35,10 @@ mutual
   stmt_lets (design.Let slot line gens x e) rest = refl
   stmt_lets (design.If slot line gens c first second) rest =
       ap (map thing_name) (lets_append (statements first ++ else_statements second) rest)
-      ∙ map-append (lets_in (statements first ++ else_statements second)) (lets_in rest) thing_name
+      ∙ map-append thing_name (lets_in (statements first ++ else_statements second)) (lets_in rest)
       ∙ ap (λ l. l ++ map thing_name (lets_in rest))
       (ap (map thing_name) (lets_append (statements first) (else_statements second))
-      ∙ map-append (lets_in (statements first)) (lets_in (else_statements second)) thing_name
+      ∙ map-append thing_name (lets_in (statements first)) (lets_in (else_statements second))
       ∙ ap₂ (λ (a b : List Name). a ++ b) (body_lets first) (else_body_lets second))
 
   body_lets : (b : design.Body) → map thing_name (lets_in (statements b)) ≡ lets_of b
@@ -61,11 +61,11 @@ differ_apart taken (p ∷ list) d = (others list (none_taken (with p.1 taken) li
   where
     others : (rest : List Thing) → EachOf (λ q. with p.1 taken q.1 ≡ false) rest → IsNotIn p.1 (map thing_name rest)
     others [] h = tt
-    others (q ∷ rest) h = (λ e. true≢false (sym (name_same q.1 p.1 (sym e)) ∙ or_false (bytes_eq q.1 p.1) (taken q.1) h.0), others rest h.1)
+    others (q ∷ rest) h = (λ e. true≢false (sym (name_same q.1 p.1 e) ∙ or_false (bytes_eq q.1 p.1) (taken q.1) h.0), others rest h.1)
 
 not_among : (taken : Known) (x : Name) → taken x ≡ true → (list : List Thing) → EachOf (λ q. taken q.1 ≡ false) list → IsNotIn x (map thing_name list)
 not_among taken x t [] h = tt
-not_among taken x t (q ∷ list) h = (λ e. true≢false (sym t ∙ ap taken e ∙ h.0), not_among taken x t list h.1)
+not_among taken x t (q ∷ list) h = (λ e. true≢false (sym t ∙ ap taken (sym e) ∙ h.0), not_among taken x t list h.1)
 
 or_true : (a b : Bool) → a ≡ true → (a || b) ≡ true
 or_true true b e = refl

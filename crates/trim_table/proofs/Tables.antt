@@ -1,5 +1,5 @@
 -- The table of a compiled design keeps every rule of a symbol table.
-use Rattle.std.proofs.Common.{◌≡◌, ℕ, zero, suc, ◌+◌, ◌<◌, ◌≤◌, ◌==◌, ◌&&◌, ◌^◌, Bool, true, cond, ℤ, List, [], ◌∷◌, length, map, Option, Some, None, option_map, int_le, bytes_eq, inl, inr, refl, sym, ap, ap₂, ◌∙◌, subst, arith, eqb-true, T}
+use Rattle.std.proofs.Common.{◌≡◌, ℕ, zero, suc, ◌+◌, ◌<◌, ◌≤◌, ◌==◌, ◌&&◌, ◌^◌, Bool, true, false, cond, ℤ, pos, negsuc, List, [], ◌∷◌, length, map, Option, Some, None, option_map, int_le, bytes_eq, inl, inr, refl, sym, ap, ap₂, ◌∙◌, subst, arith, eqb-true, T}
 use Rattle.std.specs.Prelude.{slice_get, All, filter}
 use Rattle.std.specs.List.{enumerate_from, flat_map}
 use Rattle.std.specs.Int.Signed.{le_z_yes}
@@ -60,8 +60,8 @@ as_test b e = subst (λ c. T c) (sym e) tt
 
 number_fits : (n : ℤ) → IsInRange n → IsGenNumber n
 number_fits n h =
-    let both = both_true (int_le _ n) (int_le n _) h in
-    record { least = le_z_yes (as_test _ both.0); most = le_z_yes (as_test _ both.1) }
+    let both = both_true (int_le (negsuc 4611686018427387903) n) (int_le n (pos 4611686018427387904)) h in
+    record { least = le_z_yes (as_test (int_le (negsuc 4611686018427387903) n) both.0); most = le_z_yes (as_test (int_le n (pos 4611686018427387904)) both.1) }
 
 numbers_fit : (gens : Gens) → AreInRange gens → All (λ (g : GenVariable). IsGenNumber g.value) (map gen_part gens)
 numbers_fit [] h = All-nil (λ (g : GenVariable). IsGenNumber g.value)
