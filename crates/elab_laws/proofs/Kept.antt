@@ -293,25 +293,25 @@ are_variants : (modules : List Module) (variants : List Instance) (k : ℕ) (lis
 are_variants modules variants k [] given h found numbered fine little named = tt
 are_variants modules variants k (i ∷ list) given h found numbered fine little named = (
   let v = numbered_variant modules variants (k, i) in
-  let content = fine.0.1 in
-  let heads = blocks_fine (first_slot variants (k, i)) i.content.blocks content.blocks in
-  record {
-    children = children_within modules variants i.content.children found.0;
-    outputs = given_outs modules i h.0 ∙ child_by_child modules variants 0 i.content.children given found.0;
-    in_turn = in_turn (numbered_variant modules variants (k, i)) numbered.0;
-    params = fine.0.0.0;
-    few_params = omega (arith, fine.0.0.1);
-    gens = each_as HeadFine (λ h. AreInRange h.gens) (λ h p. p.0) (variant_heads v) heads;
-    few_gens = each_as HeadFine (λ h. AreFew h.gens) (λ h p. p.1) (variant_heads v) heads;
-    few_names = few_in (first_slot variants (k, i)) v i.content.blocks little.0.0 little.0.1;
-    named = module_name modules i named h.0;
-    ports = each_as (SignalFine IsName) (λ s. IfPort IsName s s.kind) (λ s p. p.0) i.content.signals content.signals;
-    names = child_members variants i.content.children content.children;
-    signal_lines = each_as (SignalFine IsName) (λ s. IsLine s.line) (λ s p. p.1) i.content.signals content.signals;
-    child_lines = lines_of_children variants i.content.children content.children;
-    block_lines = block_lines (first_slot variants (k, i)) i.content.blocks content.blocks;
-    lines = each_as HeadFine (λ h. IsLine h.line) (λ h p. p.2) (variant_heads v) heads;
-  },
+      let content = fine.0.1 in
+      let heads = blocks_fine (first_slot variants (k, i)) i.content.blocks content.blocks in
+      record {
+        children = children_within modules variants i.content.children found.0;
+        outputs = given_outs modules i h.0 ∙ child_by_child modules variants 0 i.content.children given found.0;
+        in_turn = in_turn (numbered_variant modules variants (k, i)) numbered.0;
+        params = fine.0.0.0;
+        few_params = omega (arith, fine.0.0.1);
+        gens = each_as HeadFine (λ h. AreInRange h.gens) (λ h p. p.0) (variant_heads v) heads;
+        few_gens = each_as HeadFine (λ h. AreFew h.gens) (λ h p. p.1) (variant_heads v) heads;
+        few_names = few_in (first_slot variants (k, i)) v i.content.blocks little.0.0 little.0.1;
+        named = module_name modules i named h.0;
+        ports = each_as (SignalFine IsName) (λ s. IfPort IsName s s.kind) (λ s p. p.0) i.content.signals content.signals;
+        names = child_members variants i.content.children content.children;
+        signal_lines = each_as (SignalFine IsName) (λ s. IsLine s.line) (λ s p. p.1) i.content.signals content.signals;
+        child_lines = lines_of_children variants i.content.children content.children;
+        block_lines = block_lines (first_slot variants (k, i)) i.content.blocks content.blocks;
+        lines = each_as HeadFine (λ h. IsLine h.line) (λ h p. p.2) (variant_heads v) heads;
+      },
   are_variants modules variants (k + 1) list given h.1 found.1 numbered.1 fine.1 little.1 named,
 )
 
@@ -489,7 +489,7 @@ is_design modules top list ok small fit named =
         arith,
         fit,
         in_sum modules variants variant_cells (λ c. blocks_cells c c.blocks) (λ v. same_cells (first_slot variants v) (numbered_variant modules variants v) v.1.content v.1.content.blocks refl) list given ok.given found
-        ∙ cells_sum list,
+            ∙ cells_sum list,
       );
       all_parts = omega (
         arith,

@@ -1,5 +1,5 @@
 -- A module with its parameters has no more of them than it says.
-use Rattle.std.proofs.Common.{◌≡◌, ℕ, ◌+◌, ◌≤◌, List, [], ◌∷◌, ◌++◌, length, length-append, arith}
+use Rattle.std.proofs.Common.{ℕ, ◌+◌, ◌≤◌, List, [], ◌∷◌, ◌++◌, length, length-append, arith}
 use Rattle.gen_tree.specs.Tree.{Param, Module}
 use Rattle.design_core.specs.Design.{Gens}
 use Rattle.elab_core.specs.Walk.{Walk, Gives, Faulty, Counted}

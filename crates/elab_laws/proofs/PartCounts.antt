@@ -1,5 +1,5 @@
 -- The parts of expressions are counted.
-use Rattle.std.proofs.Common.{◌≡◌, ℕ, ◌+◌, ◌≤◌, List, [], ◌∷◌, ◌++◌, refl, ap, ◌∙◌, arith}
+use Rattle.std.proofs.Common.{◌≡◌, ℕ, ◌+◌, ◌≤◌, List, [], ◌∷◌, ◌++◌, ap, ◌∙◌, arith}
 use Rattle.gen_tree.specs.Tree as tree
 use Rattle.gen_tree.specs.Tree.{read, out, value, unary, binary, mux, zext, slice}
 use Rattle.elab_core.specs.declared.Count.TheVariants.{Parts}

@@ -1,5 +1,5 @@
 -- Names of a source that was read are names, its lines are lines, and there are no more of its parts than it has tokens.
-use Rattle.std.proofs.Common.{◌≡◌, ℕ, ◌+◌, ◌<◌, ◌≤◌, ◌==◌, Bool, true, false, ◌&&◌, ◌||◌, if◌then◌else◌, List, [], ◌∷◌, ◌++◌, length, length-append, append-nil, Option, Some, None, IsSomeAnd, true≢false, refl, sym, ap, ◌∙◌, subst, arith}
+use Rattle.std.proofs.Common.{◌≡◌, ℕ, ◌+◌, ◌<◌, ◌≤◌, ◌==◌, Bool, true, false, ◌&&◌, ◌||◌, if◌then◌else◌, List, [], ◌∷◌, length, length-append, append-nil, Option, Some, None, IsSomeAnd, true≢false, refl, sym, ap, ◌∙◌, subst, arith}
 use Rattle.gen_token.specs.declared.Keyword.{Keyword}
 use Rattle.gen_token.specs.declared.Keyword.TheVariants as keyword
 use Rattle.gen_token.specs.declared.Mark.{Mark}
@@ -389,9 +389,9 @@ unfolding skip
 skipped comment line [] = (omega arith, omega arith)
 skipped comment line (byte ∷ bytes) =
     by_test (byte == 10) _ _ (before_more line byte bytes (skip false (line + 1) bytes) (skipped false (line + 1) bytes)) (
-      by_test (comment || is_blank byte) _ _ (before_one line byte bytes (skip comment line bytes) (skipped comment line bytes)) (
-        by_test (byte == 47 && begins (λ next. next == 47) bytes) _ _ (before_one line byte bytes (skip true line bytes) (skipped true line bytes)) (omega arith, omega arith)
-      )
+    by_test (comment || is_blank byte) _ _ (before_one line byte bytes (skip comment line bytes) (skipped comment line bytes)) (
+    by_test (byte == 47 && begins (λ next. next == 47) bytes) _ _ (before_one line byte bytes (skip true line bytes) (skipped true line bytes)) (omega arith, omega arith)
+    )
     )
   where
     by_test : (b : Bool) (x y : ℕ × List ℕ) → Before line (byte ∷ bytes) x → Before line (byte ∷ bytes) y → Before line (byte ∷ bytes) (if b then x else y)
