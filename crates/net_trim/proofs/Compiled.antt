@@ -6,12 +6,12 @@ use Rattle.std.proofs.lemmas.Option.{none-some, same_Some}
 use Rattle.bv_core.specs.declared.reference.NodeId.{NodeId}
 use Rattle.tree_core.specs.Tree.{Origin}
 use Rattle.exec_core.specs.Lists.{EachOf, IsIn}
-use Rattle.exec_core.specs.Kept.{root, next_in}
+use Rattle.exec_core.specs.Kept.{root, next_in, NumberedAreKept}
 use Rattle.design_core.specs.Slots.{from}
 use Rattle.design_exec.specs.Processes.{processes_of}
-use Rattle.net_core.specs.Nodes.{Shape, tree_of}
+use Rattle.net_core.specs.Nodes.{trees_of, tree_of}
 use Rattle.net_core.specs.Builder.{Stands}
-use Rattle.net_core.specs.Nets.{NetParts}
+use Rattle.net_core.specs.Nets.{NetParts, IsNet}
 use Rattle.symtab.specs.declared.parts.TableParts.{TableParts}
 use Rattle.symtab.specs.Shape.{IsTable}
 use Rattle.world_core.specs.Sites.{Site, slot_count, sites_in_order, all_spots}
@@ -23,7 +23,7 @@ use Rattle.lower_core.specs.declared.row.Lowered as code
 use Rattle.lower_core.specs.Shape.{slot_part}
 use Rattle.walk_net.specs.Next.{trees_by, next_of}
 use Rattle.walk_net.specs.Renaming.{id_at, IsNode}
-use Rattle.walk_net.specs.Answer.{IsRoot, IsKeptAs, AreIds}
+use Rattle.walk_net.specs.Answer.{IsRoot, IsKeptAs, AreIds, AreNumbers, OutputsStand, NextStands}
 use Rattle.trim_core.specs.Trimmed.{IsKeptNet, TellsDesign, IsTrimmed}
 use Rattle.trim_table.proofs.Tables.{trimmed_are_tables}
 use Rattle.net_trim.specs.Roots.{root_ids}
@@ -33,6 +33,18 @@ use Rattle.net_trim.proofs.Asked.{asked_are, asked_nodes, outputs_asked, enable_
 use Rattle.net_trim.proofs.Nexts.{nexts_same}
 use Rattle.net_trim.proofs.Nets.{IsKeptOf, net_is_kept}
 use Rattle.net_trim.proofs.Told.{AreNewIds, slots_told, rows_can, bare_filled}
+
+-- what a walk from these roots gave
+pub record IsWalkedFrom (net : NetParts) (roots : List NodeId) (kept : NetParts) (ids : List (Option NodeId)) : Type 0 where
+  pub rounds : AreNumbers (trees_by net.nodes roots) (next_of net) (trees_of kept.nodes)
+  pub are_kept : NumberedAreKept (trees_by net.nodes roots) (next_of net) (trees_of kept.nodes)
+  pub are_ids : AreIds (trees_by net.nodes roots) (next_of net) net.nodes kept.nodes ids
+  pub outputs : OutputsStand net.nodes kept.nodes net.outputs kept.outputs
+  pub nexts : EachOf (NextStands (next_of net) kept.nodes) kept.nexts
+  pub is_net : IsNet kept
+
+pub kept_of : (net : NetParts) (roots : List NodeId) (kept : NetParts) (ids : List (Option NodeId)) → IsWalkedFrom net roots kept ids → IsKeptOf net (trees_by net.nodes roots) kept
+kept_of net roots kept ids w = record { rounds = w.rounds; are_kept = w.are_kept; outputs = w.outputs; nexts = w.nexts; is_net = w.is_net }
 
 module _ (of : Ordered) (l : code.Lowered) (h : IsLoweredOf of l) where
   -- ---- what is asked for

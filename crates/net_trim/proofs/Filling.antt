@@ -3,7 +3,7 @@ use Rattle.std.proofs.Common.{◌≡◌, ℕ, zero, suc, ◌+◌, ◌-◌, ◌<�
 use Rattle.std.specs.Prelude.{slice_get, slice_set, All}
 use Rattle.std.proofs.lemmas.Bool.{cases_eq}
 use Rattle.std.proofs.lemmas.List.{length-set}
-use Rattle.std.proofs.lemmas.Option.{none-some, same_Some, slice_get_within}
+use Rattle.std.proofs.lemmas.Option.{none-some, same_Some, slice_get-get_or, slice_get_past}
 use Rattle.bv_core.specs.declared.reference.NodeId.{NodeId}
 use Rattle.net_core.specs.Nodes.{Shape}
 use Rattle.symtab.specs.declared.parts.Row.{Row}
@@ -106,6 +106,42 @@ one_more ns ids rows before now k old new h at f = record {
       where
         below : (j k : ℕ) → j < suc k → (j ≡ k → ⊥) → j < k
         below j k l n = omega (arith, l, n)
+
+-- the rows from a place on
+take_long : {A : Type 0} (xs : List A) (n : ℕ) → length xs ≤ n → take n xs ≡ xs
+take_long [] zero l = refl
+take_long [] (suc n) l = refl
+take_long (x ∷ xs) zero l = absurd (omega (arith, l))
+take_long (x ∷ xs) (suc n) l = ap (λ ys. x ∷ ys) (take_long xs n (omega (arith, l)))
+
+pub from_place : {A : Type 0} (xs : List A) (at : ℕ) → at ≤ length xs → take (length xs - at) (drop at xs) ≡ drop at xs
+from_place xs at l = let whole = length_dropped at xs l in take_long (drop at xs) (length xs - at) (omega (arith, whole, l))
+
+-- the rows of a slot were made
+pub filled_next : (ns : List Shape) (ids : List (Option NodeId)) (rows : List FullRow) (before now : List Slot) (at k : ℕ) (d : Slot) (made new_rows : List Row) → Stands rows at k → AreFilledBelow ns ids rows before now k → k < length before
+    → AreMade ns ids (front_of k (take (length rows - at) (drop at rows))) made → new_rows ≡ made
+    → AreFilledBelow ns ids rows before
+    (slice_set now k (record { variant = (get_or now k d).variant; line = (get_or now k d).line; gens = (get_or now k d).gens; names = (get_or now k d).names; rows = new_rows })) (k + 1)
+filled_next ns ids rows before now at k d made new_rows s h l m e =
+    let inside : k < length now = subst (λ n. k < n) (sym h.long) l in
+    let same : take (length rows - at) (drop at rows) ≡ rest_after k rows = from_place rows at s.within ∙ s.rest in
+    let rows_made : AreMade ns ids (front_of k (rest_after k rows)) new_rows =
+    subst (λ rs. AreMade ns ids (front_of k (rest_after k rows)) rs) (sym e) (subst (λ xs. AreMade ns ids (front_of k xs) made) same m) in
+    subst (AreFilledBelow ns ids rows before (slice_set now k (record { variant = (get_or now k d).variant; line = (get_or now k d).line; gens = (get_or now k d).gens; names = (get_or now k d).names; rows = new_rows }))) (let z : suc k ≡ k + 1 = omega arith in z)
+    (one_more ns ids rows before now k (get_or now k d) (record { variant = (get_or now k d).variant; line = (get_or now k d).line; gens = (get_or now k d).gens; names = (get_or now k d).names; rows = new_rows }) h (slice_get-get_or now k d inside)
+    (record { variant = refl; line = refl; gens = refl; names = refl; rows_made = rows_made }))
+
+pub place_next : (ns : List Shape) (ids : List (Option NodeId)) (rows : List FullRow) (at k n : ℕ) (made : List Row) → Stands rows at k → AreMade ns ids (front_of k (take (length rows - at) (drop at rows))) made → n ≡ length made → Stands rows (at + n) (k + 1)
+place_next ns ids rows at k n made s m e =
+    subst (Stands rows (at + n)) (let z : suc k ≡ k + 1 = omega arith in z)
+    (stands_next ns ids rows at k (at + n) made s (subst (λ xs. AreMade ns ids (front_of k xs) made) (from_place rows at s.within) m) (ap (λ j. at + j) e))
+
+pub enough_filled : (ns : List Shape) (ids : List (Option NodeId)) (rows : List FullRow) (before now : List Slot) (k : ℕ) → AreFilledBelow ns ids rows before now k → length before ≤ k → AreFilledBelow ns ids rows before now (length before)
+enough_filled ns ids rows before now k h l = record {
+  long = h.long;
+  below = λ j m. h.below j (omega (arith, m, l));
+  others = λ j m. slice_get_past now j (subst (λ n. n ≤ j) (sym h.long) m) ∙ sym (slice_get_past before j m);
+}
 
 -- ---- all slots
 

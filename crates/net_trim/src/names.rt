@@ -1,6 +1,6 @@
 //! The names of the nodes of a net.
 
-ghost use Rattle.std.specs.Prelude.{◌≡◌, ◌<◌, IfOk, length};
+ghost use Rattle.std.specs.Prelude.{◌≡◌, ◌<◌, ◌^◌, IfOk, length};
 ghost use Rattle.net_core.specs.Nodes.{shape_of, shape_at, width_at};
 ghost use Rattle.trim_core.specs.Named.{numbered_name, name_of, named, node_names};
 
@@ -42,7 +42,8 @@ fn named(alloc: Global, net: &Net, number: u64) -> Result<NodeName, NoMemory>
 
 /// The names of all nodes of a net, in order, with their widths.
 pub(crate) fn node_names(alloc: Global, net: &Net) -> Result<Vec<NodeName>, NoMemory>
-    ensures { IfOk result (λ names. names.items ≡ node_names net.now.nodes) }
+    ensures names { IfOk result (λ names. names.items ≡ node_names net.now.nodes) }
+    ensures few { length net.now.nodes < 2 ^ 64 }
 {
     let mut names = Vec::new(alloc);
     for number in 0..net.count() {

@@ -26,7 +26,8 @@ fn parts_of(
     requires long { length ids.now ≡ length net.now.nodes }
     requires can { All (CanBeMade net.now.nodes ids.now) rows.now }
     requires few { length shape.slots < 2 ^ 32 }
-    ensures { IfOk result (λ parts. ArePartsMade net.now.nodes ids.now rows.now kept.now.nodes shape parts) }
+    ensures made { IfOk result (λ parts. ArePartsMade net.now.nodes ids.now rows.now kept.now.nodes shape parts) }
+    ensures few { length kept.now.nodes < 2 ^ 64 }
 {
     let nodes = node_names(alloc, kept)?;
     let mut slots = shape.slots.into_items();
