@@ -1,0 +1,14 @@
+//! Nets as Verilog: the text of a module that has the net's equations.
+//!
+//! The part of Verilog that is written, its spelling, and what it means are defined in `specs`.
+#![tactic(auto)]
+
+mod expression;
+mod head;
+mod line;
+mod name;
+mod nexts;
+mod part;
+mod print;
+
+pub use print::print_net;
