@@ -5,10 +5,12 @@
 
 mod expression;
 mod head;
+mod laws;
 mod line;
 mod name;
 mod nexts;
 mod part;
 mod print;
 
+pub use laws::prints_the_sample;
 pub use print::print_net;
