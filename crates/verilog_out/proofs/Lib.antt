@@ -6,3 +6,4 @@ pub mod Members
 pub mod Once
 pub mod Values
 pub mod Equations
+pub mod MeansNet
