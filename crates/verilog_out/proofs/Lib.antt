@@ -7,3 +7,4 @@ pub mod Once
 pub mod Values
 pub mod Equations
 pub mod MeansNet
+pub mod Samples

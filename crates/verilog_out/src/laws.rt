@@ -1,5 +1,5 @@
 ghost use Rattle.verilog_out.specs.ReadBack.{PrintedMeansNet};
-ghost use Rattle.verilog_out.specs.Sample.{sample_is_printed};
+ghost use Rattle.verilog_out.specs.Sample.{sample_is_printed, operators_are_printed, words_are_printed, alone_is_printed};
 
 /// The law that the module that a net is printed as means the net: values of its names meet the module exactly where they
 /// meet the net, whatever its inputs and registers have, and its registers start and step as those of the net. Computes
@@ -8,7 +8,11 @@ pub fn printed_means_net()
     ensures { PrintedMeansNet }
 {}
 
-/// The text of a small net, a counter with an enable. Computes nothing.
-pub fn prints_the_sample()
-    ensures { sample_is_printed }
+/// The texts of small nets: a counter with an enable; every operator; ports that are called by words of Verilog; a register
+/// with no ports. Computes nothing.
+pub fn prints_the_samples()
+    ensures counter { sample_is_printed }
+    ensures operators { operators_are_printed }
+    ensures words { words_are_printed }
+    ensures alone { alone_is_printed }
 {}

@@ -12,5 +12,5 @@ mod nexts;
 mod part;
 mod print;
 
-pub use laws::{printed_means_net, prints_the_sample};
+pub use laws::{printed_means_net, prints_the_samples};
 pub use print::print_net;
