@@ -8,3 +8,4 @@ pub mod Values
 pub mod Equations
 pub mod MeansNet
 pub mod Samples
+pub mod Alike

@@ -3,5 +3,6 @@ pub mod Spelling
 pub mod Meaning
 pub mod Printed
 pub mod ReadBack
+pub mod Reading
 pub mod Lines
 pub mod Sample
