@@ -9,3 +9,5 @@ pub mod Equations
 pub mod MeansNet
 pub mod Samples
 pub mod Alike
+pub mod FirstBytes
+pub mod Expressions
