@@ -23,7 +23,7 @@ gathered : {A B : Type 0} (text : B → List ℕ) (found : A → Option B) (xs :
 gathered text found [] = refl
 gathered text found (x ∷ xs) = one_more text (found x) (filter_map found xs) _ (gathered text found xs)
 
-mapped : {A B : Type 0} (text : B → List ℕ) (f : A → B) (xs : List A) → flat_map text (map f xs) ≡ flat_map (λ x. text (f x)) xs
+pub mapped : {A B : Type 0} (text : B → List ℕ) (f : A → B) (xs : List A) → flat_map text (map f xs) ≡ flat_map (λ x. text (f x)) xs
 mapped text f [] = refl
 mapped text f (x ∷ xs) = ap (λ l. text (f x) ++ l) (mapped text f xs)
 

@@ -11,3 +11,4 @@ pub mod Samples
 pub mod Alike
 pub mod FirstBytes
 pub mod Expressions
+pub mod OneModule
