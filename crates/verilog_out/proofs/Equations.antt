@@ -42,12 +42,12 @@ assigned_number ns i (OfOne op a) x e = refl
 assigned_number ns i (OfTwo op a b) x e = refl
 assigned_number ns i (OfMux c a b) x e = refl
 
-record Assigned (i : ℕ) (o : Option Expression) (a : Assignment) : Type 0 where
-  value : Expression
-  found : o ≡ Some value
-  is : a ≡ record { target = Numbered i; value = value }
+pub record Assigned (i : ℕ) (o : Option Expression) (a : Assignment) : Type 0 where
+  pub value : Expression
+  pub found : o ≡ Some value
+  pub is : a ≡ record { target = Numbered i; value = value }
 
-assigned_as : (i : ℕ) (o : Option Expression) (a : Assignment) → option_map (λ e. record { target = Numbered i; value = e }) o ≡ Some a → Assigned i o a
+pub assigned_as : (i : ℕ) (o : Option Expression) (a : Assignment) → option_map (λ e. record { target = Numbered i; value = e }) o ≡ Some a → Assigned i o a
 assigned_as i None a e = cc
 assigned_as i (Some x) a e = let same : ◌≡◌ {A = Assignment} (record { target = Numbered i; value = x }) a = cc in record { value = x; found = refl; is = sym same }
 
@@ -64,17 +64,17 @@ module _ (net : NetParts) (ports : Ports) (is : IsNet net) (fits : FitsPorts net
   tree_at_node : (j : ℕ) → j < length ns → tree_of ns j ≡ node_tree (trees_of ns) (shape_at ns j)
   tree_at_node = tree_is ns is.shared.numbered
 
-  whole_at : (j : ℕ) → j < length ns → (s : Shape) → shape_at ns j ≡ s → IsWhole (node_tree (trees_of ns) s)
+  pub whole_at : (j : ℕ) → j < length ns → (s : Shape) → shape_at ns j ≡ s → IsWhole (node_tree (trees_of ns) s)
   whole_at j l s e =
       subst IsWhole (tree_at_node j l ∙ ap (node_tree (trees_of ns)) e) (is.shared.trees.whole j (subst (λ n. j < n) (sym (trees_length ns)) l))
 
   width_is : (j : ℕ) → j < length ns → (s : Shape) → shape_at ns j ≡ s → width_at ns j ≡ tree_width (node_tree (trees_of ns) s)
   width_is j l s e = ap tree_width (tree_at_node j l ∙ ap (node_tree (trees_of ns)) e)
 
-  among : (j : ℕ) → j < length ns → IsIn j numbers
+  pub among : (j : ℕ) → j < length ns → IsIn j numbers
   among j l = from_in 0 (length ns) j (omega arith) (omega arith)
 
-  inside : (j : ℕ) → IsIn j numbers → j < length ns
+  pub inside : (j : ℕ) → IsIn j numbers → j < length ns
   inside j h = let r = (in_from 0 (length ns) j h).1 in omega arith
 
   -- each node's name is declared with its width
@@ -100,7 +100,7 @@ module _ (net : NetParts) (ports : Ports) (is : IsNet net) (fits : FitsPorts net
   named : (j : ℕ) → j < length ns → IsIn (name_of (identifier_at ns j), width_at ns j) (names_of m)
   named j l = named_as j l (shape_at ns j) refl
 
-  output_node : (o : List ℕ × ℕ) → IsIn o net.outputs → o.1 < length ns
+  pub output_node : (o : List ℕ × ℕ) → IsIn o net.outputs → o.1 < length ns
   output_node o h = let p = place_of net.outputs o h in is.outputs.nodes p.place o p.at
 
   output_named : (o : List ℕ × ℕ) → IsIn o net.outputs → IsIn (o.0, width_at ns o.1) (names_of m)

@@ -6,6 +6,7 @@ pub mod Members
 pub mod Once
 pub mod Values
 pub mod Equations
+pub mod Readable
 pub mod MeansNet
 pub mod Samples
 pub mod Alike

@@ -10,6 +10,7 @@ use Rattle.net_core.specs.Nodes.{Shape, Fixed, TopInput, Register, OfOne, OfTwo,
 use Rattle.net_core.specs.Nets.{NetParts, Solves, IsNet}
 use Rattle.verilog_out.specs.Syntax.{Numbered, Reg, Step, Module}
 use Rattle.verilog_out.specs.Printed.{identifier_at, module_of, FitsPorts}
+use Rattle.verilog_out.specs.Reading.{IsModule}
 use Rattle.verilog_out.specs.Meaning.{name_of, AreDeclaredOnce, Meets}
 
 -- the values of the nodes, by their names
@@ -41,9 +42,10 @@ pub record HaveNames (ports : Ports) : Type 0 where
   pub module_name : IsName ports.module
   pub port_names : EachOf (λ (port : List ℕ × ℕ). IsName port.0) (ports.inputs ++ ports.outputs)
 
--- each name is declared once. Values meet the module exactly where they meet the net, whatever is given. The registers start
+-- its text tells the module. Each name is declared once. Values meet the module exactly where they meet the net, whatever is given. The registers start
 -- with their values, and step to their next values, and no other does
 pub record Means (net : NetParts) (ports : Ports) (m : Module) : Type 0 where
+  pub readable : IsModule m
   pub once : AreDeclaredOnce m
   pub equations : (E : tree.Origin → Bits) (W : List ℕ → Bits) → GivesWidths E → AreGiven net.nodes E W → Meets m W ↔ MeetsNet net ports E W
   pub starts : (i width : ℕ) (start : Bits) → IsIn (Reg width (Numbered i) start) m.declarations

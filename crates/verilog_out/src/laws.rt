@@ -1,4 +1,5 @@
 ghost use Rattle.verilog_out.specs.ReadBack.{PrintedMeansNet};
+ghost use Rattle.verilog_out.specs.Reading.{TextsTellModules};
 ghost use Rattle.verilog_out.specs.Sample.{sample_is_printed, operators_are_printed, words_are_printed, alone_is_printed};
 
 /// The law that the module that a net is printed as means the net: values of its names meet the module exactly where they
@@ -6,6 +7,11 @@ ghost use Rattle.verilog_out.specs.Sample.{sample_is_printed, operators_are_prin
 /// nothing.
 pub fn printed_means_net()
     ensures { PrintedMeansNet }
+{}
+
+/// The law that a text is that of one module: what is printed can be read in no other way. Computes nothing.
+pub fn texts_tell_modules()
+    ensures { TextsTellModules }
 {}
 
 /// The texts of small nets: a counter with an enable; every operator; ports that are called by words of Verilog; a register

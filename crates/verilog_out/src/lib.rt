@@ -12,5 +12,5 @@ mod nexts;
 mod part;
 mod print;
 
-pub use laws::{printed_means_net, prints_the_samples};
+pub use laws::{printed_means_net, prints_the_samples, texts_tell_modules};
 pub use print::print_net;
