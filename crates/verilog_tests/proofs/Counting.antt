@@ -183,7 +183,7 @@ module _ (start last : Bits) where
       inputs = λ i name width h. subst (IsIn {A = List ℕ × ℕ} (name, width)) (sym ins) (inputs_are net is same i name width h);
       apart =
           subst AreApart (sym (ap₂ (λ (a b : List (List ℕ × ℕ)). map (λ (port : List ℕ × ℕ). port.0) (a ++ b)) ins out))
-          ((differ (codes "d") (codes "en") refl, differ (codes "q") (codes "en") refl, tt), (differ (codes "q") (codes "d") refl, tt), tt, tt);
+          ((differ (codes "d") (codes "en") refl, (differ (codes "q") (codes "en") refl, tt)), ((differ (codes "q") (codes "d") refl, tt), (tt, tt)));
       outputs =
           ap₂ (λ (v : List Shape) (o : List (List ℕ × ℕ)). map (λ (output : List ℕ × ℕ). (output.0, width_at v output.1)) o) same outs
           ∙ ap (λ k. (codes "q", k) ∷ []) (ap tree_width (m.keeps6.same n m.next_is.within ∙ m.next_is.tree ∙ chosen) ∙ w)
