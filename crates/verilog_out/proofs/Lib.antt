@@ -7,6 +7,7 @@ pub mod Once
 pub mod Values
 pub mod Equations
 pub mod Readable
+pub mod Satisfied
 pub mod MeansNet
 pub mod Samples
 pub mod Alike

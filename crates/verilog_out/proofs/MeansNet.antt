@@ -18,6 +18,7 @@ use Rattle.verilog_out.specs.Printed.{identifier_at, declaration_of, declared, n
 use Rattle.verilog_out.specs.ReadBack.{PrintedMeansNet}
 use Rattle.verilog_out.proofs.Members.{FromOne, in_mapped, FoundAt, in_found, found_in, in_from, from_in, at_place, place_of}
 use Rattle.verilog_out.proofs.Once.{declared_once}
+use Rattle.verilog_out.proofs.Satisfied.{satisfied}
 use Rattle.verilog_out.proofs.Readable.{is_module}
 use Rattle.verilog_out.proofs.Equations.{to_net, to_module}
 
@@ -131,6 +132,7 @@ printed_means_net net ports few is fits names = record {
   readable = is_module net ports few is fits names;
   once = declared_once net ports few fits names;
   equations = λ E W gives given. (to_net net ports is fits E W gives given, to_module net ports is fits E W gives given);
+  satisfied = λ E gives. satisfied net ports few is fits names E gives;
   starts = λ i width start. (start_found net ports is fits i width start, start_in net ports is fits i width start);
   steps = λ step. (step_found net ports is fits step, step_in net ports is fits step);
 }

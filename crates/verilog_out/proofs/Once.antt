@@ -37,7 +37,7 @@ pub one_number : (i j : ℕ) → i < 2 ^ 64 → j < 2 ^ 64 → name_of (Numbered
 one_number i j l m e = let same : decimal i ≡ decimal j = cc in decimal_injective i j l m same
 
 -- a name of the source is not that of a number, and not clk
-not_numbered : (name : List ℕ) (rest : List ℕ) → IsName name → name ≡ 95 ∷ rest → ⊥
+pub not_numbered : (name : List ℕ) (rest : List ℕ) → IsName name → name ≡ 95 ∷ rest → ⊥
 not_numbered name rest is e = let t : is_name_text (95 ∷ rest) ≡ true = subst (λ n. is_name_text n ≡ true) e is.text in cc
 
 pub record Numbers (ns : List Shape) (k m : ℕ) (name : List ℕ) : Type 0 where

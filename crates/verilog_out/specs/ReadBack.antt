@@ -42,12 +42,20 @@ pub record HaveNames (ports : Ports) : Type 0 where
   pub module_name : IsName ports.module
   pub port_names : EachOf (λ (port : List ℕ × ℕ). IsName port.0) (ports.inputs ++ ports.outputs)
 
--- its text tells the module. Each name is declared once. Values meet the module exactly where they meet the net, whatever is given. The registers start
+-- there are values of the names that meet a module and have what is given
+pub record IsSatisfied (net : NetParts) (ports : Ports) (m : Module) (E : tree.Origin → Bits) : Type 0 where
+  pub values : List ℕ → Bits
+  pub given : AreGiven net.nodes E values
+  pub meets : Meets m values
+
+-- its text tells the module. Each name is declared once. Values meet the module exactly where they meet the net, whatever is given, and there are
+-- such values. The registers start
 -- with their values, and step to their next values, and no other does
 pub record Means (net : NetParts) (ports : Ports) (m : Module) : Type 0 where
   pub readable : IsModule m
   pub once : AreDeclaredOnce m
   pub equations : (E : tree.Origin → Bits) (W : List ℕ → Bits) → GivesWidths E → AreGiven net.nodes E W → Meets m W ↔ MeetsNet net ports E W
+  pub satisfied : (E : tree.Origin → Bits) → GivesWidths E → IsSatisfied net ports m E
   pub starts : (i width : ℕ) (start : Bits) → IsIn (Reg width (Numbered i) start) m.declarations
       ↔ ((instance : List ℕ) × ((name : List ℕ) × ((slice_get net.nodes i ≡ Some (Register instance name start)) × (start.width ≡ width))))
   pub steps : (step : Step) → IsIn step m.steps ↔ IsIn step (map (λ (pair : ℕ × ℕ). record { register = Numbered pair.0; next = identifier_at net.nodes pair.1 }) net.nexts)
