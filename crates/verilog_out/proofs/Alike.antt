@@ -1,5 +1,5 @@
 -- Texts that are alike begin alike: names and numbers.
-use Rattle.std.proofs.Common.{◌≡◌, ℕ, zero, suc, ◌+◌, ◌-◌, ◌*◌, ◌/◌, ◌%◌, ◌^◌, ◌<◌, ◌≤◌, Bool, true, false, true≢false, ◌&&◌, ◌||◌, ◌==◌, nat_le, nat_lt, if◌then◌else◌, List, [], ◌∷◌, ◌++◌, length, drop, get_or, codes, refl, sym, ap, ap₂, ◌∙◌, subst, arith, append_assoc, length-append}
+use Rattle.std.proofs.Common.{◌≡◌, ℕ, zero, suc, ◌+◌, ◌*◌, ◌/◌, ◌%◌, ◌^◌, ◌<◌, ◌≤◌, Bool, true, false, true≢false, ◌&&◌, ◌||◌, ◌==◌, List, [], ◌∷◌, ◌++◌, length, drop, get_or, codes, refl, sym, ap, ap₂, ◌∙◌, subst, arith, append_assoc, length-append}
 use Rattle.std.specs.List.{list_all}
 use Rattle.std.specs.Fmt.{decimal}
 use Rattle.std.proofs.lemmas.Fmt.{decimal_injective, decimal_by_steps, decimal_nonempty}
@@ -10,7 +10,7 @@ use Rattle.text_core.specs.Digits.{is_digit}
 use Rattle.bv_core.specs.Value.{Bits, IsBits}
 use Rattle.bv_core.specs.Text.{hex_digit, hex_digits, shown}
 use Rattle.gen_token.specs.Bytes.{begins, is_letter, is_name_byte}
-use Rattle.gen_token.specs.Spelling.{IsName, is_name_text}
+use Rattle.gen_token.specs.Spelling.{IsName}
 use Rattle.verilog_out.specs.Syntax.{Identifier, Given, Numbered}
 use Rattle.verilog_out.specs.Spelling.{identifier_text}
 use Rattle.verilog_out.specs.Reading.{IsIdentifier}
@@ -137,7 +137,7 @@ value_alike a b r s p q e =
     let k = p.most in
     let l = q.most in
     let widths = number_alike a.width b.width _ _ (omega arith) (omega arith) refl refl
-        (sym (three (decimal a.width) (codes "'h") (hex_digits ((a.width + 3) / 4) a.value) r) ∙ e ∙ three (decimal b.width) (codes "'h") (hex_digits ((b.width + 3) / 4) b.value) s) in
+    (sym (three (decimal a.width) (codes "'h") (hex_digits ((a.width + 3) / 4) a.value) r) ∙ e ∙ three (decimal b.width) (codes "'h") (hex_digits ((b.width + 3) / 4) b.value) s) in
     let count : (a.width + 3) / 4 ≡ (b.width + 3) / 4 = ap (λ w. (w + 3) / 4) widths.same in
     let rest : hex_digits ((a.width + 3) / 4) a.value ++ r ≡ hex_digits ((b.width + 3) / 4) b.value ++ s = ap (λ (l : List ℕ). drop 2 l) widths.rest in
     let digits = of_one_length (hex_digits ((a.width + 3) / 4) a.value) (hex_digits ((b.width + 3) / 4) b.value) r s (hex_length ((a.width + 3) / 4) a.value ∙ count ∙ sym (hex_length ((b.width + 3) / 4) b.value)) rest in

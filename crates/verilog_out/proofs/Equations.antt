@@ -1,27 +1,26 @@
 -- Values of names meet the printed module exactly where they meet the net.
-use Rattle.std.proofs.Common.{◌≡◌, ℕ, ◌+◌, ◌<◌, ◌≤◌, Bool, true, false, List, [], ◌∷◌, ◌++◌, Option, Some, None, length, map, slice_get, ◌⊎◌, inl, inr, ⊎_elim, refl, sym, ap, ◌∙◌, subst, arith}
+use Rattle.std.proofs.Common.{◌≡◌, ℕ, ◌<◌, List, ◌++◌, Option, Some, None, length, map, slice_get, ⊎_elim, refl, sym, ap, ◌∙◌, subst, arith}
 use Rattle.std.specs.List.{filter_map}
 use Rattle.std.specs.Option.{option_map}
 use Rattle.std.proofs.lemmas.Option.{slice_get-get_or}
 use Rattle.bv_core.specs.Value.{Bits}
-use Rattle.bv_core.specs.Operators.{apply1_of, apply2_of}
 use Rattle.tree_core.specs.Tree as tree
 use Rattle.tree_core.specs.Width.{tree_width, IsWhole, GivesWidths}
 use Rattle.tree_core.proofs.Folding.{values_fit}
-use Rattle.exec_core.specs.Lists.{EachOf, IsIn}
+use Rattle.exec_core.specs.Lists.{IsIn}
 use Rattle.exec_core.proofs.Lists.{each_member, each_from, in_left, in_right}
 use Rattle.exec_core.proofs.Folded.{map_in}
 use Rattle.design_core.specs.Slots.{from}
 use Rattle.design_core.specs.declared.ports.Ports.{Ports}
 use Rattle.net_core.specs.Nodes.{Shape, Fixed, TopInput, Register, OfOne, OfTwo, OfMux, no_shape, shape_at, node_tree, trees_of, tree_of, width_at, OperandsBelow}
-use Rattle.net_core.specs.Nets.{NetParts, IsNet, Solves, equation}
+use Rattle.net_core.specs.Nets.{NetParts, IsNet, equation}
 use Rattle.net_core.proofs.TreeLists.{trees_length, tree_is}
 use Rattle.net_core.proofs.Solutions.{one_solution}
-use Rattle.verilog_out.specs.Syntax.{Identifier, Numbered, Given, Expression, Literal, Copy, Choose, Declaration, Wire, Reg, Assignment, Module}
+use Rattle.verilog_out.specs.Syntax.{Numbered, Expression, Literal, Choose, Declaration, Assignment, Module}
 use Rattle.verilog_out.specs.Printed.{identifier_of, identifier_at, one_printed, two_printed, expression_of, declaration_of, declared, assigned, output_assigned, module_of, FitsPorts}
 use Rattle.verilog_out.specs.Meaning.{name_of, meaning, ExpressionFits, declared_name, names_of, Holds, Meets}
 use Rattle.verilog_out.specs.ReadBack.{by_number, IsGiven, AreGiven, MeetsNet}
-use Rattle.verilog_out.proofs.Members.{in_joined, FromOne, in_mapped, FoundAt, in_found, found_in, in_from, from_in, place_of}
+use Rattle.verilog_out.proofs.Members.{in_joined, in_mapped, in_found, found_in, in_from, from_in, place_of}
 use Rattle.verilog_out.proofs.Once.{number_of}
 use Rattle.verilog_out.proofs.Values.{one_value, one_fits, two_value, two_fits}
 

@@ -1,12 +1,10 @@
 -- A text tells its expression.
-use Rattle.std.proofs.Common.{◌≡◌, ℕ, Bool, true, false, true≢false, ◌==◌, if◌then◌else◌, List, [], ◌∷◌, ◌++◌, drop, get_or, codes, refl, sym, ap, ◌∙◌, subst, append_assoc, eq-eqb}
+use Rattle.std.proofs.Common.{◌≡◌, ℕ, false, true≢false, ◌==◌, if◌then◌else◌, List, ◌∷◌, ◌++◌, drop, get_or, codes, refl, sym, ap, ◌∙◌, append_assoc, eq-eqb}
 use Rattle.std.specs.Fmt.{decimal}
 use Rattle.std.proofs.lemmas.List.{append_cancel_left}
-use Rattle.text_core.specs.Digits.{is_digit}
-use Rattle.gen_token.specs.Bytes.{begins}
-use Rattle.verilog_out.specs.Syntax.{Identifier, Prefix, Invert, AllOf, AnyOf, ParityOf, Infix, Plus, Minus, Times, BitAnd, BitOr, BitXor, Equal, Unequal, Less, AtMost, ShiftLeft, ShiftRight, Expression, Literal, Copy, Before, Between, Join, Pad, Select, Choose}
+use Rattle.verilog_out.specs.Syntax.{Prefix, Invert, AllOf, AnyOf, ParityOf, Infix, Plus, Minus, Times, BitAnd, BitOr, BitXor, Equal, Unequal, Less, AtMost, ShiftLeft, ShiftRight, Expression, Literal, Copy, Before, Between, Join, Pad, Select, Choose}
 use Rattle.verilog_out.specs.Spelling.{identifier_text, prefix_text, infix_text, expression_text}
-use Rattle.verilog_out.specs.Reading.{IsIdentifier, IsExpression}
+use Rattle.verilog_out.specs.Reading.{IsExpression}
 use Rattle.verilog_out.proofs.Alike.{Alike, number_alike, identifier_alike, value_alike, three}
 use Rattle.verilog_out.proofs.FirstBytes.{text_kind, kind, kind_is, infix_stops, select_text, choose_text, join_text, pad_text}
 
@@ -76,12 +74,12 @@ expression_alike (Copy a) (Copy b) r s p q h =
     record { same = ap Copy x.same; rest = ap (λ (l : List ℕ). drop 1 l) x.rest }
 expression_alike (Before m a) (Before n b) r s p q h =
     let sign = prefix_alike m n (identifier_text a ++ (59 ∷ r)) (identifier_text b ++ (59 ∷ s))
-        (sym (append_assoc (prefix_text m) (identifier_text a) (59 ∷ r)) ∙ h ∙ append_assoc (prefix_text n) (identifier_text b) (59 ∷ s)) in
+    (sym (append_assoc (prefix_text m) (identifier_text a) (59 ∷ r)) ∙ h ∙ append_assoc (prefix_text n) (identifier_text b) (59 ∷ s)) in
     let x = identifier_alike a b (59 ∷ r) (59 ∷ s) p q refl refl sign.rest in
     record { same = λ i. Before (sign.same i) (x.same i); rest = ap (λ (l : List ℕ). drop 1 l) x.rest }
 expression_alike (Between m a c) (Between n b d) r s p q h =
     let x = identifier_alike a b (infix_text m ++ (identifier_text c ++ (59 ∷ r))) (infix_text n ++ (identifier_text d ++ (59 ∷ s))) p.0 q.0 (infix_stops m _) (infix_stops n _)
-        (sym (three (identifier_text a) (infix_text m) (identifier_text c) (59 ∷ r)) ∙ h ∙ three (identifier_text b) (infix_text n) (identifier_text d) (59 ∷ s)) in
+    (sym (three (identifier_text a) (infix_text m) (identifier_text c) (59 ∷ r)) ∙ h ∙ three (identifier_text b) (infix_text n) (identifier_text d) (59 ∷ s)) in
     let sign = infix_alike m n (identifier_text c ++ (59 ∷ r)) (identifier_text d ++ (59 ∷ s)) x.rest in
     let y = identifier_alike c d (59 ∷ r) (59 ∷ s) p.1 q.1 refl refl sign.rest in
     record { same = λ i. Between (sign.same i) (x.same i) (y.same i); rest = ap (λ (l : List ℕ). drop 1 l) y.rest }
@@ -103,8 +101,8 @@ expression_alike (Select a u v) (Select b w z) r s p q h =
     record { same = λ i. Select (x.same i) (high.same i) (low.same i); rest = ap (λ (l : List ℕ). drop 2 l) low.rest }
 expression_alike (Choose c a b) (Choose d e f) r s p q h =
     let inner = sym (choose_text (identifier_text c) (identifier_text a) (identifier_text b) (codes " ? ") (codes " : ") (59 ∷ r))
-        ∙ h
-        ∙ choose_text (identifier_text d) (identifier_text e) (identifier_text f) (codes " ? ") (codes " : ") (59 ∷ s) in
+    ∙ h
+    ∙ choose_text (identifier_text d) (identifier_text e) (identifier_text f) (codes " ? ") (codes " : ") (59 ∷ s) in
     let x = identifier_alike c d _ _ p.0 q.0 refl refl inner in
     let y = identifier_alike a e (codes " : " ++ (identifier_text b ++ (59 ∷ r))) (codes " : " ++ (identifier_text f ++ (59 ∷ s))) p.1 q.1 refl refl (ap (λ (l : List ℕ). drop 3 l) x.rest) in
     let z = identifier_alike b f (59 ∷ r) (59 ∷ s) p.2 q.2 refl refl (ap (λ (l : List ℕ). drop 3 l) y.rest) in

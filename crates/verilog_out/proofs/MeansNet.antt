@@ -1,5 +1,5 @@
 -- The printed module means the net.
-use Rattle.std.proofs.Common.{◌≡◌, ℕ, zero, suc, ◌+◌, ◌^◌, ◌<◌, ◌≤◌, Bool, true, false, true≢false, ◌==◌, List, [], ◌∷◌, ◌++◌, Option, Some, None, length, map, slice_get, inl, inr, if◌then◌else◌, refl, sym, ap, ◌∙◌, subst, arith, eqb-true, eq-eqb}
+use Rattle.std.proofs.Common.{◌≡◌, ℕ, ◌<◌, Bool, true, false, true≢false, ◌==◌, List, [], ◌∷◌, Some, None, length, map, slice_get, inl, inr, if◌then◌else◌, refl, sym, ap, ◌∙◌, subst, arith, eqb-true, eq-eqb}
 use Rattle.std.specs.List.{filter_map}
 use Rattle.std.proofs.lemmas.Option.{slice_get-get_or, get_or_from_slice_get, slice_get_within}
 use Rattle.bv_core.specs.Value.{Bits}
@@ -13,10 +13,10 @@ use Rattle.net_core.specs.Nodes.{Shape, Fixed, TopInput, Register, OfOne, OfTwo,
 use Rattle.net_core.specs.Nets as nets
 use Rattle.net_core.specs.Nets.{NetParts, IsNet}
 use Rattle.net_core.proofs.TreeLists.{tree_is}
-use Rattle.verilog_out.specs.Syntax.{Numbered, Declaration, Wire, Reg, Step}
-use Rattle.verilog_out.specs.Printed.{identifier_at, declaration_of, declared, next_of, is_register, stepped, module_of, FitsPorts}
+use Rattle.verilog_out.specs.Syntax.{Numbered, Reg, Step}
+use Rattle.verilog_out.specs.Printed.{identifier_at, declaration_of, declared, next_of, is_register, stepped, FitsPorts}
 use Rattle.verilog_out.specs.ReadBack.{PrintedMeansNet}
-use Rattle.verilog_out.proofs.Members.{FromOne, in_mapped, FoundAt, in_found, found_in, in_from, from_in, at_place, place_of}
+use Rattle.verilog_out.proofs.Members.{in_mapped, in_found, found_in, in_from, from_in, at_place, place_of}
 use Rattle.verilog_out.proofs.Once.{declared_once}
 use Rattle.verilog_out.proofs.Satisfied.{satisfied}
 use Rattle.verilog_out.proofs.Readable.{is_module}

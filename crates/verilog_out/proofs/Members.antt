@@ -1,7 +1,7 @@
 -- Elements of lists that are made of others.
 use Rattle.std.proofs.Common.{◌≡◌, ℕ, zero, suc, ◌+◌, ◌<◌, ◌≤◌, List, [], ◌∷◌, ◌++◌, Option, Some, None, map, slice_get, ◌⊎◌, inl, inr, ⊎_elim, refl, sym, ap, ◌∙◌, subst, arith}
 use Rattle.std.specs.List.{filter_map, cons_option}
-use Rattle.exec_core.specs.Lists.{EachOf, IsIn, IsNotIn, AreApart}
+use Rattle.exec_core.specs.Lists.{IsIn, IsNotIn, AreApart}
 use Rattle.exec_core.proofs.Lists.{not_in}
 use Rattle.design_core.specs.Slots.{from}
 

@@ -1,10 +1,10 @@
 -- The next values by the numbers of their registers' nodes.
-use Rattle.std.proofs.Common.{◌≡◌, ℕ, zero, suc, ◌+◌, ◌<◌, Bool, true, false, ◌==◌, List, [], ◌∷◌, length, drop, get_or, set, Some, None, slice_get, if◌then◌else◌, refl, sym, ap, ◌∙◌, subst, arith, eqb-true, eq-eqb, true≢false}
+use Rattle.std.proofs.Common.{◌≡◌, ℕ, zero, suc, ◌+◌, ◌<◌, Bool, true, false, ◌==◌, List, [], ◌∷◌, length, drop, get_or, set, Some, None, slice_get, if◌then◌else◌, refl, sym, ap, ◌∙◌, arith, eqb-true, eq-eqb, true≢false}
 use Rattle.std.proofs.lemmas.List.{get_or-set_same, get_or-set_other}
 use Rattle.bv_core.specs.declared.reference.NodeId.{NodeId}
 use Rattle.net_core.specs.Nodes.{Shape, shape_at}
 use Rattle.net_core.specs.Nets.{NetParts, nexts_of, NextsFit}
-use Rattle.verilog_out.specs.Syntax.{Numbered, Step}
+use Rattle.verilog_out.specs.Syntax.{Numbered}
 use Rattle.verilog_out.specs.Spelling.{step_text}
 use Rattle.verilog_out.specs.Printed.{identifier_at, next_of, is_register, stepped}
 use Rattle.verilog_out.specs.Lines.{line_of}

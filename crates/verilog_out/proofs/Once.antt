@@ -1,13 +1,11 @@
 -- Each name of the module that a net is printed as is declared once.
-use Rattle.std.proofs.Common.{◌≡◌, ℕ, zero, suc, ◌+◌, ◌^◌, ◌<◌, ◌≤◌, Bool, true, false, true≢false, ◌==◌, List, [], ◌∷◌, ◌++◌, Option, Some, None, length, map, codes, get_or, ◌⊎◌, inl, inr, refl, sym, ap, ◌∙◌, subst, arith}
+use Rattle.std.proofs.Common.{◌≡◌, ℕ, zero, suc, ◌+◌, ◌^◌, ◌<◌, ◌≤◌, true, true≢false, ◌==◌, List, [], ◌∷◌, ◌++◌, Option, Some, None, length, map, codes, get_or, ◌⊎◌, inl, inr, refl, sym, ap, ◌∙◌, subst, arith}
 use Rattle.std.specs.Fmt.{decimal}
 use Rattle.std.specs.List.{filter_map, cons_option}
 use Rattle.std.proofs.lemmas.Fmt.{decimal_injective}
-use Rattle.std.proofs.lemmas.List.{map-append}
-use Rattle.gen_token.specs.declared.Keyword.{Keyword}
 use Rattle.gen_token.specs.declared.Keyword.TheVariants as keyword
 use Rattle.gen_token.specs.Spelling.{IsName, is_name_text}
-use Rattle.exec_core.specs.Lists.{EachOf, IsIn, IsNotIn, AreApart}
+use Rattle.exec_core.specs.Lists.{IsIn, AreApart}
 use Rattle.exec_core.proofs.Lists.{each_member}
 use Rattle.design_core.specs.Slots.{from}
 use Rattle.design_core.specs.declared.ports.Ports.{Ports}
@@ -15,9 +13,9 @@ use Rattle.net_core.specs.Nodes.{Shape, Fixed, TopInput, Register, OfOne, OfTwo,
 use Rattle.net_core.specs.Nets.{NetParts}
 use Rattle.verilog_out.specs.Syntax.{Numbered, Declaration, Wire, Reg}
 use Rattle.verilog_out.specs.Printed.{declared, declaration_of, module_of, FitsPorts}
-use Rattle.verilog_out.specs.Meaning.{name_of, declared_name, names_of, AreDeclaredOnce}
+use Rattle.verilog_out.specs.Meaning.{name_of, declared_name, AreDeclaredOnce}
 use Rattle.verilog_out.specs.ReadBack.{HaveNames}
-use Rattle.verilog_out.proofs.Members.{in_joined, FromOne, in_mapped, FoundAt, in_found, in_from, none_in, apart_joined}
+use Rattle.verilog_out.proofs.Members.{in_joined, in_mapped, in_found, in_from, none_in, apart_joined}
 
 -- the name of a declaration
 abbrev declared_text : Declaration → List ℕ
@@ -57,15 +55,15 @@ one_apart : (ns : List Shape) (k m : ℕ) → k + suc m ≤ 2 ^ 64 → (o : Opti
     → AreApart (map declared_text (cons_option o (filter_map (declared ns) (from (k + 1) m))))
 one_apart ns k m l None e rest = rest
 one_apart ns k m l (Some d) e rest = (
-    none_in (declared_text d) _ (λ h.
-        let r = numbered_in ns (k + 1) m (declared_text d) h in
-        let above = r.above in
-        let below = r.below in
-        let here = ap (λ (p : List ℕ × ℕ). p.0) (number_of k (width_at ns k) (shape_at ns k) d e) in
-        let same : k ≡ r.number = one_number k r.number (omega arith) (omega arith) (sym here ∙ r.is) in
-        absurd (omega arith)),
-    rest,
-  )
+  none_in (declared_text d) _ (λ h.
+      let r = numbered_in ns (k + 1) m (declared_text d) h in
+      let above = r.above in
+      let below = r.below in
+      let here = ap (λ (p : List ℕ × ℕ). p.0) (number_of k (width_at ns k) (shape_at ns k) d e) in
+      let same : k ≡ r.number = one_number k r.number (omega arith) (omega arith) (sym here ∙ r.is) in
+      absurd (omega arith)),
+  rest,
+)
 
 declared_apart : (ns : List Shape) (k m : ℕ) → k + m ≤ 2 ^ 64 → AreApart (map declared_text (filter_map (declared ns) (from k m)))
 declared_apart ns k zero l = tt
@@ -86,9 +84,9 @@ declared_once net ports few fits names =
     let ds = filter_map (declared net.nodes) (from 0 (length net.nodes)) in
     let few_enough : 0 + length net.nodes ≤ 2 ^ 64 = omega arith in
     let port_name : (x : List ℕ) → IsIn x (map (λ (port : List ℕ × ℕ). port.0) all) → IsName x = λ x i.
-        let r = in_mapped (λ (port : List ℕ × ℕ). port.0) all x i in subst IsName (sym r.is) (each_member (λ (port : List ℕ × ℕ). IsName port.0) all names.port_names r.one r.among) in
+    let r = in_mapped (λ (port : List ℕ × ℕ). port.0) all x i in subst IsName (sym r.is) (each_member (λ (port : List ℕ × ℕ). IsName port.0) all names.port_names r.one r.among) in
     let body = apart_joined (map (λ (port : List ℕ × ℕ). port.0) all) (map declared_text ds) fits.apart (declared_apart net.nodes 0 (length net.nodes) few_enough)
-        (λ x i j. not_numbered x _ (port_name x i) (numbered_in net.nodes 0 (length net.nodes) x j).is) in
+    (λ x i j. not_numbered x _ (port_name x i) (numbered_in net.nodes 0 (length net.nodes) x j).is) in
     let clock = none_in (codes "clk") (map (λ (port : List ℕ × ℕ). port.0) all ++ map declared_text ds) (λ h. by_side (port_name (codes "clk")) (numbered_in net.nodes 0 (length net.nodes) (codes "clk")) (in_joined (codes "clk") _ _ h)) in
     subst (λ l. AreApart (codes "clk" ∷ l)) (sym (names_are all ds)) (clock, body)
   where

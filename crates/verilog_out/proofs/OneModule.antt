@@ -1,5 +1,5 @@
 -- A text tells its module, line by line.
-use Rattle.std.proofs.Common.{◌≡◌, ℕ, zero, suc, ◌+◌, ◌-◌, ◌^◌, ◌<◌, ◌≤◌, Bool, true, false, true≢false, ◌||◌, ◌==◌, List, [], ◌∷◌, ◌++◌, map, drop, get_or, codes, ⊎_elim, refl, sym, ap, ap₂, ◌∙◌, subst, arith, append_assoc}
+use Rattle.std.proofs.Common.{◌≡◌, ℕ, ◌-◌, ◌≤◌, Bool, true, false, true≢false, ◌||◌, ◌==◌, List, [], ◌∷◌, ◌++◌, map, drop, get_or, codes, ⊎_elim, refl, sym, ap, ap₂, ◌∙◌, subst, arith, append_assoc}
 use Rattle.std.specs.List.{flat_map}
 use Rattle.std.specs.Fmt.{decimal}
 use Rattle.std.proofs.lemmas.List.{append_cancel_left}
@@ -9,10 +9,10 @@ use Rattle.gen_token.specs.Bytes.{is_name_byte}
 use Rattle.gen_token.specs.Spelling.{IsName}
 use Rattle.exec_core.specs.Lists.{EachOf, IsIn}
 use Rattle.exec_core.proofs.Lists.{each_member, each_from}
-use Rattle.verilog_out.specs.Syntax.{Identifier, Given, Expression, Declaration, Wire, Reg, Assignment, Step, Module}
-use Rattle.verilog_out.specs.Spelling.{escaped, identifier_text, range_text, expression_text, declaration_text, assignment_text, edge_text, step_text, listed_text, port_text, module_text}
+use Rattle.verilog_out.specs.Syntax.{Given, Declaration, Wire, Reg, Assignment, Step, Module}
+use Rattle.verilog_out.specs.Spelling.{escaped, identifier_text, expression_text, declaration_text, assignment_text, edge_text, step_text, listed_text, port_text, module_text}
 use Rattle.verilog_out.specs.Reading.{IsDeclaration, IsAssignment, IsStep, IsPort, IsModule, TextsTellModules}
-use Rattle.verilog_out.proofs.Members.{FromOne, in_mapped, in_joined}
+use Rattle.verilog_out.proofs.Members.{in_mapped, in_joined}
 use Rattle.verilog_out.proofs.Gathered.{mapped}
 use Rattle.verilog_out.proofs.Alike.{Alike, runs, name_bytes, number_alike, identifier_alike, value_alike}
 use Rattle.verilog_out.proofs.Expressions.{expression_alike}
@@ -187,7 +187,7 @@ inputs_alike : (m n : Module) → IsModule m → IsModule n
     → Alike m.inputs n.inputs (outputs_on m.outputs m.declarations m.assignments m.steps) (outputs_on n.outputs n.declarations n.assignments n.steps)
 inputs_alike m n p q h =
     let stop = λ (k : Module). lines_pass (port_text (codes "  output ")) (third 105) (λ x r. refl) k.outputs (declarations_on k.declarations k.assignments k.steps)
-        (lines_pass declaration_text (third 105) no_input k.declarations (assignments_on k.assignments k.steps) (none_behind (λ b. b == 105) refl refl k.assignments k.steps)) in
+    (lines_pass declaration_text (third 105) no_input k.declarations (assignments_on k.assignments k.steps) (none_behind (λ b. b == 105) refl refl k.assignments k.steps)) in
     lines_alike (port_text (codes "  input ")) IsPort (third 105) (port_alike (codes "  input ")) (λ x r. refl) m.inputs n.inputs _ _ p.each_input q.each_input (stop m) (stop n) h
 
 -- ---- the head

@@ -1,15 +1,12 @@
 -- The text of a printed module tells it.
-use Rattle.std.proofs.Common.{◌≡◌, ℕ, ◌+◌, ◌-◌, ◌^◌, ◌<◌, ◌≤◌, Bool, true, false, ◌&&◌, nat_lt, if◌then◌else◌, List, [], ◌∷◌, ◌++◌, Option, Some, None, length, map, slice_get, ⊎_elim, refl, sym, ap, ◌∙◌, subst, arith}
+use Rattle.std.proofs.Common.{◌≡◌, ℕ, ◌-◌, ◌^◌, ◌<◌, ◌≤◌, Bool, true, false, nat_lt, if◌then◌else◌, List, ◌++◌, Some, None, length, map, ⊎_elim, refl, sym, ap, ◌∙◌, subst, arith}
 use Rattle.std.specs.List.{filter_map, list_all}
-use Rattle.std.specs.Option.{option_map}
 use Rattle.std.proofs.lemmas.Option.{slice_get-get_or}
-use Rattle.bv_core.specs.Value.{Bits, IsBits}
 use Rattle.bv_core.specs.declared.operators.Op1.{Op1}
 use Rattle.bv_core.specs.declared.operators.Op1.TheVariants.{Not, All, Any, Parity, Slice, Zext}
 use Rattle.bv_core.specs.declared.operators.Op2.{Op2}
 use Rattle.bv_core.specs.declared.operators.Op2.TheVariants.{Add, Sub, Mul, And, Or, Xor, Eq, Ne, Lt, Le, Shl, Shr, Cat}
 use Rattle.bv_core.specs.Operators.{Fits1}
-use Rattle.tree_core.specs.Width.{IsWhole}
 use Rattle.gen_token.specs.Spelling.{IsName}
 use Rattle.exec_core.specs.Lists.{EachOf, IsIn}
 use Rattle.exec_core.proofs.Lists.{each_member, each_from, in_left, in_right}
@@ -17,16 +14,16 @@ use Rattle.exec_core.proofs.Folded.{map_in}
 use Rattle.design_core.specs.Slots.{from}
 use Rattle.design_core.specs.Ports.{has_width}
 use Rattle.design_core.specs.declared.ports.Ports.{Ports}
-use Rattle.net_core.specs.Nodes.{Shape, Fixed, TopInput, Register, OfOne, OfTwo, OfMux, no_shape, shape_at, node_tree, trees_of, width_at, OperandsBelow}
+use Rattle.net_core.specs.Nodes.{Shape, Fixed, TopInput, Register, OfOne, OfTwo, OfMux, no_shape, shape_at, width_at, OperandsBelow}
 use Rattle.net_core.specs.Nets.{NetParts, IsNet}
-use Rattle.verilog_out.specs.Syntax.{Identifier, Numbered, Given, Expression, Declaration, Wire, Reg, Assignment, Step, Literal, Copy, Pad, Choose}
+use Rattle.verilog_out.specs.Syntax.{Identifier, Numbered, Expression, Declaration, Wire, Reg, Assignment, Step, Literal, Copy, Pad, Choose}
 use Rattle.verilog_out.specs.Printed.{identifier_of, identifier_at, one_printed, two_printed, expression_of, declaration_of, declared, assigned, output_assigned, next_of, is_register, stepped, module_of, FitsPorts}
 use Rattle.verilog_out.specs.Reading.{IsIdentifier, IsExpression, IsDeclaration, IsAssignment, IsStep, IsPort, IsModule}
 use Rattle.verilog_out.specs.ReadBack.{HaveNames}
 use Rattle.verilog_out.proofs.Widths.{node_some, node_most, port_fits}
 use Rattle.verilog_out.proofs.NextValues.{next_within}
-use Rattle.verilog_out.proofs.Members.{in_joined, FromOne, in_mapped, FoundAt, in_found}
-use Rattle.verilog_out.proofs.Equations.{whole_at, inside, output_node, Assigned, assigned_as}
+use Rattle.verilog_out.proofs.Members.{in_joined, in_mapped, in_found}
+use Rattle.verilog_out.proofs.Equations.{whole_at, inside, output_node, assigned_as}
 use Rattle.verilog_out.proofs.Alike.{and_left, and_right}
 
 widened_is : (b : Bool) (w to : ℕ) (a : Identifier) → IsIdentifier a → to ≤ 128 → IsExpression (if b then Pad (to - w) a else Copy a)

@@ -1,5 +1,5 @@
 -- Whatever is given, there are values that meet the printed module.
-use Rattle.std.proofs.Common.{◌≡◌, ℕ, ◌^◌, ◌<◌, Bool, true, false, true≢false, List, [], ◌∷◌, ◌++◌, Option, Some, None, length, map, bytes_eq, if◌then◌else◌, ◌⊎◌, inl, inr, ⊎_elim, refl, sym, ap, ◌∙◌, subst, arith}
+use Rattle.std.proofs.Common.{◌≡◌, ℕ, ◌^◌, ◌<◌, Bool, true, false, true≢false, List, [], ◌∷◌, ◌++◌, Some, length, map, bytes_eq, if◌then◌else◌, ◌⊎◌, inl, inr, ⊎_elim, refl, sym, ap, ◌∙◌, subst, arith}
 use Rattle.std.proofs.lemmas.Option.{slice_get-get_or}
 use Rattle.std.proofs.lemmas.Slice.Eq.{bytes_eq-Decides}
 use Rattle.bv_core.specs.Value.{Bits}
@@ -8,7 +8,7 @@ use Rattle.gen_token.specs.Spelling.{IsName}
 use Rattle.tree_core.specs.Tree as tree
 use Rattle.tree_core.specs.Width.{GivesWidths, tree_width}
 use Rattle.tree_core.proofs.Folding.{values_fit}
-use Rattle.exec_core.specs.Lists.{EachOf, IsIn, IsNotIn, AreApart}
+use Rattle.exec_core.specs.Lists.{IsIn, AreApart}
 use Rattle.exec_core.proofs.Lists.{each_member, each_from, in_left, in_right, not_in, apart_split}
 use Rattle.exec_core.proofs.Folded.{map_in}
 use Rattle.design_core.specs.Slots.{from}
@@ -17,11 +17,11 @@ use Rattle.net_core.specs.Nodes.{Shape, Fixed, TopInput, Register, OfOne, OfTwo,
 use Rattle.net_core.specs.Nets.{NetParts, IsNet, Solves, equation}
 use Rattle.net_core.proofs.TreeLists.{trees_length, tree_is}
 use Rattle.net_core.proofs.Solutions.{one_solution}
-use Rattle.verilog_out.specs.Syntax.{Identifier, Numbered, Given}
+use Rattle.verilog_out.specs.Syntax.{Numbered}
 use Rattle.verilog_out.specs.Printed.{identifier_of, identifier_at, module_of, FitsPorts}
-use Rattle.verilog_out.specs.Meaning.{name_of, zeros_of, Meets}
-use Rattle.verilog_out.specs.ReadBack.{by_number, IsGiven, AreGiven, MeetsNet, HaveNames, IsSatisfied}
-use Rattle.verilog_out.proofs.Members.{in_joined, FromOne, in_mapped, in_from, from_in, place_of}
+use Rattle.verilog_out.specs.Meaning.{name_of, zeros_of}
+use Rattle.verilog_out.specs.ReadBack.{by_number, IsGiven, AreGiven, HaveNames, IsSatisfied}
+use Rattle.verilog_out.proofs.Members.{in_joined, in_mapped, in_from, from_in}
 use Rattle.verilog_out.proofs.Once.{one_number, not_numbered}
 use Rattle.verilog_out.proofs.Equations.{to_module, output_node}
 
@@ -50,8 +50,8 @@ value_found P [] f x all v h = absurd h
 value_found P (pair ∷ pairs) f x all v h =
     either_holds P (bytes_eq pair.0 x) pair.0 x pair.1 (value_in pairs f x) refl (all pair (inl refl))
     (λ different. ⊎_elim
-        (λ e. absurd (true≢false (sym ((bytes_eq-Decides pair.0 x).1 (ap (λ (p : List ℕ × Bits). p.0) (sym e))) ∙ different)))
-        (λ i. value_found P pairs f x (λ p m. all p (inr m)) v i) h)
+    (λ e. absurd (true≢false (sym ((bytes_eq-Decides pair.0 x).1 (ap (λ (p : List ℕ × Bits). p.0) (sym e))) ∙ different)))
+    (λ i. value_found P pairs f x (λ p m. all p (inr m)) v i) h)
 
 -- ---- names that differ
 
@@ -199,11 +199,11 @@ module _ (net : NetParts) (ports : Ports) (few : length net.nodes < 2 ^ 64) (is 
     node_has i l =
         value_found (λ v. v ≡ value_at i) (map node_pair count_all ++ map output_pair net.outputs) unused (called i)
         (λ pair h e. ⊎_elim
-            (λ n. let r = in_mapped node_pair count_all pair n in
-                ap (λ (p : List ℕ × Bits). p.1) r.is ∙ ap value_at (one_node r.one i (within r.one r.among) l (sym (ap (λ (p : List ℕ × Bits). p.0) r.is) ∙ e)))
-            (λ o. let r = in_mapped output_pair net.outputs pair o in
-                absurd (node_not_output i l r.one r.among (sym e ∙ ap (λ (p : List ℕ × Bits). p.0) r.is)))
-            (in_joined pair (map node_pair count_all) (map output_pair net.outputs) h))
+        (λ n. let r = in_mapped node_pair count_all pair n in
+        ap (λ (p : List ℕ × Bits). p.1) r.is ∙ ap value_at (one_node r.one i (within r.one r.among) l (sym (ap (λ (p : List ℕ × Bits). p.0) r.is) ∙ e)))
+        (λ o. let r = in_mapped output_pair net.outputs pair o in
+        absurd (node_not_output i l r.one r.among (sym e ∙ ap (λ (p : List ℕ × Bits). p.0) r.is)))
+        (in_joined pair (map node_pair count_all) (map output_pair net.outputs) h))
         (value_at i) (in_left _ (map node_pair count_all) (map output_pair net.outputs) (map_in node_pair count_all i (from_in 0 (length net.nodes) i (omega arith) (omega arith))))
 
     output_has : (o : List ℕ × ℕ) → IsIn o net.outputs → values o.0 ≡ value_at o.1
@@ -211,11 +211,11 @@ module _ (net : NetParts) (ports : Ports) (few : length net.nodes < 2 ^ 64) (is 
     output_has o m =
         value_found (λ v. v ≡ value_at o.1) (map node_pair count_all ++ map output_pair net.outputs) unused o.0
         (λ pair h e. ⊎_elim
-            (λ n. let r = in_mapped node_pair count_all pair n in
-                absurd (node_not_output r.one (within r.one r.among) o m (sym (ap (λ (p : List ℕ × Bits). p.0) r.is) ∙ e)))
-            (λ q. let r = in_mapped output_pair net.outputs pair q in
-                ap (λ (p : List ℕ × Bits). p.1) r.is ∙ ap (λ (x : List ℕ × ℕ). value_at x.1) (outputs_of_name r.one o r.among m (sym (ap (λ (p : List ℕ × Bits). p.0) r.is) ∙ e)))
-            (in_joined pair (map node_pair count_all) (map output_pair net.outputs) h))
+        (λ n. let r = in_mapped node_pair count_all pair n in
+        absurd (node_not_output r.one (within r.one r.among) o m (sym (ap (λ (p : List ℕ × Bits). p.0) r.is) ∙ e)))
+        (λ q. let r = in_mapped output_pair net.outputs pair q in
+        ap (λ (p : List ℕ × Bits). p.1) r.is ∙ ap (λ (x : List ℕ × ℕ). value_at x.1) (outputs_of_name r.one o r.among m (sym (ap (λ (p : List ℕ × Bits). p.0) r.is) ∙ e)))
+        (in_joined pair (map node_pair count_all) (map output_pair net.outputs) h))
         (value_at o.1) (in_right _ (map node_pair count_all) (map output_pair net.outputs) (map_in output_pair net.outputs o m))
 
     unused_width : (p : List ℕ × ℕ) → IsIn p ports.inputs → (unused p.0).width ≡ p.1
@@ -223,7 +223,7 @@ module _ (net : NetParts) (ports : Ports) (few : length net.nodes < 2 ^ 64) (is 
     unused_width p m =
         value_found (λ v. v.width ≡ p.1) (map port_pair ports.inputs) (λ _. zeros_of 1) p.0
         (λ pair h e. let r = in_mapped port_pair ports.inputs pair h in
-            ap (λ (x : List ℕ × Bits). x.1.width) r.is ∙ ap (λ (x : List ℕ × ℕ). x.1) (inputs_of_name r.one p r.among m (sym (ap (λ (x : List ℕ × Bits). x.0) r.is) ∙ e)))
+        ap (λ (x : List ℕ × Bits). x.1.width) r.is ∙ ap (λ (x : List ℕ × ℕ). x.1) (inputs_of_name r.one p r.among m (sym (ap (λ (x : List ℕ × Bits). x.0) r.is) ∙ e)))
         (zeros_of p.1) (map_in port_pair ports.inputs p m)
 
     input_width : (i : ℕ) → i < length net.nodes → (p : List ℕ × ℕ) → IsIn p ports.inputs → called i ≡ p.0 → (value_at i).width ≡ p.1
@@ -231,8 +231,8 @@ module _ (net : NetParts) (ports : Ports) (few : length net.nodes < 2 ^ 64) (is 
     input_width i l p m e =
         ⊎_elim
         (λ g. (values_fit E gives (tree_of net.nodes i) (is.shared.trees.whole i (subst (λ n. i < n) (sym (trees_length net.nodes)) l))).width
-            ∙ ap tree_width (input_tree i l g)
-            ∙ ap (λ (x : List ℕ × ℕ). x.1) (inputs_of_name (g.name, g.width) p (input_port i l g) m (sym (called_input i g) ∙ e)))
+        ∙ ap tree_width (input_tree i l g)
+        ∙ ap (λ (x : List ℕ × ℕ). x.1) (inputs_of_name (g.name, g.width) p (input_port i l g) m (sym (called_input i g) ∙ e)))
         (λ g. absurd (port_not_number p (in_left _ ports.inputs ports.outputs m) i (sym e ∙ called_number i g)))
         (input_or_number i (shape_at net.nodes i))
 
@@ -241,11 +241,11 @@ module _ (net : NetParts) (ports : Ports) (few : length net.nodes < 2 ^ 64) (is 
     port_width p m =
         value_holds (λ v. v.width ≡ p.1) (map node_pair count_all ++ map output_pair net.outputs) unused p.0
         (λ pair h e. ⊎_elim
-            (λ n. let r = in_mapped node_pair count_all pair n in
-                ap (λ (x : List ℕ × Bits). x.1.width) r.is ∙ input_width r.one (within r.one r.among) p m (sym (ap (λ (x : List ℕ × Bits). x.0) r.is) ∙ e))
-            (λ o. let r = in_mapped output_pair net.outputs pair o in
-                absurd (input_not_output p r.one m r.among (sym e ∙ ap (λ (x : List ℕ × Bits). x.0) r.is)))
-            (in_joined pair (map node_pair count_all) (map output_pair net.outputs) h))
+        (λ n. let r = in_mapped node_pair count_all pair n in
+        ap (λ (x : List ℕ × Bits). x.1.width) r.is ∙ input_width r.one (within r.one r.among) p m (sym (ap (λ (x : List ℕ × Bits). x.0) r.is) ∙ e))
+        (λ o. let r = in_mapped output_pair net.outputs pair o in
+        absurd (input_not_output p r.one m r.among (sym e ∙ ap (λ (x : List ℕ × Bits). x.0) r.is)))
+        (in_joined pair (map node_pair count_all) (map output_pair net.outputs) h))
         (unused_width p m)
 
     given_as : (i : ℕ) → i < length net.nodes → (s : Shape) → shape_at net.nodes i ≡ s → IsGiven E (values (called i)) s

@@ -1,13 +1,13 @@
 -- What is printed for an operator means the operator.
-use Rattle.std.proofs.Common.{◌≡◌, ℕ, ◌+◌, ◌-◌, ◌*◌, ◌^◌, ◌<◌, ◌≤◌, Bool, true, false, List, Option, Some, None, nat_lt, if◌then◌else◌, refl, sym, ap, ◌∙◌, subst, arith}
+use Rattle.std.proofs.Common.{◌≡◌, ℕ, ◌+◌, ◌-◌, ◌*◌, ◌^◌, ◌<◌, ◌≤◌, Bool, true, false, List, nat_lt, if◌then◌else◌, refl, sym, ◌∙◌, subst, arith}
 use Rattle.std.proofs.lemmas.Bool.Decides.{nat_tests}
 use Rattle.bv_core.specs.Value.{Bits}
 use Rattle.bv_core.specs.declared.operators.Op1.{Op1}
 use Rattle.bv_core.specs.declared.operators.Op1.TheVariants.{Not, All, Any, Parity, Slice, Zext}
 use Rattle.bv_core.specs.declared.operators.Op2.{Op2}
 use Rattle.bv_core.specs.declared.operators.Op2.TheVariants.{Add, Sub, Mul, And, Or, Xor, Eq, Ne, Lt, Le, Shl, Shr, Cat}
-use Rattle.bv_core.specs.Operators.{Fits1, Fits2, FitsMux, apply1_of, apply2_of, choose_of, width1_of, width2_of}
-use Rattle.verilog_out.specs.Syntax.{Identifier, Copy, Pad, Choose}
+use Rattle.bv_core.specs.Operators.{Fits1, Fits2, apply1_of, apply2_of, width1_of, width2_of}
+use Rattle.verilog_out.specs.Syntax.{Identifier, Copy, Pad}
 use Rattle.verilog_out.specs.Printed.{one_printed, two_printed}
 use Rattle.verilog_out.specs.Meaning.{name_of, meaning, ExpressionFits}
 

@@ -1,5 +1,5 @@
 -- Nodes and ports have one bit or more.
-use Rattle.std.proofs.Common.{◌≡◌, ℕ, zero, suc, ◌+◌, ◌-◌, ◌<◌, ◌≤◌, Bool, true, false, IsTrue, ◌&&◌, List, [], ◌∷◌, length, get_or, inl, inr, subst, sym, arith}
+use Rattle.std.proofs.Common.{◌≡◌, ℕ, zero, suc, ◌<◌, ◌≤◌, true, List, [], ◌∷◌, length, get_or, inl, inr, subst, sym, arith}
 use Rattle.std.specs.List.{list_all}
 use Rattle.std.proofs.lemmas.Bool.Decides.{nat_tests}
 use Rattle.bv_core.specs.declared.operators.Op1.{Op1}
@@ -11,7 +11,7 @@ use Rattle.tree_core.specs.Tree.{Whole, Const, Leaf, One, Two, Mux, Input, Regis
 use Rattle.tree_core.specs.Width.{tree_width, IsWhole}
 use Rattle.exec_core.specs.Lists.{IsIn}
 use Rattle.design_core.specs.Ports.{has_width}
-use Rattle.net_core.specs.Nodes.{Shape, trees_of, width_at}
+use Rattle.net_core.specs.Nodes.{trees_of, width_at}
 use Rattle.net_core.specs.Nets.{NetParts, IsNet}
 use Rattle.net_core.proofs.TreeLists.{trees_length}
 

@@ -1,5 +1,5 @@
 -- The module that a net is printed as means the net.
-use Rattle.std.specs.Prelude.{◌≡◌, ◌↔◌, ℕ, ◌^◌, ◌<◌, List, [], ◌∷◌, ◌++◌, length, map, slice_get, Some}
+use Rattle.std.specs.Prelude.{◌≡◌, ◌↔◌, ℕ, ◌^◌, ◌<◌, List, ◌++◌, length, map, slice_get, Some}
 use Rattle.bv_core.specs.Value.{Bits}
 use Rattle.gen_token.specs.Spelling.{IsName}
 use Rattle.tree_core.specs.Tree as tree

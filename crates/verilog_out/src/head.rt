@@ -71,11 +71,7 @@ fn push_ports(
 }
 
 /// Adds what stands before the nodes: the head and the ports.
-pub(crate) fn push_front(
-    alloc: Global,
-    text: &mut Vec<u8>,
-    ports: &Ports,
-) -> Result<(), NoMemory>
+pub(crate) fn push_front(alloc: Global, text: &mut Vec<u8>, ports: &Ports) -> Result<(), NoMemory>
     ensures { OnOk result (text.new.items ≡ text.old.items ++ front_text ports.now.module ports.now.inputs ports.now.outputs) }
 {
     push_head(text, ports)?;

@@ -28,12 +28,7 @@ pub(crate) fn push_range(alloc: Global, text: &mut Vec<u8>, width: u8) -> Result
 }
 
 /// Adds the declaration of a wire.
-fn push_wire(
-    alloc: Global,
-    text: &mut Vec<u8>,
-    number: u64,
-    width: u8,
-) -> Result<(), NoMemory>
+fn push_wire(alloc: Global, text: &mut Vec<u8>, number: u64, width: u8) -> Result<(), NoMemory>
     requires { 1 ≤ width }
     ensures { OnOk result (text.new.items ≡ text.old.items ++ declaration_text (Wire width (Numbered number))) }
 {
@@ -112,12 +107,7 @@ fn is_assigned(net: &Net, node: &Node) -> bool
 }
 
 /// Adds the assignment of a node, unless it is an input or a register.
-fn push_assignment(
-    alloc: Global,
-    text: &mut Vec<u8>,
-    net: &Net,
-    id: NodeId,
-) -> Result<(), NoMemory>
+fn push_assignment(alloc: Global, text: &mut Vec<u8>, net: &Net, id: NodeId) -> Result<(), NoMemory>
     requires net { IsNet net.now }
     requires node { id.0 < length net.now.nodes }
     ensures { OnOk result (text.new.items ≡ text.old.items ++ line_of assignment_text (assigned net.now.nodes id.0)) }

@@ -19,11 +19,7 @@ pub(crate) fn push_escaped(text: &mut Vec<u8>, name: &[u8]) -> Result<(), NoMemo
 }
 
 /// Adds the name of a number.
-pub(crate) fn push_numbered(
-    alloc: Global,
-    text: &mut Vec<u8>,
-    number: u64,
-) -> Result<(), NoMemory>
+pub(crate) fn push_numbered(alloc: Global, text: &mut Vec<u8>, number: u64) -> Result<(), NoMemory>
     ensures { OnOk result (text.new.items ≡ text.old.items ++ numbered number) }
 {
     let name = format!(in alloc; "_{number}")?;
@@ -32,12 +28,7 @@ pub(crate) fn push_numbered(
 }
 
 /// Adds the name of the node of this number.
-fn push_name_of(
-    alloc: Global,
-    text: &mut Vec<u8>,
-    number: u64,
-    node: &Node,
-) -> Result<(), NoMemory>
+fn push_name_of(alloc: Global, text: &mut Vec<u8>, number: u64, node: &Node) -> Result<(), NoMemory>
     ensures { OnOk result (text.new.items ≡ text.old.items ++ identifier_text (identifier_of number (shape_of node.now))) }
 {
     match node {

@@ -1,8 +1,5 @@
-use Rattle.std.proofs.Common.{◌≡◌, ◌<◌, ◌++◌, length, sym, ap, ◌∙◌, subst}
-use Rattle.verilog_out.specs.Syntax.{Numbered}
-use Rattle.verilog_out.specs.Spelling.{step_text}
-use Rattle.verilog_out.specs.Printed.{identifier_at, next_of, is_register, stepped}
-use Rattle.verilog_out.specs.Lines.{line_of}
+use Rattle.std.proofs.Common.{◌<◌, ◌++◌, length, sym, ap, ◌∙◌, subst}
+use Rattle.verilog_out.specs.Printed.{is_register}
 use Rattle.verilog_out.proofs.NextValues.{next_within, step_line}
 use Rattle.verilog_out.proofs.line.push_step.Goals as goal
 

@@ -1,7 +1,5 @@
-use Rattle.std.proofs.Common.{◌<◌, ◌++◌, length, sym, ap, ◌∙◌, arith}
-use Rattle.std.specs.List.{flat_map}
+use Rattle.std.proofs.Common.{◌<◌, length, arith}
 use Rattle.std.proofs.lemmas.Result.{err_from_is_err_and}
-use Rattle.design_core.specs.Slots.{from}
 use Rattle.sink_text.proofs.Passing.{more_passes, front_passes}
 use Rattle.verilog_out.specs.Lines.{part_line}
 use Rattle.verilog_out.proofs.Numbers.{number_next, number_of}
