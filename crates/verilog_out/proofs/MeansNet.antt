@@ -1,5 +1,5 @@
 -- The printed module means the net.
-use Rattle.std.proofs.Common.{◌≡◌, ℕ, ◌<◌, Bool, true, false, true≢false, ◌==◌, List, [], ◌∷◌, Some, None, length, map, slice_get, inl, inr, if◌then◌else◌, refl, sym, ap, ◌∙◌, subst, arith, eqb-true, eq-eqb}
+use Rattle.std.proofs.Common.{◌≡◌, ℕ, ◌^◌, ◌<◌, Bool, true, false, true≢false, ◌==◌, List, [], ◌∷◌, Some, None, length, map, slice_get, inl, inr, if◌then◌else◌, refl, sym, ap, ◌∙◌, subst, arith, eqb-true, eq-eqb}
 use Rattle.std.specs.List.{filter_map}
 use Rattle.std.proofs.lemmas.Option.{slice_get-get_or, get_or_from_slice_get, slice_get_within}
 use Rattle.bv_core.specs.Value.{Bits}
@@ -14,11 +14,12 @@ use Rattle.net_core.specs.Nets as nets
 use Rattle.net_core.specs.Nets.{NetParts, IsNet}
 use Rattle.net_core.proofs.TreeLists.{tree_is}
 use Rattle.verilog_out.specs.Syntax.{Numbered, Reg, Step}
-use Rattle.verilog_out.specs.Printed.{identifier_at, declaration_of, declared, next_of, is_register, stepped, FitsPorts}
-use Rattle.verilog_out.specs.ReadBack.{PrintedMeansNet}
+use Rattle.verilog_out.specs.Printed.{identifier_at, declaration_of, declared, next_of, is_register, stepped, module_of, printed, FitsPorts}
+use Rattle.verilog_out.specs.ReadBack.{HaveNames, Means, PrintedMeansNet}
 use Rattle.verilog_out.proofs.Members.{in_mapped, in_found, found_in, in_from, from_in, at_place, place_of}
 use Rattle.verilog_out.proofs.Once.{declared_once}
 use Rattle.verilog_out.proofs.Satisfied.{satisfied}
+use Rattle.verilog_out.proofs.OneModule.{texts_tell_modules}
 use Rattle.verilog_out.proofs.Readable.{is_module}
 use Rattle.verilog_out.proofs.Equations.{to_net, to_module}
 
@@ -127,12 +128,22 @@ module _ (net : NetParts) (ports : Ports) (is : IsNet net) (fits : FitsPorts net
       ∙ ap (λ n. Some (record { register = Numbered r.one.0; next = identifier_at net.nodes n })) beside
       ∙ ap Some (sym r.is))
 
-pub printed_means_net : PrintedMeansNet
-printed_means_net net ports few is fits names = record {
-  readable = is_module net ports few is fits names;
+module_means : (net : NetParts) (ports : Ports) → length net.nodes < 2 ^ 64 → IsNet net → FitsPorts net ports → HaveNames ports → Means net ports (module_of net ports)
+module_means net ports few is fits names = record {
   once = declared_once net ports few fits names;
   equations = λ E W gives given. (to_net net ports is fits E W gives given, to_module net ports is fits E W gives given);
   satisfied = λ E gives. satisfied net ports few is fits names E gives;
   starts = λ i width start. (start_found net ports is fits i width start, start_in net ports is fits i width start);
   steps = λ step. (step_found net ports is fits step, step_in net ports is fits step);
 }
+
+pub printed_means_net : PrintedMeansNet
+unfolding printed
+printed_means_net net ports few is fits names =
+    let readable = is_module net ports few is fits names in
+    record {
+      one = module_of net ports;
+      is = readable;
+      spelled = refl;
+      means = λ m im e. subst (Means net ports) (texts_tell_modules (module_of net ports) m readable im e) (module_means net ports few is fits names);
+    }

@@ -9,7 +9,8 @@ use Rattle.design_core.specs.declared.ports.Ports.{Ports}
 use Rattle.net_core.specs.Nodes.{Shape, Fixed, TopInput, Register, OfOne, OfTwo, OfMux, shape_at}
 use Rattle.net_core.specs.Nets.{NetParts, Solves, IsNet}
 use Rattle.verilog_out.specs.Syntax.{Numbered, Reg, Step, Module}
-use Rattle.verilog_out.specs.Printed.{identifier_at, module_of, FitsPorts}
+use Rattle.verilog_out.specs.Spelling.{module_text}
+use Rattle.verilog_out.specs.Printed.{identifier_at, printed, FitsPorts}
 use Rattle.verilog_out.specs.Reading.{IsModule}
 use Rattle.verilog_out.specs.Meaning.{name_of, AreDeclaredOnce, Meets}
 
@@ -48,11 +49,9 @@ pub record IsSatisfied (net : NetParts) (ports : Ports) (m : Module) (E : tree.O
   pub given : AreGiven net.nodes E values
   pub meets : Meets m values
 
--- its text tells the module. Each name is declared once. Values meet the module exactly where they meet the net, whatever is given, and there are
--- such values. The registers start
--- with their values, and step to their next values, and no other does
+-- each name is declared once. Values meet the module exactly where they meet the net, whatever is given, and there are such
+-- values. The registers start with their values, and step to their next values, and no other does
 pub record Means (net : NetParts) (ports : Ports) (m : Module) : Type 0 where
-  pub readable : IsModule m
   pub once : AreDeclaredOnce m
   pub equations : (E : tree.Origin → Bits) (W : List ℕ → Bits) → GivesWidths E → AreGiven net.nodes E W → Meets m W ↔ MeetsNet net ports E W
   pub satisfied : (E : tree.Origin → Bits) → GivesWidths E → IsSatisfied net ports m E
@@ -60,6 +59,13 @@ pub record Means (net : NetParts) (ports : Ports) (m : Module) : Type 0 where
       ↔ ((instance : List ℕ) × ((name : List ℕ) × ((slice_get net.nodes i ≡ Some (Register instance name start)) × (start.width ≡ width))))
   pub steps : (step : Step) → IsIn step m.steps ↔ IsIn step (map (λ (pair : ℕ × ℕ). record { register = Numbered pair.0; next = identifier_at net.nodes pair.1 }) net.nexts)
 
--- a net whose nodes have numbers of 64 bits is what its module means
+-- what is printed is the text of a module, and each module of that text means the net
+pub record ReadsBack (net : NetParts) (ports : Ports) : Type 0 where
+  pub one : Module
+  pub is : IsModule one
+  pub spelled : printed net ports ≡ module_text one
+  pub means : (m : Module) → IsModule m → printed net ports ≡ module_text m → Means net ports m
+
+-- so it is for a net whose nodes have numbers of 64 bits
 abbrev pub PrintedMeansNet : Type 0
-PrintedMeansNet = (net : NetParts) (ports : Ports) → length net.nodes < 2 ^ 64 → IsNet net → FitsPorts net ports → HaveNames ports → Means net ports (module_of net ports)
+PrintedMeansNet = (net : NetParts) (ports : Ports) → length net.nodes < 2 ^ 64 → IsNet net → FitsPorts net ports → HaveNames ports → ReadsBack net ports

@@ -2,9 +2,9 @@ ghost use Rattle.verilog_out.specs.ReadBack.{PrintedMeansNet};
 ghost use Rattle.verilog_out.specs.Reading.{TextsTellModules};
 ghost use Rattle.verilog_out.specs.Sample.{sample_is_printed, operators_are_printed, words_are_printed, alone_is_printed};
 
-/// The law that the module that a net is printed as means the net: values of its names meet the module exactly where they
-/// meet the net, whatever its inputs and registers have, and its registers start and step as those of the net. Computes
-/// nothing.
+/// The law that what is printed for a net, read back, means the net: it is the text of a module, and whatever module has
+/// that text, values of its names meet the module exactly where they meet the net, whatever its inputs and registers have,
+/// and its registers start and step as those of the net. Computes nothing.
 pub fn printed_means_net()
     ensures { PrintedMeansNet }
 {}
