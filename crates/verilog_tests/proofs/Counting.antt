@@ -9,7 +9,7 @@ use Rattle.tree_core.specs.Width.{tree_width}
 use Rattle.tree_core.specs.Fold.{folded}
 use Rattle.exec_core.specs.Lists.{IsIn, AreApart}
 use Rattle.design_core.specs.declared.ports.Ports.{Ports}
-use Rattle.net_core.specs.Nodes.{Shape, TopInput, no_shape, shape_at, node_tree, tree_at, trees_of, tree_of, width_at}
+use Rattle.net_core.specs.Nodes.{Shape, TopInput, no_shape, node_tree, tree_at, trees_of, tree_of, width_at}
 use Rattle.net_core.specs.Builder.{with_tree, Adds, Stands, Keeps}
 use Rattle.net_core.specs.Nets.{NetParts, is_register, IsNext, NextsFit, IsNet, OutputsFit, nexts_of, outputs_of}
 use Rattle.net_core.proofs.TreeLists.{trees_length, no_trees, tree_is}

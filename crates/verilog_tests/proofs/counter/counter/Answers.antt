@@ -1,4 +1,4 @@
-use Rattle.std.proofs.Common.{◌≡◌, [], ◌∷◌, sym, ap, ◌∙◌, subst}
+use Rattle.std.proofs.Common.{sym, ap, ◌∙◌, subst}
 use Rattle.net_core.specs.Nets.{NextsFit, outputs_of}
 use Rattle.verilog_tests.proofs.Counting.{Made, next_fits, outputs_fit, fits, one_output, one_next}
 use Rattle.verilog_tests.proofs.counter.counter.Goals as goal
