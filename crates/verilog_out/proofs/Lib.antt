@@ -1,0 +1,16 @@
+pub mod Numbers
+pub mod Widths
+pub mod NextValues
+pub mod Gathered
+pub mod Members
+pub mod Once
+pub mod Values
+pub mod Equations
+pub mod Readable
+pub mod Satisfied
+pub mod MeansNet
+pub mod Samples
+pub mod Alike
+pub mod FirstBytes
+pub mod Expressions
+pub mod OneModule
