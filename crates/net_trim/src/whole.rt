@@ -1,7 +1,6 @@
 ghost use Rattle.std.specs.Prelude.{◌≡◌, ◌<◌, ◌^◌, IfOk, All, length};
 ghost use Rattle.net_trim.specs.Made.{CanBeMade};
-ghost use Rattle.net_trim.specs.Whole.{Ordered, IsLoweredOf, ArePartsMade};
-ghost use Rattle.trim_core.specs.Trimmed.{IsTrimmed};
+ghost use Rattle.net_trim.specs.Whole.{ArePartsMade, IsOfDesign, IsCompiled};
 
 use crate::names::node_names;
 use crate::roots::roots_of;
@@ -45,9 +44,8 @@ fn parts_of(
 /// names need, numbered as they are walked; and the symbol table, which finds each name there, or tells that it is unset or that
 /// nothing was kept of it. Fails only where memory runs out.
 pub fn trim(alloc: Global, lowered: Lowered) -> Result<(Net, Table), NoMemory>
-    ghost of: { Ordered }
-    requires { IsLoweredOf of lowered }
-    ensures { IfOk result (λ made. IsTrimmed of.design (length of.pairs) lowered.mode made.0 made.1) }
+    requires { IsOfDesign lowered }
+    ensures { IfOk result (λ made. IsCompiled lowered made.0 made.1) }
 {
     let Lowered {
         net,
