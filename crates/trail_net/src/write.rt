@@ -1,8 +1,10 @@
-ghost use Rattle.std.specs.Prelude.{◌≡◌, ◌≤◌, None, OnOk, OnErr, IsErrOf, length};
+ghost use Rattle.std.specs.Prelude.{◌≡◌, ◌≤◌, None, IfOk, OnOk, OnErr, IsErrOf, length};
 ghost use Rattle.io_edge.specs.Faults.{Rose};
 ghost use Rattle.design_core.specs.DesignView.{design_of};
 ghost use Rattle.check_core.specs.Verdict.{verdict};
 ghost use Rattle.dep_order.specs.Results.{TellsOrder};
+ghost use Rattle.sim_hist.specs.Run.{InputsArePorts, first_cycle};
+ghost use Rattle.trim_core.specs.Trimmed.{IsTrimmed};
 ghost use Rattle.trim_laws.specs.Runs.{HasInputs};
 ghost use Rattle.trail_net.specs.Taken.{TakesTrail, TakesTrailFront};
 
@@ -11,12 +13,39 @@ use dep_order::Order;
 use design_core::Design;
 use io_edge::Sink;
 use lower_core::Mode;
+use net_core::Net;
 use net_trim::trim;
 use sim_core::Simulator;
 use sim_hist::SimTrace;
 use ssa_net::lower;
 use std::alloc::Global;
 use stim_text::Stim;
+use symtab::Table;
+use text_core::NoMemory;
+
+/// Lowers an accepted design, and trims what was lowered: the net keeps exactly what this mode keeps, and the table tells where.
+pub fn compile(
+    alloc: Global,
+    design: &Design,
+    order: &Order,
+    mode: Mode,
+) -> Result<(Net, Table), NoMemory>
+    requires accepted { verdict (design_of design.now) ≡ None }
+    requires order { TellsOrder (design_of design.now) order.now }
+    ensures ok { IfOk result (λ made. IsTrimmed (design_of design.now) (length order.now) mode made.0 made.1) }
+{
+    let lowered = lower(alloc, design, order, mode)?;
+    trim(alloc, lowered)
+}
+
+/// The trace of a net's run over the rows of a stimulus.
+fn trace_of(alloc: Global, net: Net, stim: Stim) -> Result<SimTrace, NoMemory>
+    requires inputs { InputsArePorts net.nodes stim.ports }
+    ensures ok { IfOk result (λ trace. trace ≡ record { net = net; stim = stim; cursor = first_cycle stim }) }
+{
+    let simulator = Simulator::new(alloc, net)?;
+    SimTrace::new(alloc, simulator, stim)
+}
 
 /// Writes the trail of an accepted design's run over the rows of a stimulus for its inputs: for each cycle and each executed
 /// statement, in the order of slots, a line for each instance that executes it, in preorder. A name of which nothing was kept in
@@ -37,9 +66,7 @@ pub fn write_trail<S: Sink>(
     ensures failed { IsErrOf result TrailEnd.Failed → Rose (S.fault_count out.old) (S.fault_count out.new) }
     ensures later { S.fault_count out.old ≤ S.fault_count out.new }
 {
-    let lowered = lower(alloc, design, order, mode)?;
-    let (net, table) = trim(alloc, lowered)?;
-    let simulator = Simulator::new(alloc, net)?;
-    let mut trace = SimTrace::new(alloc, simulator, stim)?;
+    let (net, table) = compile(alloc, design, order, mode)?;
+    let mut trace = trace_of(alloc, net, stim)?;
     trail_out::write_trail(alloc, &table, &mut trace, out)
 }
