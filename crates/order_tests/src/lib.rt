@@ -5,3 +5,5 @@
 mod designs;
 #[cfg(test)]
 mod graphs;
+#[cfg(test)]
+mod judged;
