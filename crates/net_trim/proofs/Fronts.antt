@@ -16,7 +16,7 @@ drop_here [] i x l e = absurd (omega (arith, l))
 drop_here (y ∷ xs) zero x l e = ap (λ z. z ∷ xs) (sym e) ∙ ap (λ k. x ∷ drop k (y ∷ xs)) (let z : 1 ≡ 0 + 1 = omega arith in z)
 drop_here (y ∷ xs) (suc i) x l e = drop_here xs i x (omega (arith, l)) e ∙ ap (λ k. x ∷ drop k (y ∷ xs)) (let z : suc (i + 1) ≡ suc i + 1 = omega arith in z)
 
-drop_end : {A : Type 0} (xs : List A) (i : ℕ) → length xs ≡ i → (drop i xs ≡ []) 
+drop_end : {A : Type 0} (xs : List A) (i : ℕ) → length xs ≡ i → (drop i xs ≡ [])
 drop_end [] zero e = refl
 drop_end [] (suc i) e = absurd (omega (arith, e))
 drop_end (x ∷ xs) zero e = absurd (omega (arith, e))

@@ -53,10 +53,13 @@ node_in ns id t s = got_in (trees_of ns) id t (slice_get-get_or (trees_of ns) id
 
 pub in_node : (ns : List Shape) (t : Whole) → IsIn t (trees_of ns) → (id : ℕ) × Stands ns id t
 in_node ns t i =
-    let at = in_index (trees_of ns) t i in (at.0, record {
-      within = subst (λ m. at.0 < m) (trees_length ns) (slice_get_within (trees_of ns) at.0 t at.1);
-      tree = get_or_from_slice_get (trees_of ns) at.0 t _ at.1;
-    })
+    let at = in_index (trees_of ns) t i in (
+      at.0,
+      record {
+        within = subst (λ m. at.0 < m) (trees_length ns) (slice_get_within (trees_of ns) at.0 t at.1);
+        tree = get_or_from_slice_get (trees_of ns) at.0 t _ at.1;
+      },
+    )
 
 outputs_told : (d : Design) (n : ℕ) (old new : List Shape) (ports before now : List (Name × ℕ)) → OutputsTold d n old ports before → OutputsStand old new before now → OutputsTold d n new ports now
 outputs_told d n old new [] [] [] h g = tt

@@ -90,9 +90,9 @@ module _ (d : Design) (sound : IsSound d) where
   few_variants : length d.variants ≤ 4096
   few_variants =
       let less = no_more (from 0 (length d.variants)) (map (λ (r : Instance). r.variant) d.instances) (from_apart 0 (length d.variants)) (λ z i.
-          let below = (from_in 0 (length d.variants) z i).1 in
-          let found = any_in (λ (r : Instance). r.variant == z) d.instances (sound.kept.instances z (omega (arith, below))) in
-          subst (λ k. IsIn k (map (λ (r : Instance). r.variant) d.instances)) (eqb-true found.0.variant z found.1.1) (map_in (λ (r : Instance). r.variant) d.instances found.0 found.1.0)) in
+      let below = (from_in 0 (length d.variants) z i).1 in
+      let found = any_in (λ (r : Instance). r.variant == z) d.instances (sound.kept.instances z (omega (arith, below))) in
+      subst (λ k. IsIn k (map (λ (r : Instance). r.variant) d.instances)) (eqb-true found.0.variant z found.1.1) (map_in (λ (r : Instance). r.variant) d.instances found.0 found.1.0)) in
       omega (arith, less, from_length 0 (length d.variants), length-map d.instances (λ (r : Instance). r.variant), sound.kept.few)
 
   few_slots : length (sites_in_order d) ≤ 200000

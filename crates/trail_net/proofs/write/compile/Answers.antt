@@ -22,5 +22,7 @@ returns c =
     let lowered = subst (λ (m : Mode). IsLowered (design_of c.args.design.now) (length c.args.order.now) m c.in_ok-lowered.lowered) (sym c.in_ok-lowered.ensures.mode) c.in_ok-lowered.ensures in
     let of : Ordered = record { design = design_of c.args.design.now; pairs = c.args.order.now } in
     let is : IsLoweredOf of c.in_ok-lowered.lowered = record { sound = sound; order = c.requires.order; lowered = lowered } in
-    record { ok = IfOk-weaker c.trim.result _ _
-        (λ made h. subst (λ (m : Mode). IsTrimmed (design_of c.args.design.now) (length c.args.order.now) m made.0 made.1) c.in_ok-lowered.ensures.mode (h of is)) c.trim.ensures }
+    record {
+      ok = IfOk-weaker c.trim.result _ _
+          (λ made h. subst (λ (m : Mode). IsTrimmed (design_of c.args.design.now) (length c.args.order.now) m made.0 made.1) c.in_ok-lowered.ensures.mode (h of is)) c.trim.ensures;
+    }
