@@ -18,11 +18,12 @@ const HELP: &str = "\
 hgdb shows what a hardware design does, statement by statement of its source.
 
 Usage:
-  hgdb trail keep SRC STIM TOP [NAME=N]..
+  hgdb trail MODE SRC STIM TOP [NAME=N]..
                     print each executed statement with the variables before it
   hgdb --help       print this text
   hgdb --version    print the version
 
+MODE is keep, where every name is kept, or opt, where a name that neither the outputs nor the conditions need is removed.
 SRC is a source file, STIM a stimulus file, TOP the module to run. NAME=N gives its parameter NAME the number N.
 
 Exit status: 0 all was printed; 2 the words are no command; 3 the source is refused; 4 the stimulus is refused;
