@@ -1,5 +1,5 @@
 -- The trees of the nodes that are asked for are those that are asked for of the design.
-use Rattle.std.proofs.Common.{◌≡◌, ℕ, ◌<◌, true, List, [], ◌∷◌, ◌++◌, length, map, Option, Some, None, option_map, inl, inr, refl, sym, ap, ap₂, ◌∙◌, subst}
+use Rattle.std.proofs.Common.{◌≡◌, ℕ, true, List, [], ◌∷◌, ◌++◌, map, Option, Some, None, option_map, inl, inr, refl, sym, ap, ap₂, ◌∙◌, subst}
 use Rattle.std.specs.Prelude.{option_and_then}
 use Rattle.std.specs.List.{flat_map}
 use Rattle.std.proofs.lemmas.List.{map-append}
@@ -14,15 +14,13 @@ use Rattle.design_core.specs.Design.{Design}
 use Rattle.design_core.specs.Ports.{ports_in, top_signals}
 use Rattle.design_exec.specs.Processes.{processes_of}
 use Rattle.net_core.specs.Nodes.{Shape, tree_of}
-use Rattle.net_core.specs.Nets.{NetParts}
 use Rattle.world_core.specs.declared.mode.Mode.{Mode}
 use Rattle.world_core.specs.declared.mode.Mode.TheVariants.{Opt, Keep}
 use Rattle.world_core.specs.Sites.{Spot, all_spots}
-use Rattle.world_core.specs.Kept.{block_row, whole_in, enable_tree, name_tree, listed, output_trees, enable_trees, name_trees, named_trees, asked_trees}
+use Rattle.world_core.specs.Kept.{block_row, whole_in, enable_tree, name_tree, listed, enable_trees, name_trees, named_trees, asked_trees}
 use Rattle.lower_core.specs.declared.row.FullRow.{FullRow}
-use Rattle.lower_core.specs.declared.row.Lowered as code
 use Rattle.lower_core.specs.Rows.{CellTold, CellsTold, RowTold, AreTold}
-use Rattle.lower_core.specs.Lowered.{OutputsTold, IsLowered}
+use Rattle.lower_core.specs.Lowered.{OutputsTold}
 use Rattle.walk_net.specs.Next.{tree_by, trees_by}
 use Rattle.walk_net.specs.Renaming.{IsNode}
 use Rattle.walk_net.specs.Answer.{IsRoot}

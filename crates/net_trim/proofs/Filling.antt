@@ -1,6 +1,6 @@
 -- Slots that are filled one after another.
-use Rattle.std.proofs.Common.{◌≡◌, ℕ, zero, suc, ◌+◌, ◌-◌, ◌<◌, ◌≤◌, ◌==◌, Bool, true, false, List, [], ◌∷◌, length, take, drop, Option, Some, None, get_or, if◌then◌else◌, ◌⊎◌, inl, inr, refl, sym, ap, ap₂, ◌∙◌, subst, arith}
-use Rattle.std.specs.Prelude.{slice_get, slice_set, All}
+use Rattle.std.proofs.Common.{◌≡◌, ℕ, zero, suc, ◌+◌, ◌-◌, ◌<◌, ◌≤◌, ◌==◌, Bool, true, false, List, [], ◌∷◌, length, take, drop, Option, Some, get_or, if◌then◌else◌, ◌⊎◌, inl, inr, refl, sym, ap, ◌∙◌, subst, arith}
+use Rattle.std.specs.Prelude.{slice_get, slice_set}
 use Rattle.std.proofs.lemmas.Bool.{cases_eq}
 use Rattle.std.proofs.lemmas.List.{length-set}
 use Rattle.std.proofs.lemmas.Option.{none-some, same_Some, slice_get-get_or, slice_get_past}
@@ -9,7 +9,7 @@ use Rattle.net_core.specs.Nodes.{Shape}
 use Rattle.symtab.specs.declared.parts.Row.{Row}
 use Rattle.symtab.specs.declared.parts.Slot.{Slot}
 use Rattle.lower_core.specs.declared.row.FullRow.{FullRow}
-use Rattle.net_trim.specs.Made.{IsMade, AreMade, front_of, rest_of, rest_after, IsFilled, IsFilledAt, AreFilledBelow, AreFilled}
+use Rattle.net_trim.specs.Made.{AreMade, front_of, rest_of, rest_after, IsFilled, IsFilledAt, AreFilledBelow, AreFilled}
 
 -- ---- the rows of a slot stand at the front
 

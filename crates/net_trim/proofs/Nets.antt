@@ -1,14 +1,13 @@
 -- The net that is kept of a lowered design is that of the design's kept trees.
-use Rattle.std.proofs.Common.{◌≡◌, ◌↔◌, ℕ, zero, suc, ◌<◌, true, List, [], ◌∷◌, length, map, Option, Some, None, inl, inr, refl, sym, ap, ap₂, ◌∙◌, subst}
+use Rattle.std.proofs.Common.{◌≡◌, ℕ, zero, suc, ◌<◌, true, List, [], ◌∷◌, length, map, Some, inl, inr, refl, sym, ap, ◌∙◌, subst}
 use Rattle.std.specs.Prelude.{slice_get}
 use Rattle.std.proofs.lemmas.List.{length-map}
 use Rattle.std.proofs.lemmas.Option.{none-some, same_Some, slice_get_within, get_or_from_slice_get, slice_get-get_or}
-use Rattle.bv_core.specs.Value.{Bits}
 use Rattle.bv_core.specs.declared.reference.NodeId.{NodeId}
 use Rattle.tree_core.specs.Tree.{Leaf, One, Two, Mux, Origin, Input, Register, Whole}
 use Rattle.tree_core.specs.Width.{tree_width}
 use Rattle.exec_core.specs.Block.{Name}
-use Rattle.exec_core.specs.Lists.{EachOf, IsIn, AreApart}
+use Rattle.exec_core.specs.Lists.{EachOf, IsIn}
 use Rattle.exec_core.specs.Whole.{Place}
 use Rattle.exec_core.specs.Design.{next_tree, folded_tree}
 use Rattle.exec_core.specs.States.{OverGivens}
@@ -17,15 +16,15 @@ use Rattle.exec_core.proofs.Lists.{each_member, each_from}
 use Rattle.design_core.specs.Design.{Design}
 use Rattle.design_core.specs.Ports.{ports_in, top_signals}
 use Rattle.design_exec.specs.Processes.{Given, processes_of}
-use Rattle.net_core.specs.Nodes.{Shape, trees_of, tree_of, width_at}
+use Rattle.net_core.specs.Nodes.{Shape, trees_of, tree_of}
 use Rattle.net_core.specs.Builder.{Stands}
 use Rattle.net_core.specs.Nets.{NetParts, IsNet, is_register}
 use Rattle.net_core.proofs.TreeLists.{trees_length}
 use Rattle.check_exec.proofs.Facts.{in_index}
 use Rattle.world_core.specs.declared.mode.Mode.{Mode}
-use Rattle.world_core.specs.Kept.{asked_trees, IsKeptIn, kept_trees}
+use Rattle.world_core.specs.Kept.{asked_trees, kept_trees}
 use Rattle.lower_core.specs.declared.row.Lowered as code
-use Rattle.lower_core.specs.Lowered.{OutputTold, OutputsTold, HasNext, IsLowered}
+use Rattle.lower_core.specs.Lowered.{OutputsTold, IsLowered}
 use Rattle.walk_net.specs.Next.{tree_by, trees_by, next_of}
 use Rattle.walk_net.specs.Renaming.{IsNode}
 use Rattle.walk_net.specs.Answer.{AreNumbers, OutputsStand, NextStands}

@@ -1,13 +1,12 @@
 -- The next-value trees of a lowered design's registers are those of the design.
-use Rattle.std.proofs.Common.{◌≡◌, ℕ, zero, suc, ◌<◌, Bool, true, false, true≢false, List, [], ◌∷◌, length, map, Option, Some, None, if◌then◌else◌, inl, inr, refl, sym, ap, ap₂, ◌∙◌, subst}
+use Rattle.std.proofs.Common.{◌≡◌, ℕ, suc, ◌<◌, Bool, true, false, true≢false, List, [], ◌∷◌, length, map, Option, Some, None, if◌then◌else◌, inl, inr, refl, sym, ap, ◌∙◌, subst}
 use Rattle.std.specs.Prelude.{slice_get, find}
-use Rattle.std.proofs.lemmas.Bool.{cases_eq}
 use Rattle.std.proofs.lemmas.Option.{none-some, same_Some}
 use Rattle.bv_core.specs.Value.{Bits}
-use Rattle.tree_core.specs.Tree.{Const, Leaf, One, Two, Mux, Origin, Input, Register, Whole}
+use Rattle.tree_core.specs.Tree.{Leaf, Origin, Input, Register, Whole}
 use Rattle.tree_core.specs.Fold.{same_tree, same_origin}
 use Rattle.tree_core.proofs.Same.{same_tree-sound, same_tree-refl, same_origin-sound, same_origin-refl}
-use Rattle.exec_core.specs.Lists.{EachOf, IsIn}
+use Rattle.exec_core.specs.Lists.{IsIn}
 use Rattle.exec_core.specs.Whole.{Place}
 use Rattle.exec_core.specs.Design.{next_tree, folded_tree}
 use Rattle.exec_core.specs.States.{OverGivens}
@@ -16,8 +15,7 @@ use Rattle.exec_core.proofs.Lists.{each_member, find_member}
 use Rattle.design_core.specs.Design.{Design}
 use Rattle.design_exec.specs.Processes.{Given, processes_of}
 use Rattle.net_core.specs.Nodes.{Shape, trees_of, tree_of}
-use Rattle.net_core.specs.Builder.{Stands, HaveOneIdEach}
-use Rattle.net_core.specs.Nets.{NetParts, IsNet, IsNext, is_register}
+use Rattle.net_core.specs.Nets.{IsNext, is_register}
 use Rattle.net_core.proofs.TreeLists.{trees_length}
 use Rattle.check_exec.proofs.Facts.{in_index}
 use Rattle.world_core.specs.declared.mode.Mode.{Mode}

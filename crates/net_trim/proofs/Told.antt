@@ -1,6 +1,6 @@
 -- The rows that are made of a lowered design's rows tell the design by the kept nodes.
-use Rattle.std.proofs.Common.{◌≡◌, ℕ, zero, suc, ◌+◌, ◌<◌, ◌≤◌, ◌==◌, Bool, true, false, true≢false, List, [], ◌∷◌, ◌++◌, length, map, Option, Some, None, option_map, if◌then◌else◌, inl, inr, refl, sym, ap, ap₂, ◌∙◌, subst, arith, eq-eqb, ne_eqb}
-use Rattle.std.specs.Prelude.{is_some, option_and_then, All}
+use Rattle.std.proofs.Common.{◌≡◌, ℕ, ◌+◌, ◌<◌, ◌≤◌, ◌==◌, true, false, List, [], ◌∷◌, ◌++◌, length, map, Option, Some, None, option_map, if◌then◌else◌, inl, inr, refl, sym, ap, ap₂, ◌∙◌, subst, arith, eq-eqb, ne_eqb}
+use Rattle.std.specs.Prelude.{is_some, All}
 use Rattle.std.specs.List.{flat_map}
 use Rattle.std.specs.Option.{ForSome}
 use Rattle.std.proofs.lemmas.List.Elements.{All-nil, All-cons}
@@ -9,16 +9,12 @@ use Rattle.bv_core.specs.Value.{Bits}
 use Rattle.bv_core.specs.declared.reference.NodeId.{NodeId}
 use Rattle.bv_core.specs.declared.reference.Ref.{Ref}
 use Rattle.bv_core.specs.declared.reference.Ref.TheVariants.{Node, Const}
-use Rattle.bv_core.specs.declared.reference.Binding.{Binding}
-use Rattle.bv_core.specs.declared.reference.Binding.TheVariants.{Value, Unset, Removed}
-use Rattle.tree_core.specs.Tree as tree
-use Rattle.tree_core.specs.Tree.{Tree, Origin, Whole}
+use Rattle.tree_core.specs.Tree.{Tree, Whole}
 use Rattle.tree_core.specs.Width.{tree_width}
 use Rattle.tree_core.specs.Fold.{constant}
 use Rattle.exec_core.specs.Block.{Name, Now}
 use Rattle.exec_core.specs.Lists.{IsIn}
 use Rattle.exec_core.specs.Trees.{Row}
-use Rattle.exec_core.specs.Kept.{IsKept}
 use Rattle.design_core.specs.Design.{Design}
 use Rattle.design_core.specs.Slots.{from}
 use Rattle.net_core.specs.Nodes.{Shape, Fixed, TopInput, Register, OfOne, OfTwo, OfMux, shape_at, node_tree, trees_of, tree_of, width_at, AreNumbered}
@@ -28,7 +24,7 @@ use Rattle.symtab.specs.declared.parts.Row as table
 use Rattle.symtab.specs.declared.parts.Slot.{Slot}
 use Rattle.world_core.specs.declared.mode.Mode.{Mode}
 use Rattle.world_core.specs.Sites.{Site, Spot, spots_of, instances_with}
-use Rattle.world_core.specs.Kept.{whole_in, enable_tree, name_tree, IsKeptIn}
+use Rattle.world_core.specs.Kept.{whole_in, name_tree, IsKeptIn}
 use Rattle.lower_core.specs.declared.row.FullRow.{FullRow}
 use Rattle.lower_core.specs.Shape.{slot_part}
 use Rattle.lower_core.specs.Rows.{CellTold, CellsTold, RowTold, AreTold}

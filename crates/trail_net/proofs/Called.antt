@@ -1,5 +1,5 @@
 -- What compiling a design gives the function that writes its trail.
-use Rattle.std.proofs.Common.{◌≡◌, ℕ, ◌≤◌, false, List, length, map, Option, refl, sym, ap, ◌∙◌, subst, arith}
+use Rattle.std.proofs.Common.{◌≡◌, ℕ, false, List, length, map, Option, sym, ap, ◌∙◌, subst}
 use Rattle.std.specs.Prelude.{slice_get}
 use Rattle.std.specs.List.{enumerate_from}
 use Rattle.std.proofs.lemmas.List.{length-map}
@@ -15,7 +15,7 @@ use Rattle.design_core.specs.declared.Ports.{Ports}
 use Rattle.design_core.specs.Design.{Design}
 use Rattle.design_core.specs.Ports.{ports_in, top_signals}
 use Rattle.design_exec.specs.Processes.{Given, processes_of}
-use Rattle.net_core.specs.Nodes.{Shape, TopInput, no_shape, shape_at, node_tree, trees_of, tree_of}
+use Rattle.net_core.specs.Nodes.{TopInput, no_shape, shape_at, node_tree, trees_of, tree_of}
 use Rattle.net_core.specs.Nets.{NetParts}
 use Rattle.net_core.proofs.TreeLists.{tree_is}
 use Rattle.io_edge.specs.Taken.{Appends, AppendsFront}
@@ -33,7 +33,7 @@ use Rattle.world_core.specs.Source.{source_world}
 use Rattle.world_core.proofs.Listing.{map_from}
 use Rattle.world_core.proofs.Trails.{same_trails}
 use Rattle.trace_world.specs.TraceWorld.{trace_world}
-use Rattle.trim_core.specs.Named.{named, node_names}
+use Rattle.trim_core.specs.Named.{named}
 use Rattle.trim_core.specs.Trimmed.{IsTrimmed}
 use Rattle.trim_laws.specs.Runs.{HasInputs, RunsOver}
 use Rattle.world_laws.proofs.RowsFit.{IsPort, inputs_ports}

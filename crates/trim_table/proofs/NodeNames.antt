@@ -1,14 +1,12 @@
 -- The names of the nodes of a compiled design differ.
-use Rattle.std.proofs.Common.{◌≡◌, ℕ, zero, suc, ◌+◌, ◌<◌, ◌^◌, true, false, true≢false, List, [], ◌∷◌, ◌++◌, length, map, drop, codes, Option, Some, None, option_map, inl, inr, refl, sym, ap, ◌∙◌, subst, arith}
+use Rattle.std.proofs.Common.{◌≡◌, ℕ, suc, ◌+◌, ◌<◌, ◌^◌, true, false, true≢false, List, [], ◌∷◌, length, map, drop, Option, Some, None, refl, sym, ap, ◌∙◌, subst, arith}
 use Rattle.std.specs.Prelude.{slice_get}
 use Rattle.std.specs.List.{enumerate_from}
-use Rattle.std.specs.Fmt.{decimal}
 use Rattle.std.proofs.lemmas.Fmt.{decimal_injective}
 use Rattle.std.proofs.lemmas.Option.{none-some, same_Some, slice_get_within, get_or_from_slice_get}
-use Rattle.tree_core.specs.Tree as tree
 use Rattle.tree_core.specs.Tree.{Leaf, Origin, Input, Whole}
 use Rattle.gen_token.specs.Spelling.{is_name_text}
-use Rattle.exec_core.specs.Lists.{EachOf, IsIn, IsNotIn, AreApart}
+use Rattle.exec_core.specs.Lists.{IsIn, IsNotIn, AreApart}
 use Rattle.exec_core.specs.States.{OverGivens}
 use Rattle.exec_core.proofs.Lists.{each_member}
 use Rattle.design_core.specs.Design.{Design}

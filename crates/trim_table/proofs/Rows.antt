@@ -1,5 +1,5 @@
 -- The rows of the table of a compiled design.
-use Rattle.std.proofs.Common.{◌≡◌, ℕ, zero, suc, ◌+◌, ◌<◌, ◌^◌, List, [], ◌∷◌, length, map, Option, Some, None, option_map, inl, inr, refl, sym, ap, ◌∙◌, subst, arith}
+use Rattle.std.proofs.Common.{◌≡◌, ℕ, zero, suc, ◌+◌, ◌<◌, ◌^◌, List, [], ◌∷◌, length, Option, Some, None, option_map, refl, sym, ap, ◌∙◌, subst, arith}
 use Rattle.std.specs.Prelude.{slice_get, option_and_then, All}
 use Rattle.std.specs.List.{enumerate_from}
 use Rattle.std.proofs.lemmas.List.Elements.{All-nil, All-cons}
@@ -8,14 +8,14 @@ use Rattle.bv_core.specs.declared.reference.Ref.{Ref}
 use Rattle.bv_core.specs.declared.reference.Ref.TheVariants.{Node, Const}
 use Rattle.bv_core.specs.declared.reference.Binding.{Binding}
 use Rattle.bv_core.specs.declared.reference.Binding.TheVariants.{Value, Unset, Removed}
-use Rattle.tree_core.specs.Tree.{Tree, Whole}
-use Rattle.tree_core.specs.Width.{WellFormed, width_of, tree_width}
+use Rattle.tree_core.specs.Tree.{Whole}
+use Rattle.tree_core.specs.Width.{tree_width}
 use Rattle.exec_core.specs.Block.{Name}
 use Rattle.exec_core.specs.Lists.{IsIn}
 use Rattle.exec_core.specs.Trees.{Row}
 use Rattle.exec_core.specs.Paths.{HasTree, RowChecked}
 use Rattle.exec_core.specs.Whole.{Place}
-use Rattle.exec_core.specs.Design.{Process, moved, signals_of, width_in}
+use Rattle.exec_core.specs.Design.{moved, signals_of, width_in}
 use Rattle.exec_core.specs.Accepted.{Accepted}
 use Rattle.exec_core.proofs.Lists.{each_member}
 use Rattle.exec_core.proofs.Sources.{process_checked}
@@ -23,8 +23,7 @@ use Rattle.exec_core.proofs.Moving.{moved_fits}
 use Rattle.exec_core.proofs.Folded.{nodes_by_node}
 use Rattle.design_core.specs.Design.{Variant, Design}
 use Rattle.design_exec.specs.Processes.{process, processes_of}
-use Rattle.net_core.specs.Nodes.{Shape, shape_at, no_shape, tree_of, width_at}
-use Rattle.net_core.specs.Builder.{Stands}
+use Rattle.net_core.specs.Nodes.{Shape, shape_at, no_shape, width_at}
 use Rattle.net_core.proofs.Applying.{constant_width}
 use Rattle.symtab.specs.declared.parts.NodeName.{NodeName}
 use Rattle.symtab.specs.declared.parts.Row as table

@@ -3,12 +3,11 @@ use Rattle.std.proofs.Common.{◌≡◌, ℕ, Bool, true, false, true≢false, �
 use Rattle.std.proofs.lemmas.List.{map-append}
 use Rattle.exec_core.specs.Block.{Name}
 use Rattle.exec_core.specs.Lists.{EachOf, IsIn, IsNotIn, AreApart}
-use Rattle.exec_core.proofs.Lists.{each_from}
 use Rattle.design_core.specs.declared.variant.Signal.{Signal}
 use Rattle.design_core.specs.Design as design
 use Rattle.design_core.specs.Design.{Block, Variant}
 use Rattle.design_core.specs.Slots.{lets_of, let_of, else_lets, scope}
-use Rattle.check_core.specs.Known.{Known, none, with, either}
+use Rattle.check_core.specs.Known.{Known, none, with}
 use Rattle.check_core.specs.Names.{any_kind, named, child_named, signal_thing, lets_in, taken_in, duplicate_name}
 use Rattle.check_core.specs.Statements.{inside, statements, else_statements}
 use Rattle.check_exec.proofs.Facts.{name_same, in_any}

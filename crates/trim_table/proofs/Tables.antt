@@ -1,7 +1,7 @@
 -- The table of a compiled design keeps every rule of a symbol table.
-use Rattle.std.proofs.Common.{◌≡◌, ℕ, zero, suc, ◌+◌, ◌<◌, ◌≤◌, ◌==◌, ◌&&◌, ◌^◌, Bool, true, false, cond, ℤ, pos, negsuc, List, [], ◌∷◌, length, map, Option, Some, None, option_map, int_le, bytes_eq, inl, inr, refl, sym, ap, ap₂, ◌∙◌, subst, arith, eqb-true, T}
+use Rattle.std.proofs.Common.{◌≡◌, ℕ, zero, suc, ◌+◌, ◌<◌, ◌≤◌, ◌==◌, ◌^◌, Bool, true, false, cond, ℤ, pos, negsuc, List, [], ◌∷◌, length, map, Option, Some, None, option_map, int_le, inl, inr, refl, sym, ap, ◌∙◌, subst, arith, eqb-true, T}
 use Rattle.std.specs.Prelude.{slice_get, All, filter}
-use Rattle.std.specs.List.{enumerate_from, flat_map}
+use Rattle.std.specs.List.{enumerate_from}
 use Rattle.std.specs.Int.Signed.{le_z_yes}
 use Rattle.std.proofs.lemmas.List.{length-map}
 use Rattle.std.proofs.lemmas.List.Elements.{All-nil, All-cons}
@@ -14,15 +14,15 @@ use Rattle.tree_core.proofs.Same.{both_true}
 use Rattle.tree_core.proofs.Folding.{values_fit}
 use Rattle.tree_core.proofs.Samples.{some_given}
 use Rattle.exec_core.specs.Block.{Name}
-use Rattle.exec_core.specs.Lists.{EachOf, IsIn, IsNotIn, AreApart}
+use Rattle.exec_core.specs.Lists.{IsIn, IsNotIn, AreApart}
 use Rattle.exec_core.specs.Whole.{Place}
 use Rattle.exec_core.proofs.Lists.{each_member}
 use Rattle.design_core.specs.declared.design.Instance.{Instance}
 use Rattle.design_core.specs.Design.{Gens, IsInRange, AreInRange, Variant, Design}
 use Rattle.design_core.specs.Slots.{from}
-use Rattle.design_core.specs.WellFormed.{AreFew, IsVariant, all_slots}
-use Rattle.design_exec.specs.Processes.{Numbered, processes_of}
-use Rattle.net_core.specs.Nodes.{Shape, trees_of, tree_of, width_at}
+use Rattle.design_core.specs.WellFormed.{AreFew, IsVariant}
+use Rattle.design_exec.specs.Processes.{Numbered}
+use Rattle.net_core.specs.Nodes.{Shape, tree_of, width_at}
 use Rattle.net_core.specs.Nets.{NetParts}
 use Rattle.net_core.proofs.TreeLists.{trees_length}
 use Rattle.symtab.specs.declared.parts.GenVariable.{GenVariable}
@@ -44,9 +44,9 @@ use Rattle.world_core.specs.Sites.{Site, slot_count, sites_of, sites_in_order, i
 use Rattle.world_core.specs.Kept.{enable_tree}
 use Rattle.world_core.proofs.Listing.{map_in, map_from, flat_in, from_in, from_length, no_more}
 use Rattle.world_laws.proofs.SitesOf.{order_slots, ordered}
-use Rattle.lower_core.specs.Shape.{gen_part, variant_part, instance_part, slot_part, shape_of}
-use Rattle.trim_core.specs.Named.{named, node_names}
-use Rattle.trim_core.specs.Trimmed.{RowTold, RowsTold, SlotsTold, bare_slot, bare, IsKeptNet, TellsDesign}
+use Rattle.lower_core.specs.Shape.{gen_part, variant_part, instance_part, slot_part}
+use Rattle.trim_core.specs.Named.{named}
+use Rattle.trim_core.specs.Trimmed.{RowsTold, SlotsTold, bare_slot, IsKeptNet, TellsDesign}
 use Rattle.trim_table.specs.Laws.{TrimmedAreTables}
 use Rattle.trim_table.proofs.Apart.{texts_apart}
 use Rattle.trim_table.proofs.NodeNames.{node_names_apart}

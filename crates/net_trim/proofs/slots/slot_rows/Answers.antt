@@ -1,4 +1,4 @@
-use Rattle.std.proofs.Common.{◌≡◌, ◌+◌, sym, subst, eq-eqb}
+use Rattle.std.proofs.Common.{◌+◌, sym, subst, eq-eqb}
 use Rattle.net_trim.proofs.Fronts.{SoFar, more}
 use Rattle.net_trim.proofs.slots.slot_rows.Goals as goal
 

@@ -1,4 +1,4 @@
-use Rattle.std.proofs.Common.{◌≡◌, List, Option, Err, length, refl, sym, ap, ◌∙◌, subst}
+use Rattle.std.proofs.Common.{List, Option, Err, length, sym, ap, ◌∙◌, subst}
 use Rattle.std.specs.Prelude.{All}
 use Rattle.bv_core.specs.declared.reference.NodeId.{NodeId}
 use Rattle.symtab.specs.declared.parts.TableParts.{TableParts}

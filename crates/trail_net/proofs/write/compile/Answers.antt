@@ -1,8 +1,6 @@
 use Rattle.std.proofs.Common.{sym, subst, length}
 use Rattle.std.proofs.lemmas.Result.{IfOk-weaker}
 use Rattle.design_core.specs.DesignView.{design_of}
-use Rattle.net_core.specs.Nets.{NetParts}
-use Rattle.symtab.specs.declared.parts.TableParts.{TableParts}
 use Rattle.world_core.specs.declared.mode.Mode.{Mode}
 use Rattle.check_exec.specs.Premises.{IsSound}
 use Rattle.lower_core.specs.Lowered.{IsLowered}

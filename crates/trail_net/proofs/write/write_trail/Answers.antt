@@ -1,9 +1,8 @@
-use Rattle.std.proofs.Common.{◌≡◌, ◌≤◌, List, length, refl, ap, subst, arith}
+use Rattle.std.proofs.Common.{◌≡◌, ◌≤◌, length, refl, ap, subst, arith}
 use Rattle.std.proofs.lemmas.Result.{err_from_is_err_and, on_ok_weaker, on_err_weaker}
 use Rattle.io_edge.specs.Taken.{Appends, AppendsFront}
 use Rattle.design_core.specs.DesignView.{design_of}
-use Rattle.net_core.specs.Nets.{NetParts}
-use Rattle.stim_text.specs.Stimulus.{Stimulus, IsStimulus}
+use Rattle.stim_text.specs.Stimulus.{IsStimulus}
 use Rattle.sim_hist.specs.Run.{Traced, run_samples}
 use Rattle.check_exec.specs.Premises.{IsSound}
 use Rattle.world_core.specs.World.{trail_text}
