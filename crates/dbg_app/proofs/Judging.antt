@@ -8,7 +8,6 @@ use Rattle.stim_text.specs.Rows.{Gives}
 use Rattle.stim_text.specs.Stimulus.{Stimulus}
 use Rattle.stim_text.specs.declared.StimFault.{StimFault}
 use Rattle.stim_text.specs.declared.StimFault.TheVariants.{HeaderMismatch, BadRow, DoesNotFit, TooLong, NoMemory}
-use Rattle.world_core.specs.declared.mode.Mode.{Mode}
 use Rattle.trim_laws.specs.Runs.{HasInputs}
 use Rattle.dbg_app.specs.Command.{Row}
 use Rattle.dbg_app.specs.Answers.{Contents, ArePortsOf, RefusesStimulus, stimulus_fault}
