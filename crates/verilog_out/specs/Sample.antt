@@ -1,8 +1,10 @@
 -- Small nets and their texts.
-use Rattle.std.specs.Prelude.{◌≡◌, refl, [], ◌∷◌, ◌++◌, codes}
+use Rattle.std.specs.Prelude.{◌≡◌, true, refl, [], ◌∷◌, ◌++◌, codes}
 use Rattle.bv_core.specs.declared.operators.Op1.TheVariants.{Not, All, Any, Parity, Slice, Zext}
 use Rattle.bv_core.specs.declared.operators.Op2.TheVariants.{Add, Sub, Mul, And, Or, Xor, Eq, Ne, Lt, Le, Shl, Shr, Cat}
+use Rattle.gen_token.specs.Spelling.{is_name}
 use Rattle.design_core.specs.declared.ports.Ports.{Ports}
+use Rattle.design_core.specs.Ports.{have_names}
 use Rattle.net_core.specs.Nodes.{Fixed, TopInput, Register, OfOne, OfTwo, OfMux}
 use Rattle.net_core.specs.Nets.{NetParts}
 use Rattle.verilog_out.specs.Printed.{printed}
@@ -22,8 +24,12 @@ sample = record {
   nexts = (1, 4) ∷ [];
 }
 
+pub sample_names : have_names (codes "A") ((codes "en", 1) ∷ (codes "d", 8) ∷ []) ((codes "q", 8) ∷ []) ≡ true
+unfolding is_name
+sample_names = refl
+
 abbrev pub sample_ports : Ports
-sample_ports = record { «module» = codes "A"; inputs = (codes "en", 1) ∷ (codes "d", 8) ∷ []; outputs = (codes "q", 8) ∷ []; registers = 1; widths = refl }
+sample_ports = record { «module» = codes "A"; inputs = (codes "en", 1) ∷ (codes "d", 8) ∷ []; outputs = (codes "q", 8) ∷ []; registers = 1; widths = refl; names = sample_names }
 
 abbrev pub sample_is_printed : Type 0
 sample_is_printed =
@@ -78,8 +84,12 @@ operators = record {
   nexts = [];
 }
 
+pub operators_names : have_names (codes "Every") ((codes "a", 8) ∷ (codes "b", 8) ∷ []) ((codes "p", 8) ∷ (codes "q", 16) ∷ []) ≡ true
+unfolding is_name
+operators_names = refl
+
 abbrev pub operators_ports : Ports
-operators_ports = record { «module» = codes "Every"; inputs = (codes "a", 8) ∷ (codes "b", 8) ∷ []; outputs = (codes "p", 8) ∷ (codes "q", 16) ∷ []; registers = 0; widths = refl }
+operators_ports = record { «module» = codes "Every"; inputs = (codes "a", 8) ∷ (codes "b", 8) ∷ []; outputs = (codes "p", 8) ∷ (codes "q", 16) ∷ []; registers = 0; widths = refl; names = operators_names }
 
 abbrev pub operators_are_printed : Type 0
 operators_are_printed =
@@ -144,8 +154,12 @@ operators_are_printed =
 abbrev pub words : NetParts
 words = record { nodes = TopInput (codes "always") 1 ∷ []; outputs = (codes "begin", 0) ∷ []; nexts = [] }
 
+pub words_names : have_names (codes "endmodule") ((codes "always", 1) ∷ []) ((codes "begin", 1) ∷ []) ≡ true
+unfolding is_name
+words_names = refl
+
 abbrev pub words_ports : Ports
-words_ports = record { «module» = codes "endmodule"; inputs = (codes "always", 1) ∷ []; outputs = (codes "begin", 1) ∷ []; registers = 0; widths = refl }
+words_ports = record { «module» = codes "endmodule"; inputs = (codes "always", 1) ∷ []; outputs = (codes "begin", 1) ∷ []; registers = 0; widths = refl; names = words_names }
 
 abbrev pub words_are_printed : Type 0
 words_are_printed =
@@ -161,8 +175,12 @@ words_are_printed =
 abbrev pub alone : NetParts
 alone = record { nodes = Register (codes "E") (codes "r") (record { width = 10; value = 100 }) ∷ []; outputs = []; nexts = (0, 0) ∷ [] }
 
+pub alone_names : have_names (codes "E") ([]) ([]) ≡ true
+unfolding is_name
+alone_names = refl
+
 abbrev pub alone_ports : Ports
-alone_ports = record { «module» = codes "E"; inputs = []; outputs = []; registers = 1; widths = refl }
+alone_ports = record { «module» = codes "E"; inputs = []; outputs = []; registers = 1; widths = refl; names = alone_names }
 
 abbrev pub alone_is_printed : Type 0
 alone_is_printed =
