@@ -2,7 +2,8 @@
 
 ghost use Rattle.std.specs.Prelude.{◌≡◌, [], ◌∷◌, IfOk, IsTrue, codes};
 ghost use Rattle.std.specs.List.{list_all};
-ghost use Rattle.design_core.specs.Ports.{has_width};
+ghost use Rattle.gen_token.specs.Spelling.{is_name};
+ghost use Rattle.design_core.specs.Ports.{has_name, has_width};
 ghost use Rattle.verilog_out.specs.Printed.{FitsPorts};
 
 use bv_core::{Bv, Op2, fits_mux, fits2};
@@ -51,8 +52,10 @@ pub(crate) fn counter(alloc: Global) -> Result<Net, Fail>
 }
 
 /// Its inputs.
+#[tactic(auto, unfolding(gen_token::specs::Spelling::is_name))]
 fn inputs(alloc: Global) -> Result<Listed<(Text, u8)>, Fail>
-    ensures { IfOk result (λ found. found ≡ (codes "en", 1) ∷ (codes "d", 8) ∷ []) }
+    ensures ports { IfOk result (λ found. found ≡ (codes "en", 1) ∷ (codes "d", 8) ∷ []) }
+    ensures names { IfOk result (λ found. IsTrue (list_all has_name found)) }
 {
     let mut inputs = Vec::new(alloc);
     inputs.push((Text::new(alloc, b"en")?, 1))?;
@@ -61,12 +64,22 @@ fn inputs(alloc: Global) -> Result<Listed<(Text, u8)>, Fail>
 }
 
 /// Its outputs.
+#[tactic(auto, unfolding(gen_token::specs::Spelling::is_name))]
 fn outputs(alloc: Global) -> Result<Listed<(Text, u8)>, Fail>
-    ensures { IfOk result (λ found. found ≡ (codes "q", 8) ∷ []) }
+    ensures ports { IfOk result (λ found. found ≡ (codes "q", 8) ∷ []) }
+    ensures names { IfOk result (λ found. IsTrue (list_all has_name found)) }
 {
     let mut outputs = Vec::new(alloc);
     outputs.push((Text::new(alloc, b"q")?, 8))?;
     Ok(Listed::new(outputs))
+}
+
+/// The name of its module.
+#[tactic(auto, unfolding(gen_token::specs::Spelling::is_name))]
+fn module_name(alloc: Global) -> Result<Text, Fail>
+    ensures { IfOk result (λ name. IsTrue (is_name name)) }
+{
+    Ok(Text::new(alloc, b"A")?)
 }
 
 /// The ports of the counter.
@@ -75,7 +88,7 @@ pub(crate) fn counter_ports(alloc: Global) -> Result<Ports, Fail>
     ensures outputs { IfOk result (λ ports. ports.outputs ≡ (codes "q", 8) ∷ []) }
 {
     Ok(Ports {
-        module: Text::new(alloc, b"A")?,
+        module: module_name(alloc)?,
         inputs: inputs(alloc)?,
         outputs: outputs(alloc)?,
         registers: 1,
