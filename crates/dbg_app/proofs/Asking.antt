@@ -22,16 +22,19 @@ use Rattle.world_core.specs.World.{trail_text}
 use Rattle.world_core.specs.Source.{source_world}
 use Rattle.world_core.specs.declared.mode.Mode.{Mode}
 use Rattle.trim_laws.specs.Runs.{RunsOver}
+use Rattle.verilog_out.specs.Printed.{printed}
+use Rattle.verilog_net.specs.KeptNet.{kept_net}
+use Rattle.verilog_net.proofs.Alike.{one_text}
 use Rattle.trim_laws.proofs.Orders.{one_length}
-use Rattle.dbg_app.specs.Command.{Top, Row}
+use Rattle.dbg_app.specs.Command.{Top, Task, TrailOver, Verilog, Row}
 use Rattle.dbg_app.specs.declared.design_fault.DesignFault.{DesignFault}
 use Rattle.dbg_app.specs.declared.design_fault.DesignFault.TheVariants.{Text, Elaboration, Check, CombLoop}
 use Rattle.dbg_app.specs.declared.accepted.Accepted.{Accepted}
 use Rattle.dbg_app.specs.declared.judge.Judged.{Judged}
 use Rattle.dbg_app.specs.declared.judge.Judged.TheVariants as judged
 use Rattle.dbg_app.specs.Refusals.{refusal_after, refusal_of}
-use Rattle.dbg_app.specs.Answers.{Answer, Contents, Asks, NoDesign, NoStimulus, Trail, IsChecked, IsAccepted, HasLoop, IsRefused, IsDesignCause, ArePortsOf, RefusesDesign, RefusesStimulus, ShowsTrail, design_fault, stimulus_fault}
-use Rattle.dbg_app.specs.Judged.{JudgesRow, HoldsBoth, TakesText, judged_status}
+use Rattle.dbg_app.specs.Answers.{Answer, Contents, Asks, NoDesign, NoStimulus, Trail, Compiled, IsChecked, IsAccepted, HasLoop, IsRefused, IsDesignCause, ArePortsOf, RefusesDesign, RefusesStimulus, ShowsTrail, ShowsVerilog, design_fault, stimulus_fault}
+use Rattle.dbg_app.specs.Judged.{JudgesRow, HoldsBoth, HoldsDesign, TakesText, judged_status}
 use Rattle.dbg_app.specs.Outcome.{TakesAnswer}
 
 some_one : {A : Type 0} (o : Option A) (x y : A) → o ≡ Some x → o ≡ Some y → x ≡ y
@@ -134,8 +137,10 @@ record Said (files : Contents) (row : Row) (d : Design) (said : Result (List (Li
   source : List ℕ
   found : files row.source ≡ Some source
   accepted : IsAccepted row.top source d
+  name : List ℕ
+  task : row.task ≡ TrailOver name
   stimulus : List ℕ
-  also_found : files row.stimulus ≡ Some stimulus
+  also_found : files name ≡ Some stimulus
   ports : Ports
   are : ArePortsOf d ports
   is : rows_of ports stimulus ≡ said
@@ -148,18 +153,24 @@ same_design files row d e x y a b =
 one_saying : (files : Contents) (row : Row) (d e : Design) (x y : Result (List (List Bits)) StimFault) → Said files row d x → Said files row e y → x ≡ y
 one_saying files row d e x y a b =
     let same : d ≡ e = same_design files row d e x y a b in
-    let text : a.stimulus ≡ b.stimulus = some_one (files row.stimulus) a.stimulus b.stimulus a.also_found b.also_found in
+    let task : TrailOver a.name ≡ TrailOver b.name = sym a.task ∙ b.task in
+    let name : a.name ≡ b.name = cc in
+    let text : a.stimulus ≡ b.stimulus = some_one (files b.name) a.stimulus b.stimulus (subst (λ (x : List ℕ). files x ≡ Some a.stimulus) name a.also_found) b.also_found in
     let ports : ArePortsOf e a.ports = subst (λ (t : Design). ArePortsOf t a.ports) same a.are in
     sym a.is ∙ ap (rows_of a.ports) text ∙ same_rows e a.ports b.ports b.stimulus ports b.are ∙ b.is
 
 abbrev refusal_said : (files : Contents) (row : Row) (a : Answer) → (r : RefusesStimulus files row a) → Said files row r.design (Err r.fault)
-refusal_said files row a r = record { source = r.source; found = r.found; accepted = r.accepted; stimulus = r.stimulus; also_found = r.also_found; ports = r.ports; are = r.are; is = r.refused }
+refusal_said files row a r = record { source = r.source; found = r.found; accepted = r.accepted; name = r.name; task = r.task; stimulus = r.stimulus; also_found = r.also_found; ports = r.ports; are = r.are; is = r.refused }
 
 abbrev rows_said : (files : Contents) (row : Row) (a : Answer) → (s : ShowsTrail files row a) → Said files row s.design (Ok s.rows)
-rows_said files row a s = record { source = s.source; found = s.found; accepted = s.accepted; stimulus = s.stimulus; also_found = s.also_found; ports = s.ports; are = s.are; is = s.read }
+rows_said files row a s = record { source = s.source; found = s.found; accepted = s.accepted; name = s.name; task = s.task; stimulus = s.stimulus; also_found = s.also_found; ports = s.ports; are = s.are; is = s.read }
 
 abbrev both_said : (files : Contents) (row : Row) (a : Accepted) (mode : Mode) (stim : _) → (h : HoldsBoth files row a mode stim) → Said files row (design_of a.design) (Ok stim.rows)
-both_said files row a mode stim h = record { source = h.source; found = h.found; accepted = h.accepted; stimulus = h.stimulus; also_found = h.also_found; ports = h.ports; are = h.are; is = h.read }
+both_said files row a mode stim h = record { source = h.source; found = h.found; accepted = h.accepted; name = h.name; task = h.task; stimulus = h.stimulus; also_found = h.also_found; ports = h.ports; are = h.are; is = h.read }
+
+-- a trail is no module
+other_task : (row : Row) (name : List ℕ) → row.task ≡ TrailOver name → row.task ≡ Verilog → ⊥
+other_task row name p q = let no : TrailOver name ≡ Verilog = sym p ∙ q in cc
 
 ok_err : (rows : List (List Bits)) (fault : StimFault) → ◌≡◌ {A = Result (List (List Bits)) StimFault} (Ok rows) (Err fault) → ⊥
 ok_err rows fault e = cc
@@ -197,7 +208,7 @@ stimulus_taken files row given asked r s =
     r.is ∙ (ap (λ (f : StimFault). record { status = 4; text = stimulus_fault f }) same ∙ sym s.is)
 
 -- a run that is asked for is one of what was judged
-trail_taken : (files : Contents) (row : Row) (a : Accepted) (mode : Mode) (stim : _) (asked : Answer) (old new : Option (List ℕ)) → HoldsBoth files row a mode stim → (s : ShowsTrail files row asked) → TakesText (judged.Accepted a mode stim) old new → Appends old new asked.text
+trail_taken : (files : Contents) (row : Row) (a : Accepted) (mode : Mode) (stim : _) (asked : Answer) (old new : Option (List ℕ)) → HoldsBoth files row a mode stim → (s : ShowsTrail files row asked) → TakesText (judged.Trail a mode stim) old new → Appends old new asked.text
 trail_taken files row a mode stim asked old new h s t =
     let design : s.design ≡ design_of a.design = same_design files row _ _ _ _ (rows_said files row asked s) (both_said files row a mode stim h) in
     let both : ◌≡◌ {A = Result (List (List Bits)) StimFault} (Ok s.rows) (Ok stim.rows) = one_saying files row _ _ _ _ (rows_said files row asked s) (both_said files row a mode stim h) in
@@ -212,6 +223,21 @@ trail_taken files row a mode stim asked old new h s t =
     ∙ ap₂ (λ (n : ℕ) (m : Mode). trail_text (source_world (design_of a.design) n m s.run)) long (sym h.mode_is) in
     subst (λ (l : List ℕ). Appends old new l) (sym text) (t.taken (trail_text (source_world (design_of a.design) (length a.order) mode s.run)) (s.run, runs, refl))
 
+-- a module that is asked for is that of what was judged
+verilog_taken : (files : Contents) (row : Row) (a : Accepted) (mode : Mode) (ports : Ports) (asked : Answer) (old new : Option (List ℕ)) → HoldsDesign files row a mode ports → (s : ShowsVerilog files row asked) → TakesText (judged.Verilog a mode ports) old new → Appends old new asked.text
+verilog_taken files row a mode ports asked old new h s t =
+    let source : s.source ≡ h.source = some_one (files row.source) s.source h.source s.found h.found in
+    let design : s.design ≡ design_of a.design = one_checked row.top h.source s.design (design_of a.design) (subst (λ (x : List ℕ). IsAccepted row.top x s.design) source s.accepted).checked h.accepted.checked in
+    let order : TellsOrder (design_of a.design) s.accepted.pairs = subst (λ (d : Design). TellsOrder d s.accepted.pairs) design s.accepted.order in
+    let long : length s.accepted.pairs ≡ length a.order = one_length (design_of a.design) s.accepted.pairs a.order order h.ordered.order in
+    let are : ArePortsOf (design_of a.design) s.ports = subst (λ (d : Design). ArePortsOf d s.ports) design s.are in
+    let text : asked.text ≡ printed (kept_net (design_of a.design) (length a.order) mode) ports =
+    text_of asked _ s.is
+    ∙ ap (λ (d : Design). printed (kept_net d (length s.accepted.pairs) row.mode) s.ports) design
+    ∙ ap₂ (λ (n : ℕ) (m : Mode). printed (kept_net (design_of a.design) n m) s.ports) long (sym h.mode_is)
+    ∙ one_text (kept_net (design_of a.design) (length a.order) mode) s.ports ports (are.module ∙ sym h.are.module) (are.inputs ∙ sym h.are.inputs) (are.outputs ∙ sym h.are.outputs) in
+    subst (λ (l : List ℕ). Appends old new l) (sym text) (t.taken (printed (kept_net (design_of a.design) (length a.order) mode) ports) refl)
+
 -- the text that goes with what was judged is that of every answer that is asked for
 pub answer_taken : (files : Contents) (row : Row) (found : Judged) (old new : Option (List ℕ)) → JudgesRow files row found → TakesText found old new → (asked : Answer) → Asks files row asked → (judged_status found ≡ asked.status) × TakesAnswer files row asked old new
 answer_taken files row judged.NoCommand old new j t asked asks = absurd j
@@ -219,13 +245,20 @@ answer_taken files row (judged.NoDesign fault) old new j t asked (NoDesign s) =
     (sym (status_of asked _ s.is), refusal_taken files row (record { status = 3; text = design_fault fault }) asked old new j s (t.taken (design_fault fault) refl))
 answer_taken files row (judged.NoDesign fault) old new j t asked (NoStimulus s) = absurd (no_source files row _ j s.source s.found s.design s.accepted)
 answer_taken files row (judged.NoDesign fault) old new j t asked (Trail s) = absurd (no_source files row _ j s.source s.found s.design s.accepted)
+answer_taken files row (judged.NoDesign fault) old new j t asked (Compiled s) = absurd (no_source files row _ j s.source s.found s.design s.accepted)
+answer_taken files row (judged.NoStimulus fault) old new j t asked (Compiled s) = absurd (other_task row j.name j.task s.task)
 answer_taken files row (judged.NoStimulus fault) old new j t asked (NoDesign s) = absurd (no_source files row _ s j.source j.found j.design j.accepted)
 answer_taken files row (judged.NoStimulus fault) old new j t asked (NoStimulus s) =
     let same : record { status = 4; text = stimulus_fault fault } ≡ asked = stimulus_taken files row (record { status = 4; text = stimulus_fault fault }) asked j s in
     (status_of _ asked same, inl (subst (λ (l : List ℕ). Appends old new l) (text_of _ asked same) (t.taken (stimulus_fault fault) refl)))
 answer_taken files row (judged.NoStimulus fault) old new j t asked (Trail s) =
     absurd (ok_err s.rows j.fault (one_saying files row _ _ _ _ (rows_said files row asked s) (refusal_said files row _ j)))
-answer_taken files row (judged.Accepted a mode stim) old new j t asked (NoDesign s) = absurd (no_source files row _ s j.source j.found (design_of a.design) j.accepted)
-answer_taken files row (judged.Accepted a mode stim) old new j t asked (NoStimulus s) =
+answer_taken files row (judged.Trail a mode stim) old new j t asked (NoDesign s) = absurd (no_source files row _ s j.source j.found (design_of a.design) j.accepted)
+answer_taken files row (judged.Trail a mode stim) old new j t asked (NoStimulus s) =
     absurd (ok_err stim.rows s.fault (one_saying files row _ _ _ _ (both_said files row a mode stim j) (refusal_said files row asked s)))
-answer_taken files row (judged.Accepted a mode stim) old new j t asked (Trail s) = (sym (status_of asked _ s.is), inl (trail_taken files row a mode stim asked old new j s t))
+answer_taken files row (judged.Trail a mode stim) old new j t asked (Trail s) = (sym (status_of asked _ s.is), inl (trail_taken files row a mode stim asked old new j s t))
+answer_taken files row (judged.Trail a mode stim) old new j t asked (Compiled s) = absurd (other_task row j.name j.task s.task)
+answer_taken files row (judged.Verilog a mode ports) old new j t asked (NoDesign s) = absurd (no_source files row _ s j.source j.found (design_of a.design) j.accepted)
+answer_taken files row (judged.Verilog a mode ports) old new j t asked (NoStimulus s) = absurd (other_task row s.name s.task j.task)
+answer_taken files row (judged.Verilog a mode ports) old new j t asked (Trail s) = absurd (other_task row s.name s.task j.task)
+answer_taken files row (judged.Verilog a mode ports) old new j t asked (Compiled s) = (sym (status_of asked _ s.is), inl (verilog_taken files row a mode ports asked old new j s t))

@@ -9,8 +9,11 @@ use Rattle.world_core.specs.declared.mode.Mode.{Mode}
 use Rattle.world_core.specs.Source.{source_world}
 use Rattle.trim_laws.proofs.Orders.{one_length}
 use Rattle.dbg_app.specs.Command.{Row}
-use Rattle.dbg_app.specs.Answers.{Contents, Asks, NoDesign, NoStimulus, Trail, usage_fault, design_fault, stimulus_fault, IfAsked}
-use Rattle.dbg_app.specs.Judged.{JudgesRow, HasRows, HasTrail, HoldsBoth, TakesText, TakesTextFront, judged_status}
+use Rattle.design_core.specs.declared.Ports.{Ports}
+use Rattle.verilog_out.specs.Printed.{printed}
+use Rattle.verilog_net.specs.KeptNet.{kept_net}
+use Rattle.dbg_app.specs.Answers.{Contents, Asks, NoDesign, NoStimulus, Trail, Compiled, usage_fault, design_fault, stimulus_fault, IfAsked}
+use Rattle.dbg_app.specs.Judged.{JudgesRow, HasRows, HasTrail, HoldsBoth, HoldsDesign, TakesText, TakesTextFront, judged_status}
 use Rattle.dbg_app.specs.Outcome.{is_status, TakesDesignLine, TakesStimulusLine, TakesSome, EndsAsAsked, Completes}
 use Rattle.dbg_app.specs.declared.accepted.Accepted.{Accepted}
 use Rattle.dbg_app.specs.declared.judge.Judged.{Judged}
@@ -77,13 +80,15 @@ pub design_line_taken : (status : ℕ) (judged : Judged) (old new : Option (List
 design_line_taken status NoCommand old new three is h t = absurd (let same : 3 ≡ 2 = sym three ∙ is in cc)
 design_line_taken status (judged.NoDesign fault) old new three is h t = record { fault = fault; refuses = h; taken = t.taken (design_fault fault) refl }
 design_line_taken status (judged.NoStimulus fault) old new three is h t = absurd (let same : 3 ≡ 4 = sym three ∙ is in cc)
-design_line_taken status (judged.Accepted a mode stim) old new three is h t = absurd (let same : 3 ≡ 0 = sym three ∙ is in cc)
+design_line_taken status (judged.Trail a mode stim) old new three is h t = absurd (let same : 3 ≡ 0 = sym three ∙ is in cc)
+design_line_taken status (judged.Verilog a mode ports) old new three is h t = absurd (let same : 3 ≡ 0 = sym three ∙ is in cc)
 
 pub stimulus_line_taken : (status : ℕ) (judged : Judged) (old new : Option (List ℕ)) → status ≡ 4 → status ≡ judged_status judged → HasRows judged → TakesText judged old new → TakesStimulusLine old new
 stimulus_line_taken status NoCommand old new four is h t = absurd (let same : 4 ≡ 2 = sym four ∙ is in cc)
 stimulus_line_taken status (judged.NoDesign fault) old new four is h t = absurd (let same : 4 ≡ 3 = sym four ∙ is in cc)
 stimulus_line_taken status (judged.NoStimulus fault) old new four is h t = record { fault = fault; refuses = h; taken = t.taken (stimulus_fault fault) refl }
-stimulus_line_taken status (judged.Accepted a mode stim) old new four is h t = absurd (let same : 4 ≡ 0 = sym four ∙ is in cc)
+stimulus_line_taken status (judged.Trail a mode stim) old new four is h t = absurd (let same : 4 ≡ 0 = sym four ∙ is in cc)
+stimulus_line_taken status (judged.Verilog a mode ports) old new four is h t = absurd (let same : 4 ≡ 0 = sym four ∙ is in cc)
 
 -- ---- the answer that was judged
 
@@ -91,6 +96,8 @@ stimulus_line_taken status (judged.Accepted a mode stim) old new four is h t = a
 trail_asked : (files : Contents) (row : Row) (a : Accepted) (mode : Mode) (stim : _) → HoldsBoth files row a mode stim → (h : HasTrail a stim) → Asks files row (record { status = 0; text = trail_text (source_world (design_of a.design) (length a.order) mode h.run) })
 trail_asked files row a mode stim j h =
     Trail (record {
+      name = j.name;
+      task = j.task;
       source = j.source;
       found = j.found;
       design = design_of a.design;
@@ -106,6 +113,20 @@ trail_asked files row a mode stim j h =
       is = ap₂ (λ (n : ℕ) (m : Mode). record { status = 0; text = trail_text (source_world (design_of a.design) n m h.run) }) (one_length (design_of a.design) a.order j.accepted.pairs j.ordered.order j.accepted.order) j.mode_is;
     })
 
+-- a design that the files hold asks for its module
+verilog_asked : (files : Contents) (row : Row) (a : Accepted) (mode : Mode) (ports : Ports) → HoldsDesign files row a mode ports → Asks files row (record { status = 0; text = printed (kept_net (design_of a.design) (length a.order) mode) ports })
+verilog_asked files row a mode ports j =
+    Compiled (record {
+      task = j.task;
+      source = j.source;
+      found = j.found;
+      design = design_of a.design;
+      accepted = j.accepted;
+      ports = ports;
+      are = j.are;
+      is = ap₂ (λ (n : ℕ) (m : Mode). record { status = 0; text = printed (kept_net (design_of a.design) n m) ports }) (one_length (design_of a.design) a.order j.accepted.pairs j.ordered.order j.accepted.order) j.mode_is;
+    })
+
 -- ---- a front of the text
 
 pub front_taken : (told : Option Contents) (row : Option Row) (judged : Judged) (old new : Option (List ℕ)) → IfAsked told row (λ files row. JudgesRow files row judged) → HasRows judged → TakesTextFront judged old new → IfAsked told row (λ files row. TakesSome files row old new)
@@ -114,12 +135,19 @@ front_taken (Some files) None judged old new j h t = tt
 front_taken (Some files) (Some row) NoCommand old new j h t = absurd j
 front_taken (Some files) (Some row) (judged.NoDesign fault) old new j h t = inr (record { status = 3; text = design_fault fault; asked = NoDesign j; taken = t.taken (design_fault fault) refl })
 front_taken (Some files) (Some row) (judged.NoStimulus fault) old new j h t = inr (record { status = 4; text = stimulus_fault fault; asked = NoStimulus j; taken = t.taken (stimulus_fault fault) refl })
-front_taken (Some files) (Some row) (judged.Accepted a mode stim) old new j h t =
+front_taken (Some files) (Some row) (judged.Trail a mode stim) old new j h t =
     inr (record {
       status = 0;
       text = trail_text (source_world (design_of a.design) (length a.order) mode h.run);
       asked = trail_asked files row a mode stim j h;
       taken = t.taken (trail_text (source_world (design_of a.design) (length a.order) mode h.run)) (h.run, h.runs, refl);
+    })
+front_taken (Some files) (Some row) (judged.Verilog a mode ports) old new j h t =
+    inr (record {
+      status = 0;
+      text = printed (kept_net (design_of a.design) (length a.order) mode) ports;
+      asked = verilog_asked files row a mode ports j;
+      taken = t.taken (printed (kept_net (design_of a.design) (length a.order) mode) ports) refl;
     })
 
 -- ---- the whole text
@@ -133,10 +161,15 @@ done_taken (Some files) (Some row) (judged.NoDesign fault) status old new j h e 
     record { text = design_fault fault; asked = subst (λ (s : ℕ). Asks files row (record { status = s; text = design_fault fault })) (sym e) (NoDesign j); taken = t.taken (design_fault fault) refl }
 done_taken (Some files) (Some row) (judged.NoStimulus fault) status old new j h e t =
     record { text = stimulus_fault fault; asked = subst (λ (s : ℕ). Asks files row (record { status = s; text = stimulus_fault fault })) (sym e) (NoStimulus j); taken = t.taken (stimulus_fault fault) refl }
-done_taken (Some files) (Some row) (judged.Accepted a mode stim) status old new j h e t = record {
+done_taken (Some files) (Some row) (judged.Trail a mode stim) status old new j h e t = record {
   text = trail_text (source_world (design_of a.design) (length a.order) mode h.run);
   asked = subst (λ (s : ℕ). Asks files row (record { status = s; text = trail_text (source_world (design_of a.design) (length a.order) mode h.run) })) (sym e) (trail_asked files row a mode stim j h);
   taken = t.taken (trail_text (source_world (design_of a.design) (length a.order) mode h.run)) (h.run, h.runs, refl);
+}
+done_taken (Some files) (Some row) (judged.Verilog a mode ports) status old new j h e t = record {
+  text = printed (kept_net (design_of a.design) (length a.order) mode) ports;
+  asked = subst (λ (s : ℕ). Asks files row (record { status = s; text = printed (kept_net (design_of a.design) (length a.order) mode) ports })) (sym e) (verilog_asked files row a mode ports j);
+  taken = t.taken (printed (kept_net (design_of a.design) (length a.order) mode) ports) refl;
 }
 
 -- ---- completeness

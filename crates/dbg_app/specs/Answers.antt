@@ -25,7 +25,9 @@ use Rattle.dbg_app.specs.declared.design_fault.DesignFault.{DesignFault}
 use Rattle.dbg_app.specs.declared.design_fault.DesignFault.TheVariants.{Text, Elaboration, Check, CombLoop}
 use Rattle.dbg_app.specs.Loops.{signal_paths, loop_fault}
 use Rattle.dbg_app.specs.Refusals.{elab_fault, check_fault, refusal_of}
-use Rattle.dbg_app.specs.Command.{Top, Row}
+use Rattle.verilog_out.specs.Printed.{printed}
+use Rattle.verilog_net.specs.KeptNet.{kept_net}
+use Rattle.dbg_app.specs.Command.{Top, TrailOver, Verilog, Row}
 
 -- a status, and the text that goes with it
 pub record Answer : Type 0 where
@@ -117,12 +119,14 @@ pub record RefusesDesign (files : Contents) (row : Row) (answer : Answer) : Type
 
 -- the source is accepted, and the stimulus is refused for the ports of its design
 pub record RefusesStimulus (files : Contents) (row : Row) (answer : Answer) : Type 0 where
+  pub name : List ℕ
+  pub task : row.task ≡ TrailOver name
   pub source : List ℕ
   pub found : files row.source ≡ Some source
   pub design : Design
   pub accepted : IsAccepted row.top source design
   pub stimulus : List ℕ
-  pub also_found : files row.stimulus ≡ Some stimulus
+  pub also_found : files name ≡ Some stimulus
   pub ports : Ports
   pub are : ArePortsOf design ports
   pub fault : StimFault
@@ -131,12 +135,14 @@ pub record RefusesStimulus (files : Contents) (row : Row) (answer : Answer) : Ty
 
 -- both are accepted: the text is the trail of a run of the design over the rows
 pub record ShowsTrail (files : Contents) (row : Row) (answer : Answer) : Type 0 where
+  pub name : List ℕ
+  pub task : row.task ≡ TrailOver name
   pub source : List ℕ
   pub found : files row.source ≡ Some source
   pub design : Design
   pub accepted : IsAccepted row.top source design
   pub stimulus : List ℕ
-  pub also_found : files row.stimulus ≡ Some stimulus
+  pub also_found : files name ≡ Some stimulus
   pub ports : Ports
   pub are : ArePortsOf design ports
   pub rows : List (List Bits)
@@ -145,11 +151,23 @@ pub record ShowsTrail (files : Contents) (row : Row) (answer : Answer) : Type 0 
   pub runs : RunsOver design rows run
   pub is : answer ≡ record { status = 0; text = trail_text (source_world design (length accepted.pairs) row.mode run) }
 
+-- the source is accepted: the text is the Verilog of its design, the net of the trees that the mode keeps, with the ports of the top
+pub record ShowsVerilog (files : Contents) (row : Row) (answer : Answer) : Type 0 where
+  pub task : row.task ≡ Verilog
+  pub source : List ℕ
+  pub found : files row.source ≡ Some source
+  pub design : Design
+  pub accepted : IsAccepted row.top source design
+  pub ports : Ports
+  pub are : ArePortsOf design ports
+  pub is : answer ≡ record { status = 0; text = printed (kept_net design (length accepted.pairs) row.mode) ports }
+
 -- what a command asks for, where these are the files: the source is judged first, then the stimulus
 pub data Asks (files : Contents) (row : Row) (answer : Answer) : Type 0 where
   NoDesign : RefusesDesign files row answer → Asks files row answer
   NoStimulus : RefusesStimulus files row answer → Asks files row answer
   Trail : ShowsTrail files row answer → Asks files row answer
+  Compiled : ShowsVerilog files row answer → Asks files row answer
 
 -- the source is refused for a loop of this design, with its line
 pub record RefusesLoop (files : Contents) (row : Row) (d : Design) (answer : Answer) : Type 0 where

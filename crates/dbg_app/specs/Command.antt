@@ -1,5 +1,5 @@
 -- The words of the program.
-use Rattle.std.specs.Prelude.{ℕ, ◌+◌, ◌==◌, ℤ, pos, ◌-ℤ◌, Bool, false, not, List, [], ◌∷◌, length, take, drop, Option, Some, None, option_map, option_and_then, is_some, codes, if◌then◌else◌, ◌&&◌, nat_le, nat_lt}
+use Rattle.std.specs.Prelude.{ℕ, ◌+◌, ◌==◌, ℤ, pos, ◌-ℤ◌, Bool, true, false, not, List, [], ◌∷◌, length, take, drop, Option, Some, None, option_map, option_and_then, is_some, codes, if◌then◌else◌, ◌&&◌, nat_le, nat_lt}
 use Rattle.std.specs.List.{list_all, prefix_len, filter_map}
 use Rattle.std.specs.Str.{bytes_eq}
 use Rattle.text_core.specs.Digits.{is_digit_of, number_of}
@@ -54,26 +54,50 @@ pub record Top : Type 0 where
 abbrev pub mode_of : List ℕ → Option Mode
 mode_of word = if bytes_eq word (codes "opt") then Some Opt else if bytes_eq word (codes "keep") then Some Keep else None
 
--- a command `trail MODE SRC STIM TOP [NAME=N]..`
+-- what is asked of a design: its trail over the stimulus of this file, or its Verilog
+pub data Task : Type 0 where
+  TrailOver : (stimulus : List ℕ) → Task
+  Verilog : Task
+
+-- a command `trail MODE SRC STIM TOP [NAME=N]..` or `compile MODE SRC TOP [NAME=N]..`
 pub record Row : Type 0 where
   pub mode : Mode
   pub source : List ℕ
-  pub stimulus : List ℕ
   pub top : Top
+  pub task : Task
 
--- the files are any words that are not empty, TOP is a name of the language, and the rest are at most 64 arguments
-abbrev pub trail_row : List ℕ → List ℕ → List ℕ → List (List ℕ) → Mode → Option Row
-trail_row source stimulus top rest mode =
-    if not (bytes_eq source []) && not (bytes_eq stimulus []) && is_name top && nat_le (length rest) 64 && list_all is_argument rest then
-    Some (record { mode = mode; source = source; stimulus = stimulus; top = record { name = top; given = filter_map argument_of rest } }) else None
+-- the files are any words that are not empty
+abbrev pub has_files : Task → Bool
+has_files (TrailOver stimulus) = not (bytes_eq stimulus [])
+has_files Verilog = true
+
+-- TOP is a name of the language, and the rest are at most 64 arguments
+abbrev pub row_with : Task → List ℕ → List ℕ → List (List ℕ) → Mode → Option Row
+row_with task source top rest mode =
+    if not (bytes_eq source []) && has_files task && is_name top && nat_le (length rest) 64 && list_all is_argument rest then
+    Some (record { mode = mode; source = source; top = record { name = top; given = filter_map argument_of rest }; task = task }) else None
+
+-- the words of a trail, and those of a module
+abbrev pub trail_of : List (List ℕ) → Option Row
+trail_of (command ∷ mode ∷ source ∷ stimulus ∷ top ∷ rest) = option_and_then (row_with (TrailOver stimulus) source top rest) (mode_of mode)
+trail_of words = None
+
+abbrev pub compile_of : List (List ℕ) → Option Row
+compile_of (command ∷ mode ∷ source ∷ top ∷ rest) = option_and_then (row_with Verilog source top rest) (mode_of mode)
+compile_of words = None
 
 -- the command that the words are, if they are one
 abbrev pub row_of : List (List ℕ) → Option Row
-row_of (command ∷ mode ∷ source ∷ stimulus ∷ top ∷ rest) =
-    if bytes_eq command (codes "trail") then option_and_then (trail_row source stimulus top rest) (mode_of mode) else None
-row_of words = None
+row_of [] = None
+row_of (command ∷ words) =
+    if bytes_eq command (codes "trail") then trail_of (command ∷ words) else
+    if bytes_eq command (codes "compile") then compile_of (command ∷ words) else None
 
 -- the names of the files, in the order of the words
+abbrev pub files_of : Task → List (List ℕ)
+files_of (TrailOver stimulus) = stimulus ∷ []
+files_of Verilog = []
+
 abbrev pub names_of : Option Row → List (List ℕ)
 names_of None = []
-names_of (Some row) = row.source ∷ row.stimulus ∷ []
+names_of (Some row) = row.source ∷ files_of row.task

@@ -20,7 +20,9 @@ use Rattle.world_core.specs.World.{trail_text}
 use Rattle.world_core.specs.Source.{source_world}
 use Rattle.world_core.specs.declared.mode.Mode.{Mode}
 use Rattle.trim_laws.specs.Runs.{HasInputs, RunsOver}
-use Rattle.dbg_app.specs.Command.{Top, Row}
+use Rattle.verilog_out.specs.Printed.{printed}
+use Rattle.verilog_net.specs.KeptNet.{kept_net}
+use Rattle.dbg_app.specs.Command.{Top, TrailOver, Verilog, Row}
 use Rattle.dbg_app.specs.Loops.{signal_paths}
 use Rattle.dbg_app.specs.Refusals.{is_no_memory}
 use Rattle.dbg_app.specs.declared.design_fault.DesignFault.{DesignFault}
@@ -100,22 +102,40 @@ pub record HasTrail (a : Accepted) (stim : Stimulus) : Type 0 where
   pub run : List (Place → Bits)
   pub runs : RunsOver (design_of a.design) stim.rows run
 
--- what was accepted has a run, and what was refused has a line
+-- a design with an order, and the ports of its top
+pub record HasModule (a : Accepted) (ports : Ports) : Type 0 where
+  pub ordered : IsOrdered a
+  pub are : ArePortsOf (design_of a.design) ports
+
+-- what was accepted has a run or a module, and what was refused has a line
 abbrev pub HasRows : Judged → Type 0
 HasRows judged.NoCommand = Unit {0}
 HasRows (judged.NoDesign fault) = is_no_memory fault ≡ false
 HasRows (judged.NoStimulus fault) = fault ≢ NoMemory
-HasRows (judged.Accepted a mode stim) = HasTrail a stim
+HasRows (judged.Trail a mode stim) = HasTrail a stim
+HasRows (judged.Verilog a mode ports) = HasModule a ports
+
+-- the command is of this mode, and the files hold this design, with these ports
+pub record HoldsDesign (files : Contents) (row : Row) (a : Accepted) (mode : Mode) (ports : Ports) : Type 0 where
+  pub task : row.task ≡ Verilog
+  pub mode_is : mode ≡ row.mode
+  pub ordered : IsOrdered a
+  pub source : List ℕ
+  pub found : files row.source ≡ Some source
+  pub accepted : IsAccepted row.top source (design_of a.design)
+  pub are : ArePortsOf (design_of a.design) ports
 
 -- the command is of this mode, and the files hold this design, and a stimulus for its ports with these rows
 pub record HoldsBoth (files : Contents) (row : Row) (a : Accepted) (mode : Mode) (stim : Stimulus) : Type 0 where
+  pub name : List ℕ
+  pub task : row.task ≡ TrailOver name
   pub mode_is : mode ≡ row.mode
   pub ordered : IsOrdered a
   pub source : List ℕ
   pub found : files row.source ≡ Some source
   pub accepted : IsAccepted row.top source (design_of a.design)
   pub stimulus : List ℕ
-  pub also_found : files row.stimulus ≡ Some stimulus
+  pub also_found : files name ≡ Some stimulus
   pub ports : Ports
   pub are : ArePortsOf (design_of a.design) ports
   pub read : rows_of ports stimulus ≡ Ok stim.rows
@@ -125,21 +145,24 @@ abbrev pub JudgesRow : Contents → Row → Judged → Type 0
 JudgesRow files row judged.NoCommand = ⊥
 JudgesRow files row (judged.NoDesign fault) = RefusesDesign files row (record { status = 3; text = design_fault fault })
 JudgesRow files row (judged.NoStimulus fault) = RefusesStimulus files row (record { status = 4; text = stimulus_fault fault })
-JudgesRow files row (judged.Accepted a mode stim) = HoldsBoth files row a mode stim
+JudgesRow files row (judged.Trail a mode stim) = HoldsBoth files row a mode stim
+JudgesRow files row (judged.Verilog a mode ports) = HoldsDesign files row a mode ports
 
 -- the status that goes with what was judged
 abbrev pub judged_status : Judged → ℕ
 judged_status judged.NoCommand = 2
 judged_status (judged.NoDesign fault) = 3
 judged_status (judged.NoStimulus fault) = 4
-judged_status (judged.Accepted a mode stim) = 0
+judged_status (judged.Trail a mode stim) = 0
+judged_status (judged.Verilog a mode ports) = 0
 
--- the text that goes with what was judged: a fault line, or the trail of a run over the rows
+-- the text that goes with what was judged: a fault line, the trail of a run over the rows, or the Verilog of a design
 abbrev pub IsTextOf : Judged → List ℕ → Type 0
 IsTextOf judged.NoCommand text = text ≡ usage_fault
 IsTextOf (judged.NoDesign fault) text = text ≡ design_fault fault
 IsTextOf (judged.NoStimulus fault) text = text ≡ stimulus_fault fault
-IsTextOf (judged.Accepted a mode stim) text =
+IsTextOf (judged.Verilog a mode ports) text = text ≡ printed (kept_net (design_of a.design) (length a.order) mode) ports
+IsTextOf (judged.Trail a mode stim) text =
     (run : List (Place → Bits)) × RunsOver (design_of a.design) stim.rows run × (text ≡ trail_text (source_world (design_of a.design) (length a.order) mode run))
 
 -- the text that goes with what was judged was taken, or a front of it

@@ -73,12 +73,12 @@ pub(crate) fn argument_of<'a>(word: &'a str) -> Option<(&'a [u8], i64)>
     Some((name, number))
 }
 
-/// What the words behind the first five give the top.
-pub(crate) fn given_in(alloc: Global, words: &Words) -> Result<Given, NoMemory>
-    ensures { IfOk result (λ given. given ≡ the_given_in words.now) }
+/// What the words from this place on give the top.
+pub(crate) fn given_in(alloc: Global, words: &Words, first: usize) -> Result<Given, NoMemory>
+    ensures { IfOk result (λ given. given ≡ the_given_in first words.now) }
 {
     let mut given = Given::new(alloc);
-    for i in 5..words.count() {
+    for i in first..words.count() {
         if let Some((name, number)) = argument_of(words.word(i)) {
             given.add(name, number)?;
         }

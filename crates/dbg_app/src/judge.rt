@@ -3,15 +3,15 @@
 ghost use Rattle.std.specs.Prelude.{◌≡◌, ◌<◌, ◌≤◌, ◌↔◌, IsTrue, false, option_map, [], ◌∷◌, Some, None, IfOk, IfSome, OnOk, OnErr, IsErrOf};
 ghost use Rattle.io_edge.specs.Faults.{Rose};
 ghost use Rattle.io_edge.specs.Taken.{Appends, AppendsFront};
-ghost use Rattle.dbg_app.specs.Command.{row_of, names_of};
+ghost use Rattle.dbg_app.specs.Command.{row_of, files_of, names_of};
 ghost use Rattle.dbg_app.specs.Answers.{IfAsked};
-ghost use Rattle.dbg_app.specs.Rows.{row_as};
+ghost use Rattle.dbg_app.specs.Rows.{row_as, task_as};
 ghost use Rattle.dbg_app.specs.Judged.{IsFit, Finds, JudgesSource, JudgesText, IsWhole, JudgesStimulus, HasRows, JudgesRow, judged_status};
 ghost use Rattle.dbg_app.specs.Outcome.{is_status};
 
 use crate::accepted::Accepted;
 use crate::arguments::given_in;
-use crate::row::{Row, read_row};
+use crate::row::{Row, Task, read_row};
 use crate::source::judge_text;
 use crate::{DesignFault, Stop};
 use design_core::Ports;
@@ -21,13 +21,16 @@ use std::alloc::Global;
 use stim_text::{Stim, StimFault, read_stim};
 use world_core::Mode;
 
-/// A command, judged: the words are none, the source or the stimulus is refused, or both are accepted.
+/// A command, judged: the words are none, the source or the stimulus is refused, or what it asks of its design can be written.
 #[derive(Drop)]
 pub(crate) enum Judged {
     NoCommand,
     NoDesign(DesignFault),
     NoStimulus(StimFault),
-    Accepted(Accepted, Mode, Stim),
+    /// The trail of this design over the stimulus, in this mode.
+    Trail(Accepted, Mode, Stim),
+    /// The Verilog of this design with these ports, in this mode.
+    Verilog(Accepted, Mode, Ports),
 }
 
 impl Judged {
@@ -41,7 +44,8 @@ impl Judged {
             Judged::NoCommand => 2,
             Judged::NoDesign(_) => 3,
             Judged::NoStimulus(_) => 4,
-            Judged::Accepted(_, _, _) => 0,
+            Judged::Trail(_, _, _) => 0,
+            Judged::Verilog(_, _, _) => 0,
         }
     }
 }
@@ -90,7 +94,7 @@ fn judge_source<F: Files>(
     ensures no_write { IsErrOf result Stop.WriteFault → ⊥ }
     ensures later { F.fault_count files.old ≤ F.fault_count files.new }
 {
-    let given = given_in(alloc, row.words)?;
+    let given = given_in(alloc, row.words, row.first)?;
     match read(alloc, files, row.source, MOST_SOURCE)? {
         Some(source) => judge_text(alloc, &source, row.top.as_bytes(), &given),
         None => Ok(Err(DesignFault::Text(TextFault::TooLong))),
@@ -137,7 +141,7 @@ fn judge_row<F: Files>(alloc: Global, row: &Row<'_>, files: &mut F) -> Result<Ju
     ensures judged { IfOk result (λ judged. IfSome (F.told files.old) (λ told. JudgesRow told (row_as row.now) judged)) }
     ensures rows { IfOk result HasRows }
     ensures command { IfOk result (λ judged. judged ≡ Judged.NoCommand → ⊥) }
-    ensures front { AppendsFront (F.asked files.old) (F.asked files.new) (row.now.source.now ∷ row.now.stimulus.now ∷ []) }
+    ensures front { AppendsFront (F.asked files.old) (F.asked files.new) (row.now.source.now ∷ files_of (task_as row.now.task)) }
     ensures read { IsErrOf result Stop.ReadFault → Rose (F.fault_count files.old) (F.fault_count files.new) }
     ensures no_write { IsErrOf result Stop.WriteFault → ⊥ }
     ensures later { F.fault_count files.old ≤ F.fault_count files.new }
@@ -147,9 +151,12 @@ fn judge_row<F: Files>(alloc: Global, row: &Row<'_>, files: &mut F) -> Result<Ju
         Err(fault) => return Ok(Judged::NoDesign(fault)),
     };
     let ports = accepted.ports(alloc)?;
-    match judge_stimulus(alloc, row.stimulus, &ports, files)? {
-        Ok(stim) => Ok(Judged::Accepted(accepted, row.mode, stim)),
-        Err(fault) => Ok(Judged::NoStimulus(fault)),
+    match row.task {
+        Task::TrailOver(stimulus) => match judge_stimulus(alloc, stimulus, &ports, files)? {
+            Ok(stim) => Ok(Judged::Trail(accepted, row.mode, stim)),
+            Err(fault) => Ok(Judged::NoStimulus(fault)),
+        },
+        Task::Verilog => Ok(Judged::Verilog(accepted, row.mode, ports)),
     }
 }
 

@@ -12,6 +12,7 @@ use crate::lines::{design_line, stimulus_line};
 use io_edge::{Files, Sink, Words};
 use std::alloc::Global;
 use trail_net::write_trail;
+use verilog_net::write_verilog;
 
 /// How a run ended: its status, which is 0, 2, 3, 4, 7, 8 or 9.
 #[derive(Clone, Copy, Debug, PartialEq, Eq)]
@@ -21,12 +22,13 @@ pub struct Ended {
 
 /// Does what the words say.
 ///
-/// The one command is `trail MODE SRC STIM TOP [NAME=N]..`, where MODE is `opt` or `keep`. The files are read in the order of the words, and each is judged before
-/// the next is read. Nothing is written before all of them were judged.
+/// The commands are `trail MODE SRC STIM TOP [NAME=N]..` and `compile MODE SRC TOP [NAME=N]..`, where MODE is `opt` or `keep`. The
+/// files are read in the order of the words, and each is judged before the next is read. Nothing is written before all of
+/// them were judged.
 ///
 /// | Status | Where | Output |
 /// |---|---|---|
-/// | 0 | none of the rest | the whole trail |
+/// | 0 | none of the rest | the whole trail, or the design as a Verilog module |
 /// | 2 | the words are no command | `usage fault` |
 /// | 3 | SRC is no source, or its design from the module TOP is refused | `design fault`, with the number and name of the refusal, and its fields |
 /// | 4 | STIM is refused for the design's ports | `stimulus fault`, with the number and name of the refusal, and its row and column |
@@ -131,8 +133,19 @@ fn write<S: Sink>(alloc: Global, judged: Judged, out: &mut S) -> Result<(), Stop
         Judged::NoCommand => write_line(b"usage fault\n", out),
         Judged::NoDesign(fault) => write_line(&design_line(alloc, &fault)?, out),
         Judged::NoStimulus(fault) => write_line(&stimulus_line(alloc, fault)?, out),
-        Judged::Accepted(accepted, mode, stim) => {
+        Judged::Trail(accepted, mode, stim) => {
             write_trail(alloc, &accepted.design, &accepted.order, mode, stim, out)?;
+            Ok(())
+        }
+        Judged::Verilog(accepted, mode, ports) => {
+            write_verilog(
+                alloc,
+                &accepted.design,
+                &accepted.order,
+                mode,
+                &ports,
+                out,
+            )?;
             Ok(())
         }
     }

@@ -30,27 +30,19 @@ use Rattle.dep_order.specs.Results.{TellsOrder}
 use Rattle.world_core.specs.declared.mode.Mode.{Mode}
 use Rattle.world_core.specs.World.{trail_text}
 use Rattle.world_core.specs.Source.{source_world}
-use Rattle.world_core.proofs.Listing.{map_from}
 use Rattle.world_core.proofs.Trails.{same_trails}
 use Rattle.trace_world.specs.TraceWorld.{trace_world}
 use Rattle.trim_core.specs.Named.{named}
 use Rattle.trim_core.specs.Trimmed.{IsTrimmed}
 use Rattle.trim_laws.specs.Runs.{HasInputs, RunsOver}
-use Rattle.world_laws.proofs.RowsFit.{IsPort, inputs_ports}
+use Rattle.design_net.proofs.Inputs.{inputs_among}
 use Rattle.trim_laws.proofs.Worlds.{worlds_are_same}
 use Rattle.trail_net.specs.Taken.{TakesTrail, TakesTrailFront}
 
 -- each input of the net is one of the ports
 pub inputs_are_ports : (d : Design) (n : ℕ) (mode : Mode) (net : NetParts) (parts : TableParts) (ports : Ports) → IsSound d → IsTrimmed d n mode net parts → HasInputs d ports → InputsArePorts net.nodes ports
 inputs_are_ports d n mode net parts ports sound trimmed inputs i name width at =
-    let inside = slice_get_within net.nodes i (TopInput name width) at in
-    let shape : shape_at net.nodes i ≡ TopInput name width = get_or_from_slice_get net.nodes i (TopInput name width) no_shape at in
-    let tree : tree_of net.nodes i ≡ Leaf (Input name width) = tree_is net.nodes trimmed.is_kept.is_net.shared.numbered i inside ∙ ap (node_tree (trees_of net.nodes)) shape in
-    let among : IsIn (Input name width) (map (λ (given : Given). given.1) (processes_of d).givens) = subst (λ (t : Whole). OverGivens (processes_of d) t) tree (trimmed.is_kept.over i inside) in
-    let given = map_from (λ (given : Given). given.1) (processes_of d).givens (Input name width) among in
-    let port : IsPort (ports_in false (top_signals d)) (Input name width) =
-    subst (λ (o : Origin). IsPort (ports_in false (top_signals d)) o) (sym given.1.1) (each_member (λ (given : Given). IsPort (ports_in false (top_signals d)) given.1) (processes_of d).givens (inputs_ports d sound) given.0 given.1.0) in
-    let place = in_index (ports_in false (top_signals d)) (name, width) port in
+    let place = in_index (ports_in false (top_signals d)) (name, width) (inputs_among d n mode net sound trimmed.is_kept i name width at) in
     (place.0, ap (λ ps. slice_get ps place.0) inputs ∙ place.1)
 
 -- the table has the nodes of the net

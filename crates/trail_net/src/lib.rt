@@ -4,4 +4,4 @@
 mod write;
 
 pub use trail_out::TrailEnd;
-pub use write::{compile, write_trail};
+pub use write::write_trail;

@@ -4,39 +4,21 @@ ghost use Rattle.design_core.specs.DesignView.{design_of};
 ghost use Rattle.check_core.specs.Verdict.{verdict};
 ghost use Rattle.dep_order.specs.Results.{TellsOrder};
 ghost use Rattle.sim_hist.specs.Run.{InputsArePorts, first_cycle};
-ghost use Rattle.trim_core.specs.Trimmed.{IsTrimmed};
 ghost use Rattle.trim_laws.specs.Runs.{HasInputs};
 ghost use Rattle.trail_net.specs.Taken.{TakesTrail, TakesTrailFront};
 
 use crate::TrailEnd;
 use dep_order::Order;
 use design_core::Design;
+use design_net::compile;
 use io_edge::Sink;
 use lower_core::Mode;
 use net_core::Net;
-use net_trim::trim;
 use sim_core::Simulator;
 use sim_hist::SimTrace;
-use ssa_net::lower;
 use std::alloc::Global;
 use stim_text::Stim;
-use symtab::Table;
 use text_core::NoMemory;
-
-/// Lowers an accepted design, and trims what was lowered: the net keeps exactly what this mode keeps, and the table tells where.
-pub fn compile(
-    alloc: Global,
-    design: &Design,
-    order: &Order,
-    mode: Mode,
-) -> Result<(Net, Table), NoMemory>
-    requires accepted { verdict (design_of design.now) ≡ None }
-    requires order { TellsOrder (design_of design.now) order.now }
-    ensures ok { IfOk result (λ made. IsTrimmed (design_of design.now) (length order.now) mode made.0 made.1) }
-{
-    let lowered = lower(alloc, design, order, mode)?;
-    trim(alloc, lowered)
-}
 
 /// The trace of a net's run over the rows of a stimulus.
 fn trace_of(alloc: Global, net: Net, stim: Stim) -> Result<SimTrace, NoMemory>

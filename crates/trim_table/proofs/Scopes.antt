@@ -74,22 +74,23 @@ or_true false b e = absurd (true≢false (sym e))
 signal_taken : (v : Variant) (s : Signal) → IsIn s v.signals → taken_in v s.name ≡ true
 signal_taken v s i = or_true (named any_kind v.signals s.name) (child_named v.children s.name) (in_any (λ (t : Signal). bytes_eq s.name t.name) v.signals s i (name_same s.name s.name refl))
 
+same_names : (signals : List Signal) → map thing_name (map signal_thing signals) ≡ map (λ (s : Signal). s.name) signals
+same_names [] = refl
+same_names (s ∷ signals) = ap (λ l. s.name ∷ l) (same_names signals)
+
+-- the signals of a variant have different names
+pub signals_apart : (v : Variant) → duplicate_name v ≡ None → AreApart (map (λ (s : Signal). s.name) v.signals)
+signals_apart v e = subst AreApart (same_names v.signals) (differ_apart none (map signal_thing v.signals) (signals_differ v e))
+
 pub scope_apart : (v : Variant) (b : Block) → IsIn b v.blocks → duplicate_name v ≡ None → AreApart (scope v b)
 scope_apart v b at e =
     let lets = lets_differ v b at e in
     let names : map thing_name (lets_in (statements b.body)) ≡ lets_of b.body = body_lets b.body in
     both_apart (map (λ (s : Signal). s.name) v.signals) (lets_of b.body)
-    (signal_names v.signals (differ_apart none (map signal_thing v.signals) (signals_differ v e)))
+    (signals_apart v e)
     (subst AreApart names (differ_apart (taken_in v) (lets_in (statements b.body)) lets))
     (each_signal v.signals (λ s i. subst (IsNotIn s.name) names (not_among (taken_in v) s.name (signal_taken v s i) (lets_in (statements b.body)) (none_taken (taken_in v) (lets_in (statements b.body)) lets))))
   where
-    same_names : (signals : List Signal) → map thing_name (map signal_thing signals) ≡ map (λ (s : Signal). s.name) signals
-    same_names [] = refl
-    same_names (s ∷ signals) = ap (λ l. s.name ∷ l) (same_names signals)
-
-    signal_names : (signals : List Signal) → AreApart (map thing_name (map signal_thing signals)) → AreApart (map (λ (s : Signal). s.name) signals)
-    signal_names signals a = subst AreApart (same_names signals) a
-
     each_signal : (signals : List Signal) → ((s : Signal) → IsIn s signals → IsNotIn s.name (lets_of b.body)) → EachOf (λ x. IsNotIn x (lets_of b.body)) (map (λ (s : Signal). s.name) signals)
     each_signal [] h = tt
     each_signal (s ∷ signals) h = (h s (inl refl), each_signal signals (λ t i. h t (inr i)))

@@ -57,7 +57,7 @@ beside_in pair nexts i true e rest = inl (λ k. (sym (eqb-true pair.0 i e) k, pa
 beside_in pair nexts i false e rest = inr (rest refl)
 
 -- what stands beside a number stands there in the list
-next_in : (nexts : List (ℕ × ℕ)) (i n : ℕ) → IsIn (i, n) nexts → IsIn (i, next_of nexts i) nexts
+pub next_in : (nexts : List (ℕ × ℕ)) (i n : ℕ) → IsIn (i, n) nexts → IsIn (i, next_of nexts i) nexts
 next_in [] i n h = absurd h
 next_in (pair ∷ nexts) i n (inl e) =
     beside_in pair nexts i (pair.0 == i) refl (λ f. absurd (true≢false (sym (eq-eqb pair.0 i (ap (λ (p : ℕ × ℕ). p.0) (sym e))) ∙ f)))

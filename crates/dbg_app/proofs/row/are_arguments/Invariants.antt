@@ -5,4 +5,4 @@ use Rattle.dbg_app.proofs.row.are_arguments.Given as goal
 
 -- all are arguments where those that are left are
 abbrev pub invariant-loop-i : goal.invariant-loop-i
-invariant-loop-i l = list_all is_argument (drop l.i l.words) ≡ list_all is_argument (drop 5 l.words)
+invariant-loop-i l = list_all is_argument (drop l.i l.words) ≡ list_all is_argument (drop l.first l.words)

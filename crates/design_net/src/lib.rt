@@ -1,0 +1,6 @@
+//! An accepted design compiled: the net of what is kept of it, with its symbol table.
+#![tactic(auto)]
+
+mod compile;
+
+pub use compile::compile;

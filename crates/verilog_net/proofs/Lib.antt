@@ -1,0 +1,7 @@
+mod Numbers
+mod Nodes
+mod Outputs
+mod Nexts
+pub mod Alike
+pub mod Fits
+mod Written

@@ -1,0 +1,7 @@
+ghost use Rattle.verilog_net.specs.KeptNet.{CompiledAreKept};
+
+/// The law that a compiled net is the net of the kept trees: it has the same nodes, by number, the same outputs, and beside each
+/// register the same node. Computes nothing.
+pub fn compiled_nets_are_kept_nets()
+    ensures { CompiledAreKept }
+{}

@@ -1,0 +1,11 @@
+//! The Verilog of an accepted design: the text of its compiled net.
+//!
+//! `specs/KeptNet` defines that net, by the trees that are kept.
+#![tactic(auto)]
+
+mod laws;
+mod write;
+
+pub use laws::compiled_nets_are_kept_nets;
+pub use sink_text::SinkEnd;
+pub use write::write_verilog;
