@@ -6,10 +6,8 @@ use Rattle.design_core.specs.declared.expr.Literal.{Literal}
 use Rattle.design_core.specs.declared.variant.Signal.{Signal}
 use Rattle.design_core.specs.declared.design.Instance.{Instance}
 use Rattle.exec_core.specs.Block.{Name}
-
 -- the generator variables at a place, with their numbers
-abbrev pub Gens : Type 0
-Gens = List (Name × ℤ)
+pub use Rattle.gen_scope.specs.Gens.{Gens}
 
 -- from -2^62 to 2^62
 abbrev pub in_range : ℤ → Bool

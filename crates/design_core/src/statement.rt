@@ -1,15 +1,16 @@
 use crate::Expr;
-use text_core::{Listed, Text};
+use gen_scope::Scope;
+use text_core::Text;
 
-/// A statement of an elaborated block: its slot, its line, and the generator variables at it with their numbers, the
-/// parameters in order and then the loops from outer to inner, without those that are hidden.
+/// A statement of an elaborated block: its slot, its line, and the generator variables at it with their numbers, which it
+/// shares with the other statements of its loop or its instance.
 #[derive(Debug, Drop)]
 pub enum Stmt {
     /// What a wire or an output is from here on, in a `comb`; or what a register holds in the next cycle, in an `ff`.
     Assign {
         slot: u32,
         line: u32,
-        gens: Listed<(Text, i64)>,
+        gens: Scope,
         target: Text,
         value: Expr,
     },
@@ -17,7 +18,7 @@ pub enum Stmt {
     Let {
         slot: u32,
         line: u32,
-        gens: Listed<(Text, i64)>,
+        gens: Scope,
         name: Text,
         value: Expr,
     },
@@ -25,7 +26,7 @@ pub enum Stmt {
     If {
         slot: u32,
         line: u32,
-        gens: Listed<(Text, i64)>,
+        gens: Scope,
         test: Expr,
         yes: Vec<Stmt>,
         no: Option<Vec<Stmt>>,

@@ -1,4 +1,5 @@
 use crate::{Expr, Literal, Stmt};
+use gen_scope::Scope;
 use text_core::{Listed, Text};
 
 /// What a signal is.
@@ -52,7 +53,7 @@ pub struct Block {
 #[derive(Debug, Drop)]
 pub struct Variant {
     pub module: Text,
-    pub params: Listed<(Text, i64)>,
+    pub params: Scope,
     pub signals: Listed<Signal>,
     pub children: Vec<Child>,
     pub blocks: Vec<Block>,
