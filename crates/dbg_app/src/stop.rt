@@ -1,13 +1,11 @@
 ghost use Rattle.std.specs.Prelude.{◌≡◌, ◌≤◌, IsTrue};
-ghost use Rattle.sink_text.specs.declared.end.SinkEnd.TheVariants as sink;
-ghost use Rattle.trail_out.specs.declared.TrailEnd.TheVariants as trail;
+ghost use Rattle.sink_text.specs.declared.SinkEnd.TheVariants as sink;
 ghost use Rattle.dbg_app.specs.declared.stop.Stop.TheVariants.{WriteFault, NoMemory};
 ghost use Rattle.dbg_app.specs.Outcome.{is_status, stop_status};
 
 use io_edge::Failed;
 use sink_text::SinkEnd;
 use std::alloc::{AllocError, AllocFailed};
-use trail_out::TrailEnd;
 
 /// Why a run stops before its text is written.
 #[derive(Clone, Copy, Debug, PartialEq, Eq)]
@@ -43,23 +41,10 @@ impl From<Failed> for Stop {
     }
 }
 
-impl From<TrailEnd> for Stop {
+impl From<SinkEnd> for Stop {
     ghost use Rattle.dbg_app.specs.Ends.{stop_of};
 
     ghost from_gives = { λ end e. e ≡ stop_of end };
-
-    fn from(end: TrailEnd) -> Self {
-        match end {
-            TrailEnd::Failed => Stop::WriteFault,
-            TrailEnd::NoMemory => Stop::NoMemory,
-        }
-    }
-}
-
-impl From<SinkEnd> for Stop {
-    ghost use Rattle.dbg_app.specs.Ends.{stop_of_sink};
-
-    ghost from_gives = { λ end e. e ≡ stop_of_sink end };
 
     fn from(end: SinkEnd) -> Self {
         match end {

@@ -3,5 +3,5 @@
 
 mod write;
 
-pub use trail_out::TrailEnd;
+pub use trail_out::SinkEnd;
 pub use write::write_trail;

@@ -7,7 +7,7 @@ ghost use Rattle.sim_hist.specs.Run.{InputsArePorts, first_cycle};
 ghost use Rattle.trim_laws.specs.Runs.{HasInputs};
 ghost use Rattle.trail_net.specs.Taken.{TakesTrail, TakesTrailFront};
 
-use crate::TrailEnd;
+use crate::SinkEnd;
 use dep_order::Order;
 use design_core::Design;
 use design_net::compile;
@@ -39,13 +39,13 @@ pub fn write_trail<S: Sink>(
     mode: Mode,
     stim: Stim,
     out: &mut S,
-) -> Result<(), TrailEnd>
+) -> Result<(), SinkEnd>
     requires accepted { verdict (design_of design.now) ≡ None }
     requires order { TellsOrder (design_of design.now) order.now }
     requires inputs { HasInputs (design_of design.now) stim.ports }
     ensures ok { OnOk result (TakesTrail (design_of design.now) (length order.now) mode stim.rows (S.taken out.old) (S.taken out.new)) }
     ensures front { OnErr result (TakesTrailFront (design_of design.now) (length order.now) mode stim.rows (S.taken out.old) (S.taken out.new)) }
-    ensures failed { IsErrOf result TrailEnd.Failed → Rose (S.fault_count out.old) (S.fault_count out.new) }
+    ensures failed { IsErrOf result SinkEnd.Failed → Rose (S.fault_count out.old) (S.fault_count out.new) }
     ensures later { S.fault_count out.old ≤ S.fault_count out.new }
 {
     let (net, table) = compile(alloc, design, order, mode)?;

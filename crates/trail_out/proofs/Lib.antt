@@ -1,3 +1,3 @@
-pub mod Passing
+pub mod Cycles
 pub mod Standing
 pub mod Trails

@@ -1,12 +1,11 @@
--- What functions that write a trail need of rows, and what they do to a text that waits to be taken.
-use Rattle.std.specs.Prelude.{◌≡◌, ℕ, ◌<◌, List, ◌++◌, length, Option, Some, None, All}
+-- What functions that write a trail need of rows.
+use Rattle.std.specs.Prelude.{◌≡◌, ℕ, ◌<◌, List, length, Option, Some, None, All}
 use Rattle.bv_core.specs.declared.reference.Ref.{Ref}
 use Rattle.bv_core.specs.declared.reference.Ref.TheVariants.{Node, Const}
 use Rattle.bv_core.specs.declared.reference.Binding.{Binding}
 use Rattle.bv_core.specs.declared.reference.Binding.TheVariants.{Value, Unset, Removed}
 use Rattle.bv_core.specs.declared.reference.Sample.{Sample}
 use Rattle.bv_core.specs.declared.reference.Sample.TheVariants as sampled
-use Rattle.io_edge.specs.Taken.{Appends}
 use Rattle.symtab.specs.declared.parts.Row.{Row}
 use Rattle.symtab.specs.declared.parts.Slot.{Slot}
 use Rattle.trace_core.specs.Samples.{Samples}
@@ -36,9 +35,3 @@ pub record RowStands (nodes : ℕ) (names : List (List ℕ)) (row : Row) : Type 
 pub record SlotStands (nodes instances : ℕ) (slot : Slot) : Type 0 where
   pub long : length slot.rows ≡ instances
   pub rows : All (RowStands nodes slot.names) slot.rows
-
--- a piece was put behind what waited before; a front of both was taken, and the rest waits
-pub record Passes (old now : Option (List ℕ)) (before after piece : List ℕ) : Type 0 where
-  pub done : List ℕ
-  pub split : before ++ piece ≡ done ++ after
-  pub grown : Appends old now done

@@ -1,11 +1,10 @@
 //! The trail that a symbol table and a trace tell, as text.
 #![tactic(auto)]
 
-mod end;
 mod laws;
 mod line;
 mod rows;
 
-pub use end::TrailEnd;
 pub use laws::texts_are_trails;
 pub use rows::write_trail;
+pub use sink_text::SinkEnd;

@@ -10,18 +10,17 @@ ghost use Rattle.symtab.specs.Lookups.{instances_of};
 ghost use Rattle.world_core.specs.World.{trail_text};
 ghost use Rattle.trace_world.specs.TraceWorld.{is_one, is_on, known, trace_world};
 ghost use Rattle.trail_out.specs.Texts.{path_at, row_text, rows_text, slot_text, cycle_text, table_text};
-ghost use Rattle.trail_out.specs.Written.{samples_at, RowStands, SlotStands, Passes};
+ghost use Rattle.sink_text.specs.Waiting.{Passes};
+ghost use Rattle.trail_out.specs.Written.{samples_at, RowStands, SlotStands};
 
-use crate::TrailEnd;
 use crate::line::{push_line, sample_of};
 use bv_core::Sample;
 use io_edge::Sink;
+use sink_text::{SinkEnd, put_long};
 use std::alloc::Global;
 use symtab::{Row, Slot, Table, TableParts};
 use text_core::NoMemory;
 use trace_core::Trace;
-
-const LONG: usize = 64 * 1024;
 
 /// Whether a sample is known and is 1.
 fn is_one(sample: Sample) -> bool
@@ -87,20 +86,6 @@ fn push_rows<T: Trace>(
     Ok(())
 }
 
-/// Hands a text that is long to the sink.
-fn put_long<S: Sink>(text: &mut Vec<u8>, out: &mut S) -> Result<(), TrailEnd>
-    ensures ok { OnOk result (Passes (S.taken out.old) (S.taken out.new) text.old.items text.new.items []) }
-    ensures front { OnErr result (AppendsFront (S.taken out.old) (S.taken out.new) text.old.items) }
-    ensures failed { IsErrOf result TrailEnd.Failed → Rose (S.fault_count out.old) (S.fault_count out.new) }
-    ensures later { S.fault_count out.old ≤ S.fault_count out.new }
-{
-    if text.len() > LONG {
-        out.put(text)?;
-        text.clear();
-    }
-    Ok(())
-}
-
 /// Writes the lines of a slot, in the cycle at which the trace stands.
 fn write_slot<T: Trace, S: Sink>(
     alloc: Global,
@@ -111,7 +96,7 @@ fn write_slot<T: Trace, S: Sink>(
     parts: &TableParts,
     k: u32,
     out: &mut S,
-) -> Result<(), TrailEnd>
+) -> Result<(), SinkEnd>
     requires placed { IsSome (T.cursor trace.now) }
     requires parts { parts.now ≡ table.now }
     requires table { IsTable table.now }
@@ -119,7 +104,7 @@ fn write_slot<T: Trace, S: Sink>(
     requires nodes { length table.now.nodes ≤ (T.samples trace.now).nodes }
     ensures ok { OnOk result (Passes (S.taken out.old) (S.taken out.new) text.old.items text.new.items (slot_text cycle (samples_at (T.samples trace.now) (T.cursor trace.now)) table.now k)) }
     ensures front { OnErr result (AppendsFront (S.taken out.old) (S.taken out.new) (text.old.items ++ slot_text cycle (samples_at (T.samples trace.now) (T.cursor trace.now)) table.now k)) }
-    ensures failed { IsErrOf result TrailEnd.Failed → Rose (S.fault_count out.old) (S.fault_count out.new) }
+    ensures failed { IsErrOf result SinkEnd.Failed → Rose (S.fault_count out.old) (S.fault_count out.new) }
     ensures later { S.fault_count out.old ≤ S.fault_count out.new }
 {
     let slot = table.slot(k);
@@ -138,14 +123,14 @@ fn write_cycle<T: Trace, S: Sink>(
     table: &Table,
     parts: &TableParts,
     out: &mut S,
-) -> Result<(), TrailEnd>
+) -> Result<(), SinkEnd>
     requires placed { IsSome (T.cursor trace.now) }
     requires parts { parts.now ≡ table.now }
     requires table { IsTable table.now }
     requires nodes { length table.now.nodes ≤ (T.samples trace.now).nodes }
     ensures ok { OnOk result (Passes (S.taken out.old) (S.taken out.new) text.old.items text.new.items (flat_map (slot_text cycle (samples_at (T.samples trace.now) (T.cursor trace.now)) table.now) (from 0 (length table.now.slots)))) }
     ensures front { OnErr result (AppendsFront (S.taken out.old) (S.taken out.new) (text.old.items ++ flat_map (slot_text cycle (samples_at (T.samples trace.now) (T.cursor trace.now)) table.now) (from 0 (length table.now.slots)))) }
-    ensures failed { IsErrOf result TrailEnd.Failed → Rose (S.fault_count out.old) (S.fault_count out.new) }
+    ensures failed { IsErrOf result SinkEnd.Failed → Rose (S.fault_count out.old) (S.fault_count out.new) }
     ensures later { S.fault_count out.old ≤ S.fault_count out.new }
 {
     for k in 0..table.slots() {
@@ -162,13 +147,13 @@ fn write_cycles<T: Trace, S: Sink>(
     table: &Table,
     parts: &TableParts,
     out: &mut S,
-) -> Result<(), TrailEnd>
+) -> Result<(), SinkEnd>
     requires parts { parts.now ≡ table.now }
     requires table { IsTable table.now }
     requires nodes { length table.now.nodes ≤ (T.samples trace.old).nodes }
     ensures ok { OnOk result (Passes (S.taken out.old) (S.taken out.new) text.old.items text.new.items (table_text (T.samples trace.old) table.now)) }
     ensures front { OnErr result (AppendsFront (S.taken out.old) (S.taken out.new) (text.old.items ++ table_text (T.samples trace.old) table.now)) }
-    ensures failed { IsErrOf result TrailEnd.Failed → Rose (S.fault_count out.old) (S.fault_count out.new) }
+    ensures failed { IsErrOf result SinkEnd.Failed → Rose (S.fault_count out.old) (S.fault_count out.new) }
     ensures later { S.fault_count out.old ≤ S.fault_count out.new }
 {
     for cycle in 0..trace.cycles() {
@@ -185,11 +170,11 @@ pub fn write_trail<T: Trace, S: Sink>(
     table: &Table,
     trace: &mut T,
     out: &mut S,
-) -> Result<(), TrailEnd>
+) -> Result<(), SinkEnd>
     requires nodes { length table.now.nodes ≤ (T.samples trace.old).nodes }
     ensures ok { OnOk result (Appends (S.taken out.old) (S.taken out.new) (trail_text (trace_world table.now (T.samples trace.old)))) }
     ensures front { OnErr result (AppendsFront (S.taken out.old) (S.taken out.new) (trail_text (trace_world table.now (T.samples trace.old)))) }
-    ensures failed { IsErrOf result TrailEnd.Failed → Rose (S.fault_count out.old) (S.fault_count out.new) }
+    ensures failed { IsErrOf result SinkEnd.Failed → Rose (S.fault_count out.old) (S.fault_count out.new) }
     ensures later { S.fault_count out.old ≤ S.fault_count out.new }
 {
     let mut text = Vec::new(alloc);

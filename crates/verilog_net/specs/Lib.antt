@@ -1,1 +1,2 @@
 pub mod KeptNet
+pub mod Sample

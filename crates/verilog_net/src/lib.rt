@@ -6,6 +6,6 @@
 mod laws;
 mod write;
 
-pub use laws::compiled_nets_are_kept_nets;
+pub use laws::{compiled_nets_are_kept_nets, prints_the_design};
 pub use sink_text::SinkEnd;
 pub use write::write_verilog;

@@ -2,7 +2,8 @@ use Rattle.std.proofs.Common.{◌≤◌}
 use Rattle.std.specs.List.{flat_map}
 use Rattle.design_core.specs.Slots.{from}
 use Rattle.trail_out.specs.Texts.{slot_text}
-use Rattle.trail_out.specs.Written.{samples_at, Passes}
+use Rattle.sink_text.specs.Waiting.{Passes}
+use Rattle.trail_out.specs.Written.{samples_at}
 use Rattle.trail_out.proofs.rows.write_cycle.Given as goal
 
 -- the lines of the slots so far
