@@ -1,4 +1,3 @@
 pub mod Steps
 pub mod NumberSteps
-pub mod Names
 pub mod Numbers

@@ -1,4 +1,4 @@
 pub mod Met
-pub mod Scope
 pub mod Turns
 pub mod Compares
+pub mod Names

@@ -4,15 +4,12 @@
 mod literal;
 mod met;
 mod name;
+mod names;
 mod number;
-mod params;
-mod scope;
 mod turns;
 
 pub use literal::literal_at;
 pub use met::Met;
 pub use name::family_name;
-pub use number::{comparison, number_at, two_numbers};
-pub use params::Params;
-pub use scope::Scope;
+pub use number::{comparison, default_at, number_at, two_numbers};
 pub use turns::{Turns, turns_of};

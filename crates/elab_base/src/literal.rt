@@ -2,11 +2,11 @@ ghost use Rattle.std.specs.Prelude.{◌≡◌};
 ghost use Rattle.gen_tree.specs.View.{lit_of};
 ghost use Rattle.elab_core.specs.Results.{AnswersWith};
 ghost use Rattle.elab_core.specs.Elab.{literal, literal_of};
-ghost use Rattle.elab_base.specs.Scope.{gens_of};
 
-use crate::{Scope, two_numbers};
+use crate::two_numbers;
 use design_core::Literal;
 use elab_core::ElabFault;
+use gen_scope::Scope;
 use gen_tree::Lit;
 use std::alloc::Global;
 
@@ -31,7 +31,7 @@ pub fn literal_at(
     scope: &Scope,
     written: &Lit,
 ) -> Result<Literal, ElabFault>
-    ensures { AnswersWith (λ l. l) result (literal line (gens_of scope.now) (lit_of written.now)) }
+    ensures { AnswersWith (λ l. l) result (literal line scope.now (lit_of written.now)) }
 {
     match written {
         Lit::Plain { width, value } => {

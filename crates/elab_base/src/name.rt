@@ -2,10 +2,10 @@ ghost use Rattle.std.specs.Prelude.{◌≡◌};
 ghost use Rattle.gen_tree.specs.View.{fam_of};
 ghost use Rattle.elab_core.specs.Results.{AnswersWith};
 ghost use Rattle.elab_core.specs.Numbers.{family, fam_name};
-ghost use Rattle.elab_base.specs.Scope.{gens_of};
 
-use crate::{Scope, number_at};
+use crate::number_at;
 use elab_core::ElabFault;
+use gen_scope::Scope;
 use gen_tree::Fam;
 use std::alloc::Global;
 use text_core::Text;
@@ -27,7 +27,7 @@ fn member(alloc: Global, line: u32, name: &[u8], index: i64) -> Result<Text, Ela
 /// The name of a member of a family, or a plain name.
 #[tactic(auto, unfolding(elab_core::specs::Numbers::index_name), using(crate::proofs::Steps::walk_steps))]
 pub fn family_name(alloc: Global, line: u32, scope: &Scope, family: &Fam) -> Result<Text, ElabFault>
-    ensures { AnswersWith (λ x. x) result (fam_name line (gens_of scope.now) (fam_of family.now)) }
+    ensures { AnswersWith (λ x. x) result (fam_name line scope.now (fam_of family.now)) }
 {
     match &family.index {
         None => {

@@ -2,11 +2,12 @@ ghost use Rattle.std.specs.Prelude.{◌≡◌, IfOk, pos, ◌+ℤ◌, ◌≤ℤ�
 ghost use Rattle.gen_tree.specs.View.{int_of};
 ghost use Rattle.elab_core.specs.Results.{AnswersWith};
 ghost use Rattle.elab_core.specs.Numbers.{number, ranged, apply_op, turn_count, holds, two_numbers as two_numbers_of};
-ghost use Rattle.elab_base.specs.Scope.{gens_of};
+ghost use Rattle.elab_base.specs.Names.{gens_of};
 ghost use Rattle.elab_base.specs.Compares.{compares};
 
-use crate::Scope;
+use crate::names::Names;
 use elab_core::ElabFault;
+use gen_scope::{Params, Scope};
 use gen_tree::{Cmp, Int, IntOp};
 use std::alloc::Global;
 use text_core::Text;
@@ -32,8 +33,8 @@ fn combined(line: u32, op: IntOp, left: i64, right: i64) -> Result<i64, ElabFaul
 
 /// What an integer of the source is where these names have numbers, from -2^62 to 2^62; its faults are on this line.
 #[tactic(auto, using(crate::proofs::NumberSteps::number_steps))]
-pub fn number_at(alloc: Global, line: u32, scope: &Scope, int: &Int) -> Result<i64, ElabFault>
-    ensures { AnswersWith (λ n. n) result (number line (gens_of scope.now) (int_of int.now)) }
+fn number_among(alloc: Global, line: u32, names: &Names, int: &Int) -> Result<i64, ElabFault>
+    ensures { AnswersWith (λ n. n) result (number line (gens_of names.now) (int_of int.now)) }
 {
     match int {
         Int::Num(number) => {
@@ -43,7 +44,7 @@ pub fn number_at(alloc: Global, line: u32, scope: &Scope, int: &Int) -> Result<i
                 Err(ElabFault::ElabRange { line })
             }
         }
-        Int::Var(name) => match scope.number_of(name.bytes()) {
+        Int::Var(name) => match names.number_of(name.bytes()) {
             Some(number) => Ok(number),
             None => {
                 let name = Text::new(alloc, name.bytes())?;
@@ -51,12 +52,28 @@ pub fn number_at(alloc: Global, line: u32, scope: &Scope, int: &Int) -> Result<i
             }
         },
         Int::Bin(op, left, right) => {
-            let left = number_at(alloc, line, scope, left)?;
-            let right = number_at(alloc, line, scope, right)?;
+            let left = number_among(alloc, line, names, left)?;
+            let right = number_among(alloc, line, names, right)?;
             let number = combined(line, *op, left, right)?;
             Ok(number)
         }
     }
+}
+
+/// What an integer of the source is in a scope, from -2^62 to 2^62; its faults are on this line.
+pub fn number_at(alloc: Global, line: u32, scope: &Scope, int: &Int) -> Result<i64, ElabFault>
+    ensures { AnswersWith (λ n. n) result (number line scope.now (int_of int.now)) }
+{
+    let number = number_among(alloc, line, &Names::Scope(scope), int)?;
+    Ok(number)
+}
+
+/// The same where only these parameters have numbers.
+pub fn default_at(alloc: Global, line: u32, params: &Params, int: &Int) -> Result<i64, ElabFault>
+    ensures { AnswersWith (λ n. n) result (number line params.now (int_of int.now)) }
+{
+    let number = number_among(alloc, line, &Names::Params(params), int)?;
+    Ok(number)
 }
 
 /// Two numbers, the left one first.
@@ -68,7 +85,7 @@ pub fn two_numbers(
     left: &Int,
     right: &Int,
 ) -> Result<(i64, i64), ElabFault>
-    ensures { AnswersWith (λ pair. pair) result (two_numbers_of line (gens_of scope.now) (int_of left.now) (int_of right.now)) }
+    ensures { AnswersWith (λ pair. pair) result (two_numbers_of line scope.now (int_of left.now) (int_of right.now)) }
 {
     let left = number_at(alloc, line, scope, left)?;
     let right = number_at(alloc, line, scope, right)?;
@@ -110,7 +127,7 @@ pub fn comparison(
     cmp: Cmp,
     right: &Int,
 ) -> Result<bool, ElabFault>
-    ensures { AnswersWith (λ b. b) result (compares line (gens_of scope.now) (int_of left.now) cmp (int_of right.now)) }
+    ensures { AnswersWith (λ b. b) result (compares line scope.now (int_of left.now) cmp (int_of right.now)) }
 {
     let (left, right) = two_numbers(alloc, line, scope, left, right)?;
     Ok(compared(cmp, left, right))

@@ -1,12 +1,12 @@
 ghost use Rattle.std.specs.Prelude.{◌≡◌, ◌<◌, pos, ◌+ℤ◌, ◌≤ℤ◌};
 ghost use Rattle.gen_tree.specs.View.{int_of};
 ghost use Rattle.elab_core.specs.Results.{AnswersWith};
-ghost use Rattle.elab_base.specs.Scope.{gens_of};
 ghost use Rattle.elab_base.specs.Turns.{turns_at};
 
 use crate::number::turns_between;
-use crate::{Scope, two_numbers};
+use crate::two_numbers;
 use elab_core::ElabFault;
+use gen_scope::Scope;
 use gen_tree::Int;
 use std::alloc::Global;
 
@@ -37,7 +37,7 @@ pub fn turns_of(
     from: &Int,
     to: &Int,
 ) -> Result<Turns, ElabFault>
-    ensures { AnswersWith (λ turns. (turns.from, turns.count)) result (turns_at line (gens_of scope.now) (int_of from.now) (int_of to.now)) }
+    ensures { AnswersWith (λ turns. (turns.from, turns.count)) result (turns_at line scope.now (int_of from.now) (int_of to.now)) }
 {
     let (from, to) = two_numbers(alloc, line, scope, from, to)?;
     let count = turns_between(line, from, to)?;

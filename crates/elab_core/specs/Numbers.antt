@@ -1,5 +1,5 @@
 -- The whole numbers of elaboration, and the names that have one.
-use Rattle.std.specs.Prelude.{ℕ, Bool, ◌&&◌, not, ℤ, pos, negsuc, ◌+ℤ◌, ◌-ℤ◌, ◌*ℤ◌, int_lt, int_le, [], ◌∷◌, ◌++◌, Option, Some, None, bytes_eq, if◌then◌else◌, nat_le, codes, decimal}
+use Rattle.std.specs.Prelude.{ℕ, Bool, ◌&&◌, not, ℤ, pos, negsuc, ◌+ℤ◌, ◌-ℤ◌, ◌*ℤ◌, int_lt, int_le, ◌++◌, Option, Some, None, if◌then◌else◌, nat_le, codes, decimal}
 use Rattle.gen_tree.specs.declared.IntOp.{IntOp}
 use Rattle.gen_tree.specs.declared.IntOp.TheVariants as int_op
 use Rattle.gen_tree.specs.declared.Cmp.{Cmp}
@@ -8,6 +8,7 @@ use Rattle.gen_tree.specs.Tree.{Int, num, var, bin, Fam}
 use Rattle.exec_core.specs.Block.{Name}
 pub use Rattle.design_core.specs.Design.{in_range, IsInRange, AreInRange}
 use Rattle.design_core.specs.Design.{Gens}
+pub use Rattle.gen_scope.specs.Gens.{find, without, bound}
 use Rattle.elab_core.specs.Walk.{Walk, Gives, Faulty, ◌>>=◌, and_then, UnknownParameter, ElabRange}
 
 abbrev pub apply_op : IntOp → ℤ → ℤ → ℤ
@@ -20,19 +21,6 @@ holds cmp.Eq a b = int_le a b && int_le b a
 holds cmp.Ne a b = not (int_le a b && int_le b a)
 holds cmp.Lt a b = int_lt a b
 holds cmp.Le a b = int_le a b
-
-abbrev pub find : Gens → Name → Option ℤ
-find [] x = None
-find (g ∷ gens) x = if bytes_eq g.0 x then Some g.1 else find gens x
-
--- all but the one of this name
-abbrev pub without : Name → Gens → Gens
-without x [] = []
-without x (g ∷ gens) = if bytes_eq g.0 x then without x gens else g ∷ without x gens
-
--- the name gets a number, and an outer one of that name is hidden
-abbrev pub bound : Name → ℤ → Gens → Gens
-bound x n gens = without x gens ++ (x, n) ∷ []
 
 -- what a name stands for; it is a fault if it stands for nothing
 abbrev pub named : ℕ → Name → Option ℤ → Walk ℤ

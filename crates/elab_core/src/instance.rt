@@ -1,5 +1,6 @@
 use design_core::{Block, Conn, Signal};
-use text_core::{Listed, Text};
+use gen_scope::Scope;
+use text_core::Text;
 
 /// An instance inside a module, as the walk meets it: its module by the place in the source, and its parameters.
 #[derive(Debug, Drop)]
@@ -7,7 +8,7 @@ pub struct Child {
     pub line: u32,
     pub name: Text,
     pub place: usize,
-    pub params: Listed<(Text, i64)>,
+    pub params: Scope,
     pub conns: Vec<Conn>,
 }
 
@@ -26,6 +27,6 @@ pub struct Instance {
     pub path: Text,
     pub parent: Option<u32>,
     pub place: usize,
-    pub params: Listed<(Text, i64)>,
+    pub params: Scope,
     pub content: Content,
 }

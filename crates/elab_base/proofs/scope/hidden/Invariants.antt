@@ -1,6 +1,0 @@
-use Rattle.std.proofs.Common.{◌≡◌, ◌++◌}
-use Rattle.elab_core.specs.Numbers.{without}
-use Rattle.elab_base.proofs.scope.hidden.Given as goal
-
-abbrev pub invariant-loop-other : goal.invariant-loop-other
-invariant-loop-other l = l.rest.items ++ without l.name l.other-iterator.rest.items ≡ without l.name l.fn.gens.items
