@@ -44,7 +44,7 @@ fn a_file_that_is_not_read_ends_the_run_before_a_byte_is_written(
 }
 
 /// The words, the number of the put that fails, the room of the sink, what is taken at least, and the whole text.
-static FAILING_SINKS: [(&[&str], &[u64], usize, &str, &str); 3] = [
+static FAILING_SINKS: [(&[&str], &[u64], usize, &str, &str); 4] = [
     (
         &["trail", "keep", "P.hg", "P.stim", "P"],
         &[0],
@@ -60,6 +60,28 @@ static FAILING_SINKS: [(&[&str], &[u64], usize, &str, &str); 3] = [
         "0 6 P a=4'hf y=unset t=unset\n0 7 P a=4'hf y=unset t=4'h0\n",
     ),
     (&[], &[0], 1000, "", "usage fault\n"),
+    (
+        &["compile", "opt", "P.hg", "P"],
+        &[0],
+        1000,
+        "module \\P (clk, \\a , \\y );\n",
+        "\
+module \\P (clk, \\a , \\y );
+  input clk;
+  input [3:0] \\a ;
+  output [3:0] \\y ;
+  wire [3:0] _1;
+  wire [3:0] _2;
+  wire [3:0] _3;
+  wire [0:0] _4;
+  assign _1 = 4'h1;
+  assign _2 = \\a  + _1;
+  assign _3 = _2 ^ \\a ;
+  assign _4 = 1'h1;
+  assign \\y  = _3;
+endmodule
+",
+    ),
 ];
 
 /// Whether these words end since the sink fails, after a front of the text that is not the whole of it and begins so.

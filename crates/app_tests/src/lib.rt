@@ -5,6 +5,8 @@
 #![tactic(auto)]
 
 #[cfg(test)]
+mod compiled;
+#[cfg(test)]
 mod designs_accepted;
 #[cfg(test)]
 mod designs_refused;

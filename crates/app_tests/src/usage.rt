@@ -7,7 +7,7 @@ use std::test::Fail;
 use text_core::NoMemory;
 
 /// Words that are no command.
-static NO_COMMANDS: [&[&str]; 23] = [
+static NO_COMMANDS: [&[&str]; 30] = [
     &["trail", "keep"],
     &[],
     &["trail", "keep", "P.hg", "P.stim"],
@@ -38,6 +38,13 @@ static NO_COMMANDS: [&[&str]; 23] = [
         "N=4611686018427387905",
     ],
     &["trail", "keep", "P.hg", "P.stim", "P", "N=1", "N#0=1"],
+    &["compile", "keep", "P.hg"],
+    &["compile", "keep", "P.hg", "P.stim", "P"],
+    &["compile", "both", "P.hg", "P"],
+    &["compile", "keep", "", "P"],
+    &["compile", "keep", "P.hg", "input"],
+    &["compile", "keep", "P.hg", "P", "N=4611686018427387905"],
+    &["Compile", "keep", "P.hg", "P"],
 ];
 
 /// Whether words are refused as no command, and no file is asked for.
