@@ -1,6 +1,6 @@
 //! An accepted design compiled: the net of what is kept of it, with its symbol table.
 #![tactic(auto)]
 
-mod compile;
+mod net;
 
-pub use compile::compile;
+pub use net::compile;

@@ -4,4 +4,4 @@ mod Outputs
 mod Nexts
 pub mod Alike
 pub mod Fits
-mod Written
+mod Computing

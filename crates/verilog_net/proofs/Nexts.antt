@@ -18,6 +18,7 @@ use Rattle.design_core.specs.Design.{Design}
 use Rattle.design_core.specs.Slots.{from}
 use Rattle.design_exec.specs.Processes.{Given, processes_of}
 use Rattle.net_core.specs.Nodes.{Shape, Fixed, TopInput, Register, OfOne, OfTwo, OfMux, no_shape, shape_at, tree_at, node_tree, trees_of, tree_of}
+use Rattle.net_core.specs.Builder.{Stands}
 use Rattle.net_core.specs.Nets.{NetParts, NextsFit}
 use Rattle.net_core.proofs.TreeLists.{trees_length, tree_is}
 use Rattle.check_exec.specs.Premises.{IsSound}
@@ -119,6 +120,10 @@ module _ (d : Design) (n : ℕ) (mode : Mode) (net : NetParts) (sound : IsSound 
 
     left : next_of net.nexts i ≡ has.next
     left = beside net.nodes net.nexts kept.is_net.nexts i has.next (subst (λ j. IsIn (j, has.next) net.nexts) same has.among)
+
+    -- whatever stands beside the register's node stands for the tree that it takes next
+    pub next_stands : (k : ℕ) → IsIn (i, k) net.nexts → Stands net.nodes k (folded_tree (processes_of d) n (next_tree (processes_of d) p))
+    next_stands k among = subst (λ j. Stands net.nodes j (folded_tree (processes_of d) n (next_tree (processes_of d) p))) (sym left ∙ beside net.nodes net.nexts kept.is_net.nexts i k among) has.stands
 
     given : next_at next ts i ≡ Some (i, has.next)
     given =

@@ -1,5 +1,5 @@
 -- The net of a design: that of the trees that are kept of it.
-use Rattle.std.specs.Prelude.{◌≡◌, ℕ, suc, ◌<◌, true, List, [], ◌∷◌, length, map, filter_map, Option, Some, None, option_map, option_and_then, if◌then◌else◌}
+use Rattle.std.specs.Prelude.{◌≡◌, ℕ, suc, ◌<◌, ◌^◌, true, List, [], ◌∷◌, length, map, filter_map, Option, Some, None, option_map, option_and_then, if◌then◌else◌}
 use Rattle.tree_core.specs.Tree as tree
 use Rattle.tree_core.specs.Tree.{Origin, Whole}
 use Rattle.tree_core.specs.Fold.{same_tree, same_origin}
@@ -16,7 +16,8 @@ use Rattle.check_exec.specs.Premises.{IsSound}
 use Rattle.world_core.specs.declared.mode.Mode.{Mode}
 use Rattle.world_core.specs.Kept.{kept_trees}
 use Rattle.trim_core.specs.Trimmed.{IsKeptNet}
-use Rattle.verilog_out.specs.Printed.{is_register, next_of}
+use Rattle.verilog_out.specs.Printed.{is_register, next_of, printed}
+use Rattle.verilog_out.specs.ReadBack.{HaveNames, ReadsBack}
 
 -- n is how many signals are driven: as many times a signal is replaced by the tree of its driver
 
@@ -75,3 +76,9 @@ pub record AreAlike (v w : NetParts) : Type 0 where
 -- a compiled net is the net of its design
 abbrev pub CompiledAreKept : Type 0
 CompiledAreKept = (d : Design) (n : ℕ) (mode : Mode) (net : NetParts) → IsSound d → IsKeptNet d n mode net → AreAlike net (kept_net d n mode)
+
+-- what is printed of a compiled design is the text of a module, and each module of that text means its net
+abbrev pub DesignsMeanTheirNets : Type 0
+DesignsMeanTheirNets =
+    (d : Design) (n : ℕ) (mode : Mode) (net : NetParts) (ports : Ports) → IsSound d → IsKeptNet d n mode net → HasPorts d ports → HaveNames ports → length net.nodes < 2 ^ 64 →
+    (printed (kept_net d n mode) ports ≡ printed net ports) × ReadsBack net ports

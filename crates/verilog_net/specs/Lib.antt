@@ -1,2 +1,3 @@
 pub mod KeptNet
+pub mod Cycles
 pub mod Sample

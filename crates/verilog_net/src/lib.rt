@@ -6,6 +6,9 @@
 mod laws;
 mod write;
 
-pub use laws::{compiled_nets_are_kept_nets, prints_the_design};
+pub use laws::{
+    compiled_nets_are_kept_nets, modules_compute_sources, printed_designs_mean_their_nets,
+    prints_the_design,
+};
 pub use sink_text::SinkEnd;
 pub use write::write_verilog;

@@ -6,7 +6,7 @@ use Rattle.check_exec.specs.Premises.{IsSound}
 use Rattle.lower_core.specs.Lowered.{IsLowered}
 use Rattle.trim_core.specs.Trimmed.{IsTrimmed}
 use Rattle.net_trim.specs.Whole.{Ordered, IsLoweredOf}
-use Rattle.design_net.proofs.compile.compile.Goals as goal
+use Rattle.design_net.proofs.net.compile.Goals as goal
 
 pub trim-requires : goal.trim-requires
 trim-requires c =
