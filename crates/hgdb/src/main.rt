@@ -20,6 +20,8 @@ hgdb shows what a hardware design does, statement by statement of its source.
 Usage:
   hgdb trail MODE SRC STIM TOP [NAME=N]..
                     print each executed statement with the variables before it
+  hgdb compile MODE SRC TOP [NAME=N]..
+                    print the design as a Verilog module
   hgdb --help       print this text
   hgdb --version    print the version
 
