@@ -12,4 +12,4 @@ pub use literal::literal_at;
 pub use met::Met;
 pub use name::family_name;
 pub use number::{comparison, default_at, number_at, two_numbers};
-pub use turns::{Turns, turns_of};
+pub use turns::{Turns, shared_name, turns_of};

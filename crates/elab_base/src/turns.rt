@@ -1,6 +1,6 @@
 ghost use Rattle.std.specs.Prelude.{◌≡◌, ◌<◌, pos, ◌+ℤ◌, ◌≤ℤ◌};
 ghost use Rattle.gen_tree.specs.View.{int_of};
-ghost use Rattle.elab_core.specs.Results.{AnswersWith};
+ghost use Rattle.elab_core.specs.Results.{AnswersWith, NoMemoryOr};
 ghost use Rattle.elab_base.specs.Turns.{turns_at};
 
 use crate::number::turns_between;
@@ -9,6 +9,8 @@ use elab_core::ElabFault;
 use gen_scope::Scope;
 use gen_tree::Int;
 use std::alloc::Global;
+use std::rc::Rc;
+use text_core::Text;
 
 /// The turns of a loop: the number of the first, and how many there are.
 #[derive(Debug, Drop)]
@@ -26,6 +28,15 @@ impl Turns {
     {
         self.from + i64::from(turn)
     }
+}
+
+/// The name of a loop's variable, for all turns of the loop.
+pub fn shared_name(alloc: Global, variable: &Text) -> Result<Rc<Text>, ElabFault>
+    ensures { NoMemoryOr (λ name. name.value ≡ variable.now) result }
+{
+    let name = Text::new(alloc, variable.bytes())?;
+    let name = Rc::new(alloc, name)?;
+    Ok(name)
 }
 
 /// The turns of a loop from one integer to below another; its faults are on this line.

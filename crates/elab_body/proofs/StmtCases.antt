@@ -165,15 +165,15 @@ pub turn_fault_1 : (line : ℕ) (body : Stmts) (inner : Gens) (made : Body) (see
 unfolding turn
 turn_fault_1 line body inner made seen x e1 = refused _ _ _ _ e1
 
-pub turn_done : (line : ℕ) (body : Stmts) (inner : Gens) (made : Body) (seen s1 : Seen) (last : Body) (after : Seen) → judge seen (counts Turns line) ≡ Ok (tt, s1) → judge s1 (statements body inner made) ≡ Ok (last, after) →
+pub turn_done : (line : ℕ) (body : Stmts) (inner same : Gens) (made : Body) (seen s1 : Seen) (last : Body) (after : Seen) → judge seen (counts Turns line) ≡ Ok (tt, s1) → same ≡ inner → judge s1 (statements body same made) ≡ Ok (last, after) →
     judge seen (turn line body inner made) ≡ Ok (last, after)
 unfolding turn
-turn_done line body inner made seen s1 last after e1 e2 = counted _ _ _ _ _ _ e1 (e2)
+turn_done line body inner same made seen s1 last after e1 i e2 = counted _ _ _ _ _ _ e1 (ap (λ g. judge s1 (statements body g made)) (sym i) ∙ e2)
 
-pub turn_last_fault : (line : ℕ) (body : Stmts) (inner : Gens) (made : Body) (seen s1 : Seen) (x : Fault) → judge seen (counts Turns line) ≡ Ok (tt, s1) → judge s1 (statements body inner made) ≡ Err x →
+pub turn_last_fault : (line : ℕ) (body : Stmts) (inner same : Gens) (made : Body) (seen s1 : Seen) (x : Fault) → judge seen (counts Turns line) ≡ Ok (tt, s1) → same ≡ inner → judge s1 (statements body same made) ≡ Err x →
     judge seen (turn line body inner made) ≡ Err x
 unfolding turn
-turn_last_fault line body inner made seen s1 x e1 e2 = counted _ _ _ _ _ _ e1 (e2)
+turn_last_fault line body inner same made seen s1 x e1 i e2 = counted _ _ _ _ _ _ e1 (ap (λ g. judge s1 (statements body g made)) (sym i) ∙ e2)
 
 pub assign_fault_1 : (line : ℕ) (gens : Gens) (made : Body) (f : Fam) (e : tree.Expr) (seen : Seen) (x : Fault) → judge seen (assigned line gens f e) ≡ Err x →
     judge seen (statement (assign line f e) gens made) ≡ Err x

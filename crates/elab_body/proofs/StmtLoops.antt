@@ -97,17 +97,17 @@ module _ {A : Type 0} (line : ℕ) (f : ℤ → A → Walk A) where
   turns_end k at count made seen h = let e : count - at ≡ 0 = omega arith in ap (λ c. judge seen (turns line f k c made)) e ∙ turns_none k made seen
 
 module _ (line : ℕ) (body : Stmts) (v : Name) (gens : Gens) where
-  pub body_fault : (from : ℤ) (at count : ℕ) (k : ℤ) (inner : Gens) (made : Body) (seen : Seen) (x : Fault) → at < count → k ≡ from +ℤ pos at → inner ≡ bound v k gens → judge seen (turn line body inner made) ≡ Err x →
+  pub body_fault : (from : ℤ) (at count : ℕ) (k : ℤ) (y : Name) (made : Body) (seen : Seen) (x : Fault) → at < count → k ≡ from +ℤ pos at → y ≡ v → judge seen (turn line body (bound y k gens) made) ≡ Err x →
       judge seen (turns line (in_turn body v gens) (from +ℤ pos at) (count - at) made) ≡ Err x
   unfolding turn in_turn
-  body_fault from at count k inner made seen x h e i p = turns_fault line (in_turn body v gens) from at count made seen x h
-      (ap (λ g. judge seen (and_then (counts Turns line) (λ u. statements body g made))) (sym (i ∙ ap (λ n. bound v n gens) e)) ∙ p)
+  body_fault from at count k y made seen x h e i p = turns_fault line (in_turn body v gens) from at count made seen x h
+      (ap (λ g. judge seen (and_then (counts Turns line) (λ u. statements body g made))) (ap₂ (λ z n. bound z n gens) (sym i) (sym e)) ∙ p)
 
-  pub body_taken : (from : ℤ) (at count : ℕ) (k : ℤ) (inner : Gens) (made more : Body) (seen last : Seen) → at < count → k ≡ from +ℤ pos at → inner ≡ bound v k gens → judge seen (turn line body inner made) ≡ Ok (more, last) →
+  pub body_taken : (from : ℤ) (at count : ℕ) (k : ℤ) (y : Name) (made more : Body) (seen last : Seen) → at < count → k ≡ from +ℤ pos at → y ≡ v → judge seen (turn line body (bound y k gens) made) ≡ Ok (more, last) →
       judge seen (turns line (in_turn body v gens) (from +ℤ pos at) (count - at) made) ≡ judge last (turns line (in_turn body v gens) (from +ℤ pos (at + 1)) (count - (at + 1)) more)
   unfolding turn in_turn
-  body_taken from at count k inner made more seen last h e i p = turns_taken line (in_turn body v gens) from at count made more seen last h
-      (ap (λ g. judge seen (and_then (counts Turns line) (λ u. statements body g made))) (sym (i ∙ ap (λ n. bound v n gens) e)) ∙ p)
+  body_taken from at count k y made more seen last h e i p = turns_taken line (in_turn body v gens) from at count made more seen last h
+      (ap (λ g. judge seen (and_then (counts Turns line) (λ u. statements body g made))) (ap₂ (λ z n. bound z n gens) (sym i) (sym e)) ∙ p)
 
   pub body_first : (from : ℤ) (count : ℕ) (made : Body) (seen : Seen) → judge seen (turns line (in_turn body v gens) (from +ℤ pos 0) (count - 0) made) ≡ judge seen (turns line (in_turn body v gens) from count made)
   body_first from count made seen = turns_first line (in_turn body v gens) from count made seen

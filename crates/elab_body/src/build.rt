@@ -6,15 +6,14 @@ ghost use Rattle.design_core.specs.View.{expr_of, stmt_of, body_of, else_of};
 ghost use Rattle.elab_core.specs.Operators.{unary_of, binary_of};
 ghost use Rattle.elab_core.specs.Elaborated.{added};
 ghost use Rattle.elab_core.specs.Results.{NoMemoryOr};
-ghost use Rattle.elab_base.specs.Scope.{gens_of};
 ghost use Rattle.elab_body.specs.Body.{made_of};
 
 use design_core::{Expr, Stmt};
-use elab_base::Scope;
 use elab_core::ElabFault;
+use gen_scope::Scope;
 use std::alloc::Global;
 use std::boxed::Box;
-use text_core::{Listed, Text};
+use text_core::Text;
 
 /// An operator on a value.
 pub(crate) fn unary(alloc: Global, op: gen_tree::UnOp, value: Expr) -> Result<Expr, ElabFault>
@@ -94,7 +93,7 @@ pub(crate) fn slice(alloc: Global, value: Expr, high: i64, low: i64) -> Result<E
 
 /// An assignment.
 #[tactic(auto, using(design_core::proofs::Views::design_views))]
-pub(crate) fn assignment(line: u32, gens: Listed<(Text, i64)>, target: Text, value: Expr) -> Stmt
+pub(crate) fn assignment(line: u32, gens: Scope, target: Text, value: Expr) -> Stmt
     ensures { stmt_of result ≡ design.Assign 0 line gens target (expr_of value) }
 {
     Stmt::Assign {
@@ -108,7 +107,7 @@ pub(crate) fn assignment(line: u32, gens: Listed<(Text, i64)>, target: Text, val
 
 /// A `let`.
 #[tactic(auto, using(design_core::proofs::Views::design_views))]
-pub(crate) fn binding(line: u32, gens: Listed<(Text, i64)>, name: Text, value: Expr) -> Stmt
+pub(crate) fn binding(line: u32, gens: Scope, name: Text, value: Expr) -> Stmt
     ensures { stmt_of result ≡ design.Let 0 line gens name (expr_of value) }
 {
     Stmt::Let {
@@ -124,7 +123,7 @@ pub(crate) fn binding(line: u32, gens: Listed<(Text, i64)>, name: Text, value: E
 #[tactic(auto, using(design_core::proofs::Views::design_views))]
 pub(crate) fn choice(
     line: u32,
-    gens: Listed<(Text, i64)>,
+    gens: Scope,
     test: Expr,
     yes: Vec<Stmt>,
     no: Option<Vec<Stmt>>,
@@ -139,14 +138,6 @@ pub(crate) fn choice(
         yes,
         no,
     }
-}
-
-/// All names with their numbers, as a list.
-pub(crate) fn listed(alloc: Global, scope: &Scope) -> Result<Listed<(Text, i64)>, ElabFault>
-    ensures { NoMemoryOr (λ gens. gens ≡ gens_of scope.now) result }
-{
-    let gens = scope.gens(alloc)?;
-    Ok(Listed::new(gens))
 }
 
 /// One statement more.

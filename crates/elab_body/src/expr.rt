@@ -5,11 +5,11 @@ ghost use Rattle.elab_core.specs.Results.{Judged};
 ghost use Rattle.elab_core.specs.Walk.{judge};
 ghost use Rattle.elab_core.specs.Elab.{expr as walk};
 ghost use Rattle.elab_base.specs.Met.{met_of};
-ghost use Rattle.elab_base.specs.Scope.{gens_of};
 
 use crate::build::{binary, mux, slice, unary, zext};
-use elab_base::{Met, Scope, family_name, literal_at, number_at, two_numbers};
+use elab_base::{Met, family_name, literal_at, number_at, two_numbers};
 use elab_core::{Count, ElabFault};
+use gen_scope::Scope;
 use gen_tree::Expr;
 use std::alloc::Global;
 use text_core::Text;
@@ -24,7 +24,7 @@ pub fn expression(
     line: u32,
     scope: &Scope,
 ) -> Result<design_core::Expr, ElabFault>
-    ensures judged { Judged (λ e. expr_of e) result (met_of met.new) (judge (met_of met.old) (walk line (gens_of scope.now) (source_of expr.now))) }
+    ensures judged { Judged (λ e. expr_of e) result (met_of met.new) (judge (met_of met.old) (walk line scope.now (source_of expr.now))) }
     ensures instances { OnOk result (met.new.instances ≡ met.old.instances) }
 {
     met.take(Count::Parts, line)?;

@@ -6,14 +6,14 @@ ghost use Rattle.design_core.specs.View.{expr_of, stmt_of};
 ghost use Rattle.elab_core.specs.Results.{Judged};
 ghost use Rattle.elab_core.specs.Walk.{judge};
 ghost use Rattle.elab_base.specs.Met.{met_of};
-ghost use Rattle.elab_base.specs.Scope.{gens_of};
 ghost use Rattle.elab_body.specs.Body.{assigned as assigned_by, bound_let as bound_by, tested as tested_by};
 
-use crate::build::{assignment, binding, listed};
+use crate::build::{assignment, binding};
 use crate::expression;
 use design_core::Stmt;
-use elab_base::{Met, Scope, family_name};
+use elab_base::{Met, family_name};
 use elab_core::{Count, ElabFault};
+use gen_scope::Scope;
 use gen_tree::{Expr, Fam};
 use std::alloc::Global;
 
@@ -27,13 +27,13 @@ pub(crate) fn assigned(
     target: &Fam,
     value: &Expr,
 ) -> Result<Stmt, ElabFault>
-    ensures judged { Judged (λ s. stmt_of s) result (met_of met.new) (judge (met_of met.old) (assigned_by line (gens_of scope.now) (fam_of target.now) (source_of value.now))) }
+    ensures judged { Judged (λ s. stmt_of s) result (met_of met.new) (judge (met_of met.old) (assigned_by line scope.now (fam_of target.now) (source_of value.now))) }
     ensures instances { OnOk result (met.new.instances ≡ met.old.instances) }
 {
     met.take(Count::Statements, line)?;
     let target = family_name(alloc, line, scope, target)?;
     let value = expression(alloc, met, value, line, scope)?;
-    let gens = listed(alloc, scope)?;
+    let gens = scope.clone()?;
     Ok(assignment(line, gens, target, value))
 }
 
@@ -47,13 +47,13 @@ pub(crate) fn bound(
     name: &Fam,
     value: &Expr,
 ) -> Result<Stmt, ElabFault>
-    ensures judged { Judged (λ s. stmt_of s) result (met_of met.new) (judge (met_of met.old) (bound_by line (gens_of scope.now) (fam_of name.now) (source_of value.now))) }
+    ensures judged { Judged (λ s. stmt_of s) result (met_of met.new) (judge (met_of met.old) (bound_by line scope.now (fam_of name.now) (source_of value.now))) }
     ensures instances { OnOk result (met.new.instances ≡ met.old.instances) }
 {
     met.take(Count::Statements, line)?;
     let name = family_name(alloc, line, scope, name)?;
     let value = expression(alloc, met, value, line, scope)?;
-    let gens = listed(alloc, scope)?;
+    let gens = scope.clone()?;
     Ok(binding(line, gens, name, value))
 }
 
@@ -66,7 +66,7 @@ pub(crate) fn tested(
     scope: &Scope,
     test: &Expr,
 ) -> Result<design_core::Expr, ElabFault>
-    ensures judged { Judged (λ e. expr_of e) result (met_of met.new) (judge (met_of met.old) (tested_by line (gens_of scope.now) (source_of test.now))) }
+    ensures judged { Judged (λ e. expr_of e) result (met_of met.new) (judge (met_of met.old) (tested_by line scope.now (source_of test.now))) }
     ensures instances { OnOk result (met.new.instances ≡ met.old.instances) }
 {
     met.take(Count::Statements, line)?;

@@ -7,15 +7,17 @@ ghost use Rattle.elab_core.specs.Results.{Judged};
 ghost use Rattle.elab_core.specs.Walk.{judge};
 ghost use Rattle.elab_core.specs.Elab.{statement as statement_walk, statements as statements_walk, else_body, turns as turns_walk};
 ghost use Rattle.elab_base.specs.Met.{met_of};
-ghost use Rattle.elab_base.specs.Scope.{gens_of};
+ghost use Rattle.gen_scope.specs.Gens.{bound};
 ghost use Rattle.elab_body.specs.Body.{made_of, branches as branches_walk, turn as turn_walk, in_turn, else_stmts};
 
-use crate::build::{add, choice, listed};
-use crate::simple::{assigned, bound, tested};
-use elab_base::{Met, Scope, Turns, comparison, turns_of};
+use crate::build::{add, choice};
+use crate::simple::{assigned, bound as bound_let, tested};
+use elab_base::{Met, Turns, comparison, shared_name, turns_of};
 use elab_core::{Count, ElabFault};
+use gen_scope::Scope;
 use gen_tree::{Cmp, Expr, Int, Stmt};
 use std::alloc::Global;
+use std::rc::Rc;
 use text_core::Text;
 
 /// Statements one after another, behind those that were made. They have slot 0.
@@ -28,7 +30,7 @@ pub fn statements(
     scope: &Scope,
     made: &mut Vec<design_core::Stmt>,
 ) -> Result<(), ElabFault>
-    ensures judged { Judged (λ _. made_of made.new) result (met_of met.new) (judge (met_of met.old) (statements_walk (stmts_of body.now) (gens_of scope.now) (made_of made.old))) }
+    ensures judged { Judged (λ _. made_of made.new) result (met_of met.new) (judge (met_of met.old) (statements_walk (stmts_of body.now) scope.now (made_of made.old))) }
     ensures instances { OnOk result (met.new.instances ≡ met.old.instances) }
 {
     for statement in body {
@@ -46,7 +48,7 @@ pub fn block(
     body: &[Stmt],
     scope: &Scope,
 ) -> Result<Vec<design_core::Stmt>, ElabFault>
-    ensures judged { Judged (λ made. body_of made.items) result (met_of met.new) (judge (met_of met.old) (statements_walk (stmts_of body.now) (gens_of scope.now) Done)) }
+    ensures judged { Judged (λ made. body_of made.items) result (met_of met.new) (judge (met_of met.old) (statements_walk (stmts_of body.now) scope.now Done)) }
     ensures instances { OnOk result (met.new.instances ≡ met.old.instances) }
 {
     let mut made = Vec::new(alloc);
@@ -64,7 +66,7 @@ fn one_statement(
     scope: &Scope,
     made: &mut Vec<design_core::Stmt>,
 ) -> Result<(), ElabFault>
-    ensures judged { Judged (λ _. made_of made.new) result (met_of met.new) (judge (met_of met.old) (statement_walk (source_stmt_of statement.now) (gens_of scope.now) (made_of made.old))) }
+    ensures judged { Judged (λ _. made_of made.new) result (met_of met.new) (judge (met_of met.old) (statement_walk (source_stmt_of statement.now) scope.now (made_of made.old))) }
     ensures instances { OnOk result (met.new.instances ≡ met.old.instances) }
 {
     match statement {
@@ -78,7 +80,7 @@ fn one_statement(
             Ok(())
         }
         Stmt::Let { line, name, value } => {
-            let statement = bound(alloc, met, *line, scope, name, value)?;
+            let statement = bound_let(alloc, met, *line, scope, name, value)?;
             add(made, statement)?;
             Ok(())
         }
@@ -99,7 +101,7 @@ fn one_statement(
             body,
         } => {
             let turns = turns_of(alloc, *line, scope, from, to)?;
-            all_turns(alloc, met, *line, &turns, var, body, &*scope, made)?;
+            all_turns(alloc, met, *line, &turns, var, body, scope, made)?;
             Ok(())
         }
         Stmt::GenIf {
@@ -129,12 +131,12 @@ fn chosen(
     scope: &Scope,
     made: &mut Vec<design_core::Stmt>,
 ) -> Result<(), ElabFault>
-    ensures judged { Judged (λ _. made_of made.new) result (met_of met.new) (judge (met_of met.old) (statement_walk (tree.choose line (source_of test.now) (stmts_of yes.now) (source_else_of no.now)) (gens_of scope.now) (made_of made.old))) }
+    ensures judged { Judged (λ _. made_of made.new) result (met_of met.new) (judge (met_of met.old) (statement_walk (tree.choose line (source_of test.now) (stmts_of yes.now) (source_else_of no.now)) scope.now (made_of made.old))) }
     ensures instances { OnOk result (met.new.instances ≡ met.old.instances) }
 {
     let test = tested(alloc, met, line, scope, test)?;
     let (yes, no) = branches(alloc, met, yes, no, scope)?;
-    let gens = listed(alloc, scope)?;
+    let gens = scope.clone()?;
     add(made, choice(line, gens, test, yes, no))?;
     Ok(())
 }
@@ -149,7 +151,7 @@ fn branches(
     no: &Option<Vec<Stmt>>,
     scope: &Scope,
 ) -> Result<(Vec<design_core::Stmt>, Option<Vec<design_core::Stmt>>), ElabFault>
-    ensures judged { Judged (λ made. (body_of made.0.items, else_of made.1)) result (met_of met.new) (judge (met_of met.old) (branches_walk (stmts_of yes.now) (source_else_of no.now) (gens_of scope.now))) }
+    ensures judged { Judged (λ made. (body_of made.0.items, else_of made.1)) result (met_of met.new) (judge (met_of met.old) (branches_walk (stmts_of yes.now) (source_else_of no.now) scope.now)) }
     ensures instances { OnOk result (met.new.instances ≡ met.old.instances) }
 {
     let yes = block(alloc, met, yes, scope)?;
@@ -166,7 +168,7 @@ fn otherwise(
     no: &Option<Vec<Stmt>>,
     scope: &Scope,
 ) -> Result<Option<Vec<design_core::Stmt>>, ElabFault>
-    ensures judged { Judged (λ made. else_of made) result (met_of met.new) (judge (met_of met.old) (else_body (source_else_of no.now) (gens_of scope.now))) }
+    ensures judged { Judged (λ made. else_of made) result (met_of met.new) (judge (met_of met.old) (else_body (source_else_of no.now) scope.now)) }
     ensures instances { OnOk result (met.new.instances ≡ met.old.instances) }
 {
     match no {
@@ -181,31 +183,28 @@ fn otherwise(
 /// The turns of a loop, one after another.
 #[cycle(statements)]
 #[tactic(auto, using(crate::proofs::StmtLoops::turns_steps, crate::proofs::StmtLoops::signed_steps))]
-fn all_turns<'s>(
+fn all_turns(
     alloc: Global,
     met: &mut Met,
     line: u32,
     turns: &Turns,
-    var: &'s Text,
+    var: &Text,
     body: &[Stmt],
-    scope: &'s Scope<'s>,
+    scope: &Scope,
     made: &mut Vec<design_core::Stmt>,
 ) -> Result<(), ElabFault>
-    ensures judged { Judged (λ _. made_of made.new) result (met_of met.new) (judge (met_of met.old) (turns_walk line (in_turn (stmts_of body.now) var.now (gens_of scope.now)) turns.now.from turns.now.count (made_of made.old))) }
+    ensures judged { Judged (λ _. made_of made.new) result (met_of met.new) (judge (met_of met.old) (turns_walk line (in_turn (stmts_of body.now) var.now scope.now) turns.now.from turns.now.count (made_of made.old))) }
     ensures instances { OnOk result (met.new.instances ≡ met.old.instances) }
 {
+    let name = shared_name(alloc, var)?;
     for turn in 0..turns.count {
-        let inner = Scope::Loop {
-            outer: scope,
-            name: var,
-            number: turns.number(turn),
-        };
-        one_turn(alloc, met, line, body, &inner, made)?;
+        let number = turns.number(turn);
+        one_turn(alloc, met, line, body, scope, &name, number, made)?;
     }
     Ok(())
 }
 
-/// A turn of a loop: its count, then its statements.
+/// A turn of a loop, whose variable has this number: its count, then its statements.
 #[cycle(statements)]
 #[tactic(auto, using(crate::proofs::StmtCases::turn_steps))]
 fn one_turn(
@@ -213,14 +212,17 @@ fn one_turn(
     met: &mut Met,
     line: u32,
     body: &[Stmt],
-    inner: &Scope,
+    scope: &Scope,
+    name: &Rc<Text>,
+    number: i64,
     made: &mut Vec<design_core::Stmt>,
 ) -> Result<(), ElabFault>
-    ensures judged { Judged (λ _. made_of made.new) result (met_of met.new) (judge (met_of met.old) (turn_walk line (stmts_of body.now) (gens_of inner.now) (made_of made.old))) }
+    ensures judged { Judged (λ _. made_of made.new) result (met_of met.new) (judge (met_of met.old) (turn_walk line (stmts_of body.now) (bound name.now.value number scope.now) (made_of made.old))) }
     ensures instances { OnOk result (met.new.instances ≡ met.old.instances) }
 {
     met.take(Count::Turns, line)?;
-    statements(alloc, met, body, inner, made)?;
+    let inner = scope.inner(alloc, name, number)?;
+    statements(alloc, met, body, &inner, made)?;
     Ok(())
 }
 
@@ -239,7 +241,7 @@ fn taken(
     scope: &Scope,
     made: &mut Vec<design_core::Stmt>,
 ) -> Result<(), ElabFault>
-    ensures judged { Judged (λ _. made_of made.new) result (met_of met.new) (judge (met_of met.old) (statement_walk (tree.given line (int_of left.now) cmp (int_of right.now) (stmts_of yes.now) (source_else_of no.now)) (gens_of scope.now) (made_of made.old))) }
+    ensures judged { Judged (λ _. made_of made.new) result (met_of met.new) (judge (met_of met.old) (statement_walk (tree.given line (int_of left.now) cmp (int_of right.now) (stmts_of yes.now) (source_else_of no.now)) scope.now (made_of made.old))) }
     ensures instances { OnOk result (met.new.instances ≡ met.old.instances) }
 {
     let holds = comparison(alloc, line, scope, left, cmp, right)?;

@@ -196,15 +196,15 @@ pub turn_fault_1 : (ms : List Module) (enter : Enter) (here : Here) (line : ℕ)
 unfolding turn
 turn_fault_1 ms enter here line body inner made seen x e1 = refused _ _ _ _ e1
 
-pub turn_done : (ms : List Module) (enter : Enter) (here : Here) (line : ℕ) (body : Items) (inner : Gens) (made : Made) (seen s1 : Seen) (last : Made) (after : Seen) → judge seen (counts Turns line) ≡ Ok (tt, s1) → judge s1 (items_walk ms enter here body inner made) ≡ Ok (last, after) →
+pub turn_done : (ms : List Module) (enter : Enter) (here : Here) (line : ℕ) (body : Items) (inner same : Gens) (made : Made) (seen s1 : Seen) (last : Made) (after : Seen) → judge seen (counts Turns line) ≡ Ok (tt, s1) → same ≡ inner → judge s1 (items_walk ms enter here body same made) ≡ Ok (last, after) →
     judge seen (turn ms enter here line body inner made) ≡ Ok (last, after)
 unfolding turn
-turn_done ms enter here line body inner made seen s1 last after e1 e2 = counted _ _ _ _ _ _ e1 (e2)
+turn_done ms enter here line body inner same made seen s1 last after e1 i e2 = counted _ _ _ _ _ _ e1 (ap (λ g. judge s1 (items_walk ms enter here body g made)) (sym i) ∙ e2)
 
-pub turn_last_fault : (ms : List Module) (enter : Enter) (here : Here) (line : ℕ) (body : Items) (inner : Gens) (made : Made) (seen s1 : Seen) (x : Fault) → judge seen (counts Turns line) ≡ Ok (tt, s1) → judge s1 (items_walk ms enter here body inner made) ≡ Err x →
+pub turn_last_fault : (ms : List Module) (enter : Enter) (here : Here) (line : ℕ) (body : Items) (inner same : Gens) (made : Made) (seen s1 : Seen) (x : Fault) → judge seen (counts Turns line) ≡ Ok (tt, s1) → same ≡ inner → judge s1 (items_walk ms enter here body same made) ≡ Err x →
     judge seen (turn ms enter here line body inner made) ≡ Err x
 unfolding turn
-turn_last_fault ms enter here line body inner made seen s1 x e1 e2 = counted _ _ _ _ _ _ e1 (e2)
+turn_last_fault ms enter here line body inner same made seen s1 x e1 i e2 = counted _ _ _ _ _ _ e1 (ap (λ g. judge s1 (items_walk ms enter here body g made)) (sym i) ∙ e2)
 
 pub entry_fault_1 : (line : ℕ) (ps : List Port) (seen : Seen) (x : Fault) → judge seen (counts Instances line) ≡ Err x →
     judge seen (entry line ps) ≡ Err x

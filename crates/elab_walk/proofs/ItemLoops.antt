@@ -1,5 +1,5 @@
 -- Items one after another, and turns one after another.
-use Rattle.std.proofs.Common.{◌≡◌, ℕ, ◌+◌, ◌-◌, ◌<◌, ◌≤◌, ℤ, pos, ◌+ℤ◌, List, [], ◌∷◌, length, get_or, drop, Ok, Err, refl, sym, ap, ◌∙◌}
+use Rattle.std.proofs.Common.{◌≡◌, ℕ, ◌+◌, ◌-◌, ◌<◌, ◌≤◌, ℤ, pos, ◌+ℤ◌, List, [], ◌∷◌, length, get_or, drop, Ok, Err, refl, sym, ap, ap₂, ◌∙◌}
 use Rattle.std.proofs.Math.ListN.{drop_of_length-le}
 use Rattle.gen_tree.specs.Tree.{Items, Module}
 use Rattle.gen_tree.specs.declared.Item as source_item
@@ -43,17 +43,17 @@ module _ (ms : List Module) (enter : Enter) (here : Here) where
 pub ruleset items_steps = (items_at, items_fault_at, items_end)
 
 module _ (ms : List Module) (enter : Enter) (here : Here) (line : ℕ) (body : Items) (v : Name) (gens : Gens) where
-  pub body_fault : (from : ℤ) (at count : ℕ) (k : ℤ) (inner : Gens) (made : Made) (seen : Seen) (x : Fault) → at < count → k ≡ from +ℤ pos at → inner ≡ bound v k gens → judge seen (turn ms enter here line body inner made) ≡ Err x →
+  pub body_fault : (from : ℤ) (at count : ℕ) (k : ℤ) (y : Name) (made : Made) (seen : Seen) (x : Fault) → at < count → k ≡ from +ℤ pos at → y ≡ v → judge seen (turn ms enter here line body (bound y k gens) made) ≡ Err x →
       judge seen (turns line (in_turn ms enter here body v gens) (from +ℤ pos at) (count - at) made) ≡ Err x
   unfolding turn in_turn
-  body_fault from at count k inner made seen x h e i p = turns_fault line (in_turn ms enter here body v gens) from at count made seen x h
-      (ap (λ g. judge seen (and_then (counts Turns line) (λ u. items_walk ms enter here body g made))) (sym (i ∙ ap (λ n. bound v n gens) e)) ∙ p)
+  body_fault from at count k y made seen x h e i p = turns_fault line (in_turn ms enter here body v gens) from at count made seen x h
+      (ap (λ g. judge seen (and_then (counts Turns line) (λ u. items_walk ms enter here body g made))) (ap₂ (λ z n. bound z n gens) (sym i) (sym e)) ∙ p)
 
-  pub body_taken : (from : ℤ) (at count : ℕ) (k : ℤ) (inner : Gens) (made more : Made) (seen last : Seen) → at < count → k ≡ from +ℤ pos at → inner ≡ bound v k gens → judge seen (turn ms enter here line body inner made) ≡ Ok (more, last) →
+  pub body_taken : (from : ℤ) (at count : ℕ) (k : ℤ) (y : Name) (made more : Made) (seen last : Seen) → at < count → k ≡ from +ℤ pos at → y ≡ v → judge seen (turn ms enter here line body (bound y k gens) made) ≡ Ok (more, last) →
       judge seen (turns line (in_turn ms enter here body v gens) (from +ℤ pos at) (count - at) made) ≡ judge last (turns line (in_turn ms enter here body v gens) (from +ℤ pos (at + 1)) (count - (at + 1)) more)
   unfolding turn in_turn
-  body_taken from at count k inner made more seen last h e i p = turns_taken line (in_turn ms enter here body v gens) from at count made more seen last h
-      (ap (λ g. judge seen (and_then (counts Turns line) (λ u. items_walk ms enter here body g made))) (sym (i ∙ ap (λ n. bound v n gens) e)) ∙ p)
+  body_taken from at count k y made more seen last h e i p = turns_taken line (in_turn ms enter here body v gens) from at count made more seen last h
+      (ap (λ g. judge seen (and_then (counts Turns line) (λ u. items_walk ms enter here body g made))) (ap₂ (λ z n. bound z n gens) (sym i) (sym e)) ∙ p)
 
   pub body_first : (from : ℤ) (count : ℕ) (made : Made) (seen : Seen) → judge seen (turns line (in_turn ms enter here body v gens) (from +ℤ pos 0) (count - 0) made) ≡ judge seen (turns line (in_turn ms enter here body v gens) from count made)
   body_first from count made seen = turns_first line (in_turn ms enter here body v gens) from count made seen

@@ -10,7 +10,7 @@ use Rattle.gen_tree.specs.View.{module_of, modules_of}
 use Rattle.exec_core.specs.Block.{Name}
 use Rattle.elab_core.specs.Walk.{Gives, Faulty, UnknownModule}
 use Rattle.elab_core.specs.Elab.{places, only, module_named}
-use Rattle.elab_base.proofs.Names.{same_name}
+use Rattle.gen_scope.proofs.Names.{same_name}
 use Rattle.elab_walk.specs.Modules.{sole, LeadsTo}
 
 abbrev pub Entry : Type 0

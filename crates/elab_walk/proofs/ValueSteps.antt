@@ -11,7 +11,7 @@ use Rattle.design_core.specs.Design.{Gens}
 use Rattle.elab_core.specs.Walk.{Walk, Gives, Faulty, Fault, UnknownParameter, and_then}
 use Rattle.elab_core.specs.Numbers.{find, number}
 use Rattle.elab_core.specs.Elab.{has_name, distinct, is_free, arguments, given_or, parameters, values, top_arguments, top_values}
-use Rattle.elab_base.proofs.Names.{same_name}
+use Rattle.gen_scope.proofs.Names.{same_name}
 use Rattle.elab_base.proofs.Steps.{gives_then, faulty_then}
 use Rattle.elab_body.proofs.StmtLoops.{next_of}
 use Rattle.elab_walk.specs.Values.{names_of, is_open, arguments_by, top_arguments_by}

@@ -1,5 +1,5 @@
 use design_core::Conn;
-use elab_base::Params;
+use gen_scope::Scope;
 use text_core::Text;
 
 /// A child as it is asked for: its name, the place of its module in the source, its parameters and connections.
@@ -8,6 +8,6 @@ pub(crate) struct Asked {
     pub line: u32,
     pub name: Text,
     pub place: usize,
-    pub params: Params,
+    pub params: Scope,
     pub conns: Vec<Conn>,
 }

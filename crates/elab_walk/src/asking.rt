@@ -6,7 +6,6 @@ ghost use Rattle.elab_core.specs.Results.{Judged};
 ghost use Rattle.elab_core.specs.Walk.{judge};
 ghost use Rattle.elab_core.specs.Elab.{asked as asked_walk};
 ghost use Rattle.elab_base.specs.Met.{met_of};
-ghost use Rattle.elab_base.specs.Scope.{gens_of};
 ghost use Rattle.elab_walk.specs.Height.{height, tallest};
 ghost use Rattle.elab_walk.specs.Walked.{asked_of};
 
@@ -14,8 +13,9 @@ use crate::asked::Asked;
 use crate::modules::Modules;
 use crate::signals::connections;
 use crate::values::values;
-use elab_base::{Met, Scope, family_name};
+use elab_base::{Met, family_name};
 use elab_core::ElabFault;
+use gen_scope::Scope;
 use gen_tree::{Conn, Fam, Module, Param};
 use std::alloc::Global;
 
@@ -32,7 +32,7 @@ pub(crate) fn asked<'m>(
     args: &[Param],
     conns: &[Conn],
 ) -> Result<(Asked, &'m Module), ElabFault>
-    ensures judged { Judged (λ want. asked_of want.0 (module_of want.1.now)) result (met_of met.new) (judge (met_of met.old) (asked_walk (modules_of modules.now.all.now) line (gens_of scope.now) (fam_of name.now) child.now (map param_of args.now) (map conn_of conns.now))) }
+    ensures judged { Judged (λ want. asked_of want.0 (module_of want.1.now)) result (met_of met.new) (judge (met_of met.old) (asked_walk (modules_of modules.now.all.now) line scope.now (fam_of name.now) child.now (map param_of args.now) (map conn_of conns.now))) }
     ensures instances { OnOk result (met.new.instances ≡ met.old.instances) }
     ensures height { IfOk result (λ want. height (module_of want.1.now).items ≤ tallest (modules_of modules.now.all.now)) }
 {

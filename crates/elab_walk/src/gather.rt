@@ -10,10 +10,10 @@ ghost use Rattle.elab_walk.specs.Walked.{made_of, placed_of, child_in, with_aske
 use crate::asked::Asked;
 use crate::made::{Here, Made};
 use design_core::{Block, Kind, Signal, Stmt};
-use elab_base::Params;
 use elab_core::{Child, Content, ElabFault, Instance};
+use gen_scope::Scope;
 use std::alloc::Global;
-use text_core::{Listed, Text};
+use text_core::Text;
 
 /// A body that gave its ports so far.
 #[tactic(auto, unfolding(crate::specs::Walked::made_of, crate::specs::Walked::placed_of, elab_core::specs::View::content_of))]
@@ -114,24 +114,23 @@ fn signals_of(instances: &[Instance]) -> &[Signal]
 
 /// A child, from what was asked for.
 #[tactic(auto, unfolding(elab_core::specs::View::child_of))]
-fn made_child(alloc: Global, want: Asked) -> Result<Child, ElabFault>
-    ensures { NoMemoryOr (λ child. child_seen child ≡ child_in want) result }
+fn made_child(want: Asked) -> Child
+    ensures { child_seen result ≡ child_in want }
 {
-    let params = Listed::new(want.params.gens(alloc)?);
     let Asked {
-        line,
-        name,
-        place,
-        params: _,
-        conns,
-    } = want;
-    Ok(Child {
         line,
         name,
         place,
         params,
         conns,
-    })
+    } = want;
+    Child {
+        line,
+        name,
+        place,
+        params,
+        conns,
+    }
 }
 
 /// One child more, with the instances that it and those below it are. Its outputs are signals.
@@ -156,8 +155,7 @@ pub(crate) fn add_child(
         signals_of(&instances),
     )?;
     made.below.append(&mut instances)?;
-    let child = made_child(alloc, want)?;
-    made.content.children.push(child)?;
+    made.content.children.push(made_child(want))?;
     Ok(())
 }
 
@@ -168,13 +166,13 @@ pub(crate) fn placed(
     path: Text,
     parent: Option<u32>,
     place: usize,
-    params: &Params,
+    params: &Scope,
     made: Made,
 ) -> Result<Vec<Instance>, ElabFault>
     ensures instances { NoMemoryOr (λ all. placed_of all.items ≡ instances_of path parent place params.now (made_of made)) result }
     ensures count { IfOk result (λ all. length all.items ≡ length made.below.items + 1) }
 {
-    let params = Listed::new(params.gens(alloc)?);
+    let params = params.clone()?;
     let Made { content, mut below } = made;
     let mut all = Vec::new(alloc);
     all.push(Instance {

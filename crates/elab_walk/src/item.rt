@@ -7,7 +7,7 @@ ghost use Rattle.elab_core.specs.Results.{Judged, NoMemoryOr};
 ghost use Rattle.elab_core.specs.Walk.{judge};
 ghost use Rattle.elab_core.specs.Elab.{item_walk, items_walk, module_walk, instance as instance_walk, turns as turns_walk};
 ghost use Rattle.elab_base.specs.Met.{met_of};
-ghost use Rattle.elab_base.specs.Scope.{gens_of};
+ghost use Rattle.gen_scope.specs.Gens.{bound};
 ghost use Rattle.elab_walk.specs.Height.{height, tallest};
 ghost use Rattle.elab_walk.specs.Walked.{made_of, placed_of, here_of, asked_of, turn as turn_walk, in_turn, else_items, entry as entry_walk};
 
@@ -17,11 +17,13 @@ use crate::gather::{add_block, add_child, add_signal, begun, placed};
 use crate::made::{Here, Made};
 use crate::modules::Modules;
 use crate::signals::{count_outputs, counted_register, counted_wire, ports};
-use elab_base::{Met, Params, Scope, Turns, comparison, turns_of};
+use elab_base::{Met, Turns, comparison, shared_name, turns_of};
 use elab_body::block;
 use elab_core::{Count, ElabFault, Instance};
+use gen_scope::Scope;
 use gen_tree::{Cmp, Conn, Fam, Int, Item, Module, Param, Port};
 use std::alloc::Global;
+use std::rc::Rc;
 use text_core::Text;
 
 /// Items one after another, behind what was made.
@@ -38,7 +40,7 @@ fn items(
     made: &mut Made,
 ) -> Result<(), ElabFault>
     requires { met.old.instances ≡ here.now.number + 1 + length (made_of made.old).below }
-    ensures judged { Judged (λ _. made_of made.new) result (met_of met.new) (judge (met_of met.old) (items_walk (modules_of modules.now.all.now) (instance_walk (modules_of modules.now.all.now) room) (here_of here.now) (items_of body.now) (gens_of scope.now) (made_of made.old))) }
+    ensures judged { Judged (λ _. made_of made.new) result (met_of met.new) (judge (met_of met.old) (items_walk (modules_of modules.now.all.now) (instance_walk (modules_of modules.now.all.now) room) (here_of here.now) (items_of body.now) scope.now (made_of made.old))) }
     ensures counted { OnOk result (met.new.instances ≡ here.now.number + 1 + length (made_of made.new).below) }
 {
     for item in body {
@@ -61,7 +63,7 @@ fn one_item(
     made: &mut Made,
 ) -> Result<(), ElabFault>
     requires { met.old.instances ≡ here.now.number + 1 + length (made_of made.old).below }
-    ensures judged { Judged (λ _. made_of made.new) result (met_of met.new) (judge (met_of met.old) (item_walk (modules_of modules.now.all.now) (instance_walk (modules_of modules.now.all.now) room) (here_of here.now) (item_of item.now) (gens_of scope.now) (made_of made.old))) }
+    ensures judged { Judged (λ _. made_of made.new) result (met_of met.new) (judge (met_of met.old) (item_walk (modules_of modules.now.all.now) (instance_walk (modules_of modules.now.all.now) room) (here_of here.now) (item_of item.now) scope.now (made_of made.old))) }
     ensures counted { OnOk result (met.new.instances ≡ here.now.number + 1 + length (made_of made.new).below) }
 {
     match item {
@@ -122,7 +124,7 @@ fn one_item(
         } => {
             let turns = turns_of(alloc, *line, scope, from, to)?;
             all_turns(
-                alloc, met, modules, room, here, *line, &turns, var, body, &*scope, made,
+                alloc, met, modules, room, here, *line, &turns, var, body, scope, made,
             )?;
             Ok(())
         }
@@ -160,7 +162,7 @@ fn child(
     made: &mut Made,
 ) -> Result<(), ElabFault>
     requires { met.old.instances ≡ here.now.number + 1 + length (made_of made.old).below }
-    ensures judged { Judged (λ _. made_of made.new) result (met_of met.new) (judge (met_of met.old) (item_walk (modules_of modules.now.all.now) (instance_walk (modules_of modules.now.all.now) room) (here_of here.now) (tree.inst line (fam_of name.now) of.now (map param_of args.now) (map conn_of conns.now)) (gens_of scope.now) (made_of made.old))) }
+    ensures judged { Judged (λ _. made_of made.new) result (met_of met.new) (judge (met_of met.old) (item_walk (modules_of modules.now.all.now) (instance_walk (modules_of modules.now.all.now) room) (here_of here.now) (tree.inst line (fam_of name.now) of.now (map param_of args.now) (map conn_of conns.now)) scope.now (made_of made.old))) }
     ensures counted { OnOk result (met.new.instances ≡ here.now.number + 1 + length (made_of made.new).below) }
 {
     let (want, found) = asked(alloc, met, modules, line, scope, name, of, args, conns)?;
@@ -172,7 +174,7 @@ fn child(
 /// The turns of a loop, one after another.
 #[cycle(walking)]
 #[tactic(auto, using(crate::proofs::ItemLoops::turns_steps, elab_body::proofs::StmtLoops::signed_steps))]
-fn all_turns<'s>(
+fn all_turns(
     alloc: Global,
     met: &mut Met,
     modules: &Modules,
@@ -180,27 +182,26 @@ fn all_turns<'s>(
     here: &Here,
     line: u32,
     turns: &Turns,
-    var: &'s Text,
+    var: &Text,
     body: &[Item],
-    scope: &'s Scope<'s>,
+    scope: &Scope,
     made: &mut Made,
 ) -> Result<(), ElabFault>
     requires { met.old.instances ≡ here.now.number + 1 + length (made_of made.old).below }
-    ensures judged { Judged (λ _. made_of made.new) result (met_of met.new) (judge (met_of met.old) (turns_walk line (in_turn (modules_of modules.now.all.now) (instance_walk (modules_of modules.now.all.now) room) (here_of here.now) (items_of body.now) var.now (gens_of scope.now)) turns.now.from turns.now.count (made_of made.old))) }
+    ensures judged { Judged (λ _. made_of made.new) result (met_of met.new) (judge (met_of met.old) (turns_walk line (in_turn (modules_of modules.now.all.now) (instance_walk (modules_of modules.now.all.now) room) (here_of here.now) (items_of body.now) var.now scope.now) turns.now.from turns.now.count (made_of made.old))) }
     ensures counted { OnOk result (met.new.instances ≡ here.now.number + 1 + length (made_of made.new).below) }
 {
+    let name = shared_name(alloc, var)?;
     for turn in 0..turns.count {
-        let inner = Scope::Loop {
-            outer: scope,
-            name: var,
-            number: turns.number(turn),
-        };
-        one_turn(alloc, met, modules, room, here, line, body, &inner, made)?;
+        let number = turns.number(turn);
+        one_turn(
+            alloc, met, modules, room, here, line, body, scope, &name, number, made,
+        )?;
     }
     Ok(())
 }
 
-/// A turn of a loop: its count, then its items.
+/// A turn of a loop, whose variable has this number: its count, then its items.
 #[cycle(walking)]
 #[tactic(auto, using(crate::proofs::ItemCases::turn_steps))]
 fn one_turn(
@@ -211,15 +212,18 @@ fn one_turn(
     here: &Here,
     line: u32,
     body: &[Item],
-    inner: &Scope,
+    scope: &Scope,
+    name: &Rc<Text>,
+    number: i64,
     made: &mut Made,
 ) -> Result<(), ElabFault>
     requires { met.old.instances ≡ here.now.number + 1 + length (made_of made.old).below }
-    ensures judged { Judged (λ _. made_of made.new) result (met_of met.new) (judge (met_of met.old) (turn_walk (modules_of modules.now.all.now) (instance_walk (modules_of modules.now.all.now) room) (here_of here.now) line (items_of body.now) (gens_of inner.now) (made_of made.old))) }
+    ensures judged { Judged (λ _. made_of made.new) result (met_of met.new) (judge (met_of met.old) (turn_walk (modules_of modules.now.all.now) (instance_walk (modules_of modules.now.all.now) room) (here_of here.now) line (items_of body.now) (bound name.now.value number scope.now) (made_of made.old))) }
     ensures counted { OnOk result (met.new.instances ≡ here.now.number + 1 + length (made_of made.new).below) }
 {
     met.take(Count::Turns, line)?;
-    items(alloc, met, modules, room, here, body, inner, made)?;
+    let inner = scope.inner(alloc, name, number)?;
+    items(alloc, met, modules, room, here, body, &inner, made)?;
     Ok(())
 }
 
@@ -242,7 +246,7 @@ fn taken(
     made: &mut Made,
 ) -> Result<(), ElabFault>
     requires { met.old.instances ≡ here.now.number + 1 + length (made_of made.old).below }
-    ensures judged { Judged (λ _. made_of made.new) result (met_of met.new) (judge (met_of met.old) (item_walk (modules_of modules.now.all.now) (instance_walk (modules_of modules.now.all.now) room) (here_of here.now) (tree.given_items line (int_of left.now) cmp (int_of right.now) (items_of yes.now) (else_items_of no.now)) (gens_of scope.now) (made_of made.old))) }
+    ensures judged { Judged (λ _. made_of made.new) result (met_of met.new) (judge (met_of met.old) (item_walk (modules_of modules.now.all.now) (instance_walk (modules_of modules.now.all.now) room) (here_of here.now) (tree.given_items line (int_of left.now) cmp (int_of right.now) (items_of yes.now) (else_items_of no.now)) scope.now (made_of made.old))) }
     ensures counted { OnOk result (met.new.instances ≡ here.now.number + 1 + length (made_of made.new).below) }
 {
     let holds = comparison(alloc, line, scope, left, cmp, right)?;
@@ -261,14 +265,13 @@ pub(crate) fn body_of(
     room: u32,
     here: &Here,
     found: &Module,
-    params: &Params,
+    params: &Scope,
 ) -> Result<Made, ElabFault>
     requires { met.old.instances ≡ here.now.number + 1 }
     ensures judged { Judged (λ made. made_of made) result (met_of met.new) (judge (met_of met.old) (module_walk (modules_of modules.now.all.now) (instance_walk (modules_of modules.now.all.now) room) (here_of here.now) (module_of found.now) params.now)) }
     ensures counted { IfOk result (λ made. met.new.instances ≡ here.now.number + 1 + length (made_of made).below) }
 {
-    let scope = Scope::Params(params);
-    let signals = ports(alloc, met, &found.ports, &scope)?;
+    let signals = ports(alloc, met, &found.ports, params)?;
     let mut made = begun(alloc, signals);
     items(
         alloc,
@@ -277,7 +280,7 @@ pub(crate) fn body_of(
         room,
         here,
         &found.items,
-        &scope,
+        params,
         &mut made,
     )?;
     Ok(made)

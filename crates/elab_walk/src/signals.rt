@@ -7,13 +7,13 @@ ghost use Rattle.elab_core.specs.Results.{AnswersWith, Judged};
 ghost use Rattle.elab_core.specs.Walk.{judge};
 ghost use Rattle.elab_core.specs.Elab.{ports as ports_walk, conns as conns_walk, count_outputs as outputs_walk, wire_signal, register as register_walk};
 ghost use Rattle.elab_base.specs.Met.{met_of};
-ghost use Rattle.elab_base.specs.Scope.{gens_of};
 ghost use Rattle.elab_walk.specs.Walked.{port_signal, connection as connection_walk, counted_wire as counted_wire_walk, counted_register as counted_register_walk};
 
 use design_core::{Conn, Kind, Signal};
-use elab_base::{Met, Scope, family_name, literal_at, number_at};
+use elab_base::{Met, family_name, literal_at, number_at};
 use elab_body::expression;
 use elab_core::{Count, ElabFault};
+use gen_scope::Scope;
 use gen_tree::{Fam, Int, Lit, Port};
 use std::alloc::Global;
 use text_core::Text;
@@ -27,7 +27,7 @@ fn wire(
     name: &Fam,
     width: &Int,
 ) -> Result<Signal, ElabFault>
-    ensures { AnswersWith (λ s. s) result (wire_signal line (gens_of scope.now) (fam_of name.now) (int_of width.now)) }
+    ensures { AnswersWith (λ s. s) result (wire_signal line scope.now (fam_of name.now) (int_of width.now)) }
 {
     let name = family_name(alloc, line, scope, name)?;
     let width = number_at(alloc, line, scope, width)?;
@@ -49,7 +49,7 @@ fn register(
     width: &Int,
     start: &Lit,
 ) -> Result<Signal, ElabFault>
-    ensures { AnswersWith (λ s. s) result (register_walk line (gens_of scope.now) (fam_of name.now) (int_of width.now) (lit_of start.now)) }
+    ensures { AnswersWith (λ s. s) result (register_walk line scope.now (fam_of name.now) (int_of width.now) (lit_of start.now)) }
 {
     let name = family_name(alloc, line, scope, name)?;
     let width = number_at(alloc, line, scope, width)?;
@@ -72,7 +72,7 @@ pub(crate) fn counted_wire(
     name: &Fam,
     width: &Int,
 ) -> Result<Signal, ElabFault>
-    ensures judged { Judged (λ s. s) result (met_of met.new) (judge (met_of met.old) (counted_wire_walk line (gens_of scope.now) (fam_of name.now) (int_of width.now))) }
+    ensures judged { Judged (λ s. s) result (met_of met.new) (judge (met_of met.old) (counted_wire_walk line scope.now (fam_of name.now) (int_of width.now))) }
     ensures instances { OnOk result (met.new.instances ≡ met.old.instances) }
 {
     let signal = wire(alloc, line, scope, name, width)?;
@@ -91,7 +91,7 @@ pub(crate) fn counted_register(
     width: &Int,
     start: &Lit,
 ) -> Result<Signal, ElabFault>
-    ensures judged { Judged (λ s. s) result (met_of met.new) (judge (met_of met.old) (counted_register_walk line (gens_of scope.now) (fam_of name.now) (int_of width.now) (lit_of start.now))) }
+    ensures judged { Judged (λ s. s) result (met_of met.new) (judge (met_of met.old) (counted_register_walk line scope.now (fam_of name.now) (int_of width.now) (lit_of start.now))) }
     ensures instances { OnOk result (met.new.instances ≡ met.old.instances) }
 {
     let signal = register(alloc, line, scope, name, width, start)?;
@@ -107,7 +107,7 @@ fn port_as_signal(
     port: &Port,
     scope: &Scope,
 ) -> Result<Signal, ElabFault>
-    ensures judged { Judged (λ s. s) result (met_of met.new) (judge (met_of met.old) (port_signal (port_of port.now) (gens_of scope.now))) }
+    ensures judged { Judged (λ s. s) result (met_of met.new) (judge (met_of met.old) (port_signal (port_of port.now) scope.now)) }
     ensures instances { OnOk result (met.new.instances ≡ met.old.instances) }
 {
     let width = number_at(alloc, port.line, scope, &port.width)?;
@@ -134,7 +134,7 @@ pub(crate) fn ports(
     ports: &[Port],
     scope: &Scope,
 ) -> Result<Vec<Signal>, ElabFault>
-    ensures judged { Judged (λ signals. signals.items) result (met_of met.new) (judge (met_of met.old) (ports_walk (map port_of ports.now) (gens_of scope.now) [])) }
+    ensures judged { Judged (λ signals. signals.items) result (met_of met.new) (judge (met_of met.old) (ports_walk (map port_of ports.now) scope.now [])) }
     ensures instances { OnOk result (met.new.instances ≡ met.old.instances) }
 {
     let mut signals = Vec::new(alloc);
@@ -153,7 +153,7 @@ fn connection(
     conn: &gen_tree::Conn,
     scope: &Scope,
 ) -> Result<Conn, ElabFault>
-    ensures judged { Judged (λ c. conn_of c) result (met_of met.new) (judge (met_of met.old) (connection_walk (source_conn_of conn.now) (gens_of scope.now))) }
+    ensures judged { Judged (λ c. conn_of c) result (met_of met.new) (judge (met_of met.old) (connection_walk (source_conn_of conn.now) scope.now)) }
     ensures instances { OnOk result (met.new.instances ≡ met.old.instances) }
 {
     let value = expression(alloc, met, &conn.value, conn.line, scope)?;
@@ -173,7 +173,7 @@ pub(crate) fn connections(
     conns: &[gen_tree::Conn],
     scope: &Scope,
 ) -> Result<Vec<Conn>, ElabFault>
-    ensures judged { Judged (λ made. map conn_of made.items) result (met_of met.new) (judge (met_of met.old) (conns_walk (map source_conn_of conns.now) (gens_of scope.now) [])) }
+    ensures judged { Judged (λ made. map conn_of made.items) result (met_of met.new) (judge (met_of met.old) (conns_walk (map source_conn_of conns.now) scope.now [])) }
     ensures instances { OnOk result (met.new.instances ≡ met.old.instances) }
 {
     let mut made = Vec::new(alloc);

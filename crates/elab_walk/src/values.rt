@@ -6,12 +6,12 @@ ghost use Rattle.elab_core.specs.Results.{AnswersWith};
 ghost use Rattle.elab_core.specs.Walk.{Gives};
 ghost use Rattle.elab_core.specs.Numbers.{find, number};
 ghost use Rattle.elab_core.specs.Elab.{distinct, given_or, parameters as parameters_walk, values as values_walk, top_values as top_walk};
-ghost use Rattle.elab_base.specs.Scope.{gens_of};
 ghost use Rattle.elab_walk.specs.Values.{names_of as names_in, is_open, arguments_by, top_arguments_by};
 
 use crate::names::Names;
-use elab_base::{Params, Scope, number_at};
+use elab_base::{default_at, number_at};
 use elab_core::ElabFault;
+use gen_scope::{Params, Scope};
 use gen_tree::{Module, Param};
 use std::alloc::Global;
 use text_core::Text;
@@ -50,7 +50,7 @@ fn arguments(
     names: &Names,
     args: &[Param],
 ) -> Result<Params, ElabFault>
-    ensures { AnswersWith (λ given. given) result (arguments_by line (gens_of scope.now) names.now (map param_of args.now) []) }
+    ensures { AnswersWith (λ given. given) result (arguments_by line scope.now names.now (map param_of args.now) []) }
 {
     let mut given = Params::new(alloc);
     for arg in args {
@@ -93,7 +93,7 @@ fn number_of(
     match given.number_of(param.name.bytes()) {
         Some(number) => Ok(number),
         None => {
-            let number = number_at(alloc, line, &Scope::Params(done), &param.value)?;
+            let number = default_at(alloc, line, done, &param.value)?;
             Ok(number)
         }
     }
@@ -120,13 +120,14 @@ pub(crate) fn values(
     scope: &Scope,
     found: &Module,
     args: &[Param],
-) -> Result<Params, ElabFault>
-    ensures { AnswersWith (λ params. params) result (values_walk line (gens_of scope.now) (module_of found.now) (map param_of args.now)) }
+) -> Result<Scope, ElabFault>
+    ensures { AnswersWith (λ params. params) result (values_walk line scope.now (module_of found.now) (map param_of args.now)) }
 {
     let names = names_of(alloc, found)?;
     let given = arguments(alloc, line, scope, &names, args)?;
     let params = parameters(alloc, found, &given)?;
-    Ok(params)
+    let shared = Scope::new(alloc, params)?;
+    Ok(shared)
 }
 
 /// The parameters of the top, where these are given.
@@ -135,11 +136,12 @@ pub(crate) fn top_values(
     alloc: Global,
     found: &Module,
     all: &[(Text, i64)],
-) -> Result<Params, ElabFault>
+) -> Result<Scope, ElabFault>
     ensures { AnswersWith (λ params. params) result (top_walk (module_of found.now) all.now) }
 {
     let names = names_of(alloc, found)?;
     let given = top_arguments(alloc, &names, all)?;
     let params = parameters(alloc, found, &given)?;
-    Ok(params)
+    let shared = Scope::new(alloc, params)?;
+    Ok(shared)
 }

@@ -1,5 +1,7 @@
-use Rattle.std.proofs.Common.{ℕ, ◌<◌, ◌∙◌, [], ◌++◌, codes, map, sym, ap, refl, Err, arith}
+use Rattle.std.proofs.Common.{ℕ, ℤ, ◌<◌, ◌∙◌, [], ◌++◌, codes, map, sym, ap, refl, Err, arith, w64}
+use Rattle.std.proofs.lemmas.Int.{to_z-of_z}
 use Rattle.std.proofs.lemmas.Result.{err_from_is_err_and}
+use Rattle.gen_scope.specs.Gens.{bound}
 use Rattle.gen_tree.specs.View.{items_of, port_of, module_of, modules_of}
 use Rattle.elab_core.specs.Walk.{judge}
 use Rattle.elab_core.specs.Elab.{ports, items_walk, instance}
@@ -7,7 +9,7 @@ use Rattle.elab_base.specs.Met.{met_of}
 use Rattle.elab_body.proofs.Exits.{exit_judged}
 use Rattle.elab_walk.specs.Walked.{made_of, here_of, asked_of, entry}
 use Rattle.elab_walk.proofs.GatherSteps.{made_many}
-use Rattle.elab_walk.proofs.ItemCases.{module_fault, module_items_fault, module_done, inst_below, instance_refused, instance_fault, instance_done}
+use Rattle.elab_walk.proofs.ItemCases.{turn_last_fault, module_fault, module_items_fault, module_done, inst_below, instance_refused, instance_fault, instance_done}
 use Rattle.elab_walk.proofs.item.+walking.Goals as goal
 
 pub body_of-returns-in_err-signals-clause-judged : goal.body_of-returns-in_err-signals-clause-judged
@@ -75,3 +77,11 @@ instances_below-returns-clause-judged t c =
 
 pub instances_below-returns-clause-number : goal.instances_below-returns-clause-number
 instances_below-returns-clause-number t c = omega (arith, c.next_number-number.ensures)
+
+pub one_turn-returns-in_err-items-clause-judged : goal.one_turn-returns-in_err-items-clause-judged
+one_turn-returns-in_err-items-clause-judged t c =
+    let p = err_from_is_err_and c.from_residual-in_err-items.result c.from_residual-in_err-items.ensures.1 in
+    exit_judged _ _ _ _ _ (p.1 ∙ ap (λ x. Err x) p.2)
+    (λ known. turn_last_fault _ _ _ _ _ _ _ _ _ _ _ c.in_ok-take.ensures.judged
+    (c.in_ok-inner.ensures ∙ ap (λ (n : ℤ). bound c.args.name.now.value n c.args.scope.now) (to_z-of_z w64 c.args.number c.ranges.number))
+    (c.in_err-items.ensures.judged known))

@@ -3,7 +3,6 @@ use Rattle.gen_tree.specs.View.{item_of, items_of, else_items_of, module_of, mod
 use Rattle.elab_core.specs.Walk.{judge}
 use Rattle.elab_core.specs.Elab.{items_walk, turns, instance}
 use Rattle.elab_base.specs.Met.{met_of}
-use Rattle.elab_base.specs.Scope.{gens_of}
 use Rattle.elab_walk.specs.Height.{height, height_item, height_else, levels}
 use Rattle.elab_walk.specs.Walked.{made_of, here_of, in_turn}
 use Rattle.elab_walk.proofs.Counted.{Counted}
@@ -11,14 +10,14 @@ use Rattle.elab_walk.proofs.item.+walking.Given as goal
 
 abbrev pub invariant-items-loop-item : goal.invariant-items-loop-item
 invariant-items-loop-item l =
-    Counted (judge (met_of l.met) (items_walk (modules_of l.modules.all.now) (instance (modules_of l.modules.all.now) l.room) (here_of l.here) (items_of (drop l.item-index l.body)) (gens_of l.scope) (made_of l.made)))
-    (judge (met_of l.initial.met) (items_walk (modules_of l.modules.all.now) (instance (modules_of l.modules.all.now) l.room) (here_of l.here) (items_of l.body) (gens_of l.scope) (made_of l.initial.made)))
+    Counted (judge (met_of l.met) (items_walk (modules_of l.modules.all.now) (instance (modules_of l.modules.all.now) l.room) (here_of l.here) (items_of (drop l.item-index l.body)) l.scope (made_of l.made)))
+    (judge (met_of l.initial.met) (items_walk (modules_of l.modules.all.now) (instance (modules_of l.modules.all.now) l.room) (here_of l.here) (items_of l.body) l.scope (made_of l.initial.made)))
     l.met.instances (l.here.number + 1 + length (made_of l.made).below)
 
 abbrev pub invariant-all_turns-loop-turn : goal.invariant-all_turns-loop-turn
 invariant-all_turns-loop-turn l =
-    Counted (judge (met_of l.met) (turns l.line (in_turn (modules_of l.modules.all.now) (instance (modules_of l.modules.all.now) l.room) (here_of l.here) (items_of l.body) l.var (gens_of l.scope)) (l.turns.from +ℤ pos l.turn) (l.turns.count - l.turn) (made_of l.made)))
-    (judge (met_of l.initial.met) (turns l.line (in_turn (modules_of l.modules.all.now) (instance (modules_of l.modules.all.now) l.room) (here_of l.here) (items_of l.body) l.var (gens_of l.scope)) l.turns.from l.turns.count (made_of l.initial.made)))
+    Counted (judge (met_of l.met) (turns l.line (in_turn (modules_of l.modules.all.now) (instance (modules_of l.modules.all.now) l.room) (here_of l.here) (items_of l.body) l.var l.scope) (l.turns.from +ℤ pos l.turn) (l.turns.count - l.turn) (made_of l.made)))
+    (judge (met_of l.initial.met) (turns l.line (in_turn (modules_of l.modules.all.now) (instance (modules_of l.modules.all.now) l.room) (here_of l.here) (items_of l.body) l.var l.scope) l.turns.from l.turns.count (made_of l.initial.made)))
     l.met.instances (l.here.number + 1 + length (made_of l.made).below)
 
 abbrev pub decreases-one_item : goal.decreases-one_item

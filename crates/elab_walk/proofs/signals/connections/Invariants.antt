@@ -4,11 +4,10 @@ use Rattle.design_core.specs.View.{conn_of}
 use Rattle.elab_core.specs.Walk.{judge}
 use Rattle.elab_core.specs.Elab.{conns}
 use Rattle.elab_base.specs.Met.{met_of}
-use Rattle.elab_base.specs.Scope.{gens_of}
 use Rattle.elab_body.proofs.Kept.{Kept}
 use Rattle.elab_walk.proofs.signals.connections.Given as goal
 
 abbrev pub invariant-loop-conn : goal.invariant-loop-conn
 invariant-loop-conn l =
-    Kept (judge (met_of l.met) (conns (map source.conn_of (drop l.conn-index l.conns)) (gens_of l.scope) (map conn_of l.made.items))) (judge (met_of l.initial.met) (conns (map source.conn_of l.conns) (gens_of l.scope) []))
+    Kept (judge (met_of l.met) (conns (map source.conn_of (drop l.conn-index l.conns)) l.scope (map conn_of l.made.items))) (judge (met_of l.initial.met) (conns (map source.conn_of l.conns) l.scope []))
     l.met.instances l.initial.met.instances

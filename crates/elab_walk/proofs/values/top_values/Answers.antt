@@ -1,6 +1,8 @@
-use Rattle.std.proofs.Common.{◌∙◌, ap, Err}
+use Rattle.std.proofs.Common.{◌∙◌, sym, ap, Err}
 use Rattle.std.proofs.lemmas.Result.{err_from_is_err_and}
 use Rattle.gen_tree.specs.View.{module_of}
+use Rattle.gen_scope.specs.Gens.{Gens}
+use Rattle.elab_core.specs.Walk.{Gives}
 use Rattle.elab_walk.proofs.Exits.{exit_answers}
 use Rattle.elab_walk.proofs.ValueSteps.{top_twice, top_fault, top_done}
 use Rattle.elab_walk.proofs.values.top_values.Goals as goal
@@ -21,3 +23,4 @@ returns-in_err-params c =
 pub returns : goal.returns
 returns c = top_done (module_of c.args.found.now) c.args.all.now c.in_ok-names.names c.in_ok-given.given c.in_ok-params.params
     c.in_ok-names.ensures.distinct c.in_ok-names.ensures.names c.in_ok-given.ensures c.in_ok-params.ensures
+    ∙ ap (λ (params : Gens). Gives params) (sym c.in_ok-shared.ensures)
