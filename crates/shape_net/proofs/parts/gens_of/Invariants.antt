@@ -1,6 +1,7 @@
-use Rattle.std.proofs.Common.{◌≡◌, map, take}
+use Rattle.std.proofs.Common.{◌≡◌, ◌++◌, map}
+use Rattle.std.specs.Vec.Iter.{into_iter_items}
 use Rattle.lower_core.specs.Shape.{gen_part}
 use Rattle.shape_net.proofs.parts.gens_of.Given as goal
 
-abbrev pub invariant-loop-variable : goal.invariant-loop-variable
-invariant-loop-variable l = l.parts.items ≡ map gen_part (take l.variable-index l.gens)
+abbrev pub invariant-loop-name : goal.invariant-loop-name
+invariant-loop-name l = l.parts.items ++ map gen_part (into_iter_items l.name-iterator) ≡ map gen_part l.fn.gens.now
