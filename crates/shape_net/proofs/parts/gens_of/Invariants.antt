@@ -4,4 +4,4 @@ use Rattle.lower_core.specs.Shape.{gen_part}
 use Rattle.shape_net.proofs.parts.gens_of.Given as goal
 
 abbrev pub invariant-loop-name : goal.invariant-loop-name
-invariant-loop-name l = l.parts.items ++ map gen_part (into_iter_items l.name-iterator) ≡ map gen_part l.fn.gens.now
+invariant-loop-name l = l.parts.items ++ map gen_part (into_iter_items l.name-iterator) ≡ map gen_part l.fn.gens
