@@ -70,7 +70,7 @@ fn child(alloc: Global, variants: &Variants, met: elab_core::Child) -> Result<Ch
         params,
         conns,
     } = met;
-    let variant = variants.place_of(alloc, place, params.items())?;
+    let variant = variants.place_of(alloc, place, &params)?;
     Ok(Child {
         line,
         name,

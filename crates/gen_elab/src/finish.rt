@@ -20,7 +20,7 @@ pub(crate) fn variant_numbers(
     let mut variants = Variants::new(alloc);
     let mut numbers = Vec::with_capacity(alloc, instances.len())?;
     for instance in instances {
-        let number = variants.insert(alloc, instance.place, instance.params.items())?;
+        let number = variants.insert(alloc, instance.place, &instance.params)?;
         numbers.push(number)?;
     }
     Ok((variants, numbers))

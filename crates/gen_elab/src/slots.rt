@@ -3,16 +3,17 @@ ghost use Rattle.design_core.specs.View.{body_of, else_of, stmt_of};
 ghost use Rattle.elab_core.specs.Design.{size, else_size, stmt_size, numbered, numbered_else, numbered_stmt};
 
 use design_core::Stmt;
+use gen_scope::Scope;
 use std::alloc::Global;
 use std::mem;
-use text_core::{Listed, Text};
+use text_core::Text;
 
 /// A statement that stands for none while one is numbered.
 fn nothing(alloc: Global) -> Stmt {
     Stmt::If {
         slot: 0,
         line: 0,
-        gens: Listed::new(Vec::new(alloc)),
+        gens: Scope::empty(),
         test: design_core::Expr::Read(Text::empty(alloc)),
         yes: Vec::new(alloc),
         no: None,

@@ -1,10 +1,11 @@
 ghost use Rattle.std.specs.Prelude.{◌≡◌, ◌++◌, ◌∷◌, [], IfOk, OnErr, length, if◌then◌else◌, nat_lt};
 ghost use Rattle.gen_elab.specs.Keys.{key_place, the_params};
 
+use gen_scope::Scope;
 use indexmap::IndexSet;
 use std::alloc::Global;
 use std::marker::Model;
-use text_core::{NoMemory, Text};
+use text_core::NoMemory;
 
 /// Modules with parameters, no two the same, which are found by both. Contracts see them in the order in which they came.
 #[derive(Drop)]
@@ -22,11 +23,12 @@ impl Model for Variants {
 }
 
 /// A copy of parameters, as variants are found by them.
-fn copied(alloc: Global, params: &[(Text, i64)]) -> Result<Vec<(Vec<u8>, i64)>, NoMemory>
+fn copied(alloc: Global, params: &Scope) -> Result<Vec<(Vec<u8>, i64)>, NoMemory>
     ensures { IfOk result (λ copy. the_params copy.items ≡ params.now) }
 {
+    let listed = params.list(alloc)?;
     let mut copy = Vec::new(alloc);
-    for (name, number) in params {
+    for (name, number) in &listed {
         copy.push((name.bytes().to_vec(alloc)?, *number))?;
     }
     Ok(copy)
@@ -47,7 +49,7 @@ impl Variants {
         &self,
         alloc: Global,
         place: usize,
-        params: &[(Text, i64)],
+        params: &Scope,
     ) -> Result<usize, NoMemory>
         ensures { IfOk result (λ at. at ≡ key_place (place, params.now) self.now) }
     {
@@ -60,7 +62,7 @@ impl Variants {
         &mut self,
         alloc: Global,
         place: usize,
-        params: &[(Text, i64)],
+        params: &Scope,
     ) -> Result<usize, NoMemory>
         ensures at { IfOk result (λ at. at ≡ key_place (place, params.now) self.old) }
         ensures grown { IfOk result (λ at. self.new ≡ (if nat_lt at (length self.old) then self.old else self.old ++ (place, params.now) ∷ [])) }
