@@ -26,9 +26,9 @@ impl Model for Variants {
 fn copied(alloc: Global, params: &Scope) -> Result<Vec<(Vec<u8>, i64)>, NoMemory>
     ensures { IfOk result (λ copy. the_params copy.items ≡ params.now) }
 {
-    let params = params.list(alloc)?;
+    let listed = params.list(alloc)?;
     let mut copy = Vec::new(alloc);
-    for (name, number) in &params {
+    for (name, number) in &listed {
         copy.push((name.bytes().to_vec(alloc)?, *number))?;
     }
     Ok(copy)
