@@ -49,15 +49,15 @@ record OfSignal (signals : List Signal) (x : Name) : Type 0 where
 
 port_signal : (output : Bool) (signals : List Signal) (port : Name × ℕ) → IsIn port (ports_in output signals) → OfSignal signals port.0
 port_signal output [] port i = absurd i
-port_signal output (s ∷ signals) port i = by_test (is_port output s.kind) i
+port_signal output (s ∷ signals) port i = by_test (λ j. later (port_signal output signals port j)) (is_port output s.kind) i
   where
-    later : IsIn port (ports_in output signals) → OfSignal (s ∷ signals) port.0
-    later j = let r = port_signal output signals port j in record { signal = r.signal; among = inr r.among; name = r.name }
+    later : OfSignal signals port.0 → OfSignal (s ∷ signals) port.0
+    later r = record { signal = r.signal; among = inr r.among; name = r.name }
 
-    by_test : (b : Bool) → IsIn port ((if b then (s.name, bits s.width) ∷ [] else []) ++ ports_in output signals) → OfSignal (s ∷ signals) port.0
-    by_test true (inl e) = record { signal = s; among = inl refl; name = ap (λ (p : Name × ℕ). p.0) e }
-    by_test true (inr j) = later j
-    by_test false j = later j
+    by_test : (IsIn port (ports_in output signals) → OfSignal (s ∷ signals) port.0) → (b : Bool) → IsIn port ((if b then (s.name, bits s.width) ∷ [] else []) ++ ports_in output signals) → OfSignal (s ∷ signals) port.0
+    by_test rest true (inl e) = record { signal = s; among = inl refl; name = ap (λ (p : Name × ℕ). p.0) e }
+    by_test rest true (inr j) = rest j
+    by_test rest false j = rest j
 
 module _ (d : Design) (pairs : List Pair) (mode : Mode) (net : NetParts) (ports : Ports) (m : Module) (h : IsPrintedAs d pairs mode net ports m)
     (registers : Place → Bits) (row : Name → Bits) (E : Place → Bits) (G : Origin → Bits) (W : Name → Bits) (c : IsCycleOf d net m registers row E G W) where
@@ -78,7 +78,7 @@ module _ (d : Design) (pairs : List Pair) (mode : Mode) (net : NetParts) (ports 
       (compiled_text d n mode net ports h.sound h.kept ∙ h.text)
 
   met : MeetsNet net ports G W
-  met = (means.equations G W c.widths c.given).1 c.meets
+  met = (means.equations G W c.widths c.given).0 c.meets
 
   -- each node has the value of its tree
   node_value : (j : ℕ) → j < length net.nodes → by_number net.nodes W j ≡ value_of G (tree_of net.nodes j)
@@ -110,7 +110,7 @@ module _ (d : Design) (pairs : List Pair) (mode : Mode) (net : NetParts) (ports 
   step_value : (p : Place) (instance name : List ℕ) (start : Bits) (i : ℕ) → IsIn (p, tree.Register instance name start) (processes_of d).givens → slice_get net.nodes i ≡ Some (Register instance name start)
       → (step : Step) → IsIn step m.steps → step.register ≡ Numbered i → W (name_of step.next) ≡ next_value (processes_of d) E p
   step_value p instance name start i there at step among of =
-      let r = in_mapped (λ (pair : ℕ × ℕ). record { register = Numbered pair.0; next = identifier_at net.nodes pair.1 }) net.nexts step ((means.steps step).1 among) in
+      let r = in_mapped (λ (pair : ℕ × ℕ). record { register = Numbered pair.0; next = identifier_at net.nodes pair.1 }) net.nexts step ((means.steps step).0 among) in
       let register : Numbered r.one.0 ≡ Numbered i = ap (λ (s : Step). s.register) (sym r.is) ∙ of in
       let here : r.one.0 ≡ i = cc in
       let within = slice_get_within net.nodes i (Register instance name start) at in

@@ -51,19 +51,19 @@ names_more output s signals = by_test (is_port output s.kind)
 -- a name that no signal has, no port has
 not_named : (output : Bool) (x : Name) (signals : List Signal) → IsNotIn x (map signal_name signals) → IsNotIn x (port_names output signals)
 not_named output x [] h = tt
-not_named output x (s ∷ signals) h = subst (IsNotIn x) (sym (names_more output s signals)) (by_test (is_port output s.kind))
+not_named output x (s ∷ signals) h = subst (IsNotIn x) (sym (names_more output s signals)) (by_test (not_named output x signals h.1) (is_port output s.kind))
   where
-    by_test : (b : Bool) → IsNotIn x (with_port b s (port_names output signals))
-    by_test true = (h.0, not_named output x signals h.1)
-    by_test false = not_named output x signals h.1
+    by_test : IsNotIn x (port_names output signals) → (b : Bool) → IsNotIn x (with_port b s (port_names output signals))
+    by_test rest true = (h.0, rest)
+    by_test rest false = rest
 
 names_apart : (output : Bool) (signals : List Signal) → AreApart (map signal_name signals) → AreApart (port_names output signals)
 names_apart output [] h = tt
-names_apart output (s ∷ signals) h = subst AreApart (sym (names_more output s signals)) (by_test (is_port output s.kind))
+names_apart output (s ∷ signals) h = subst AreApart (sym (names_more output s signals)) (by_test (names_apart output signals h.1) (is_port output s.kind))
   where
-    by_test : (b : Bool) → AreApart (with_port b s (port_names output signals))
-    by_test true = (not_named output s.name signals h.0, names_apart output signals h.1)
-    by_test false = names_apart output signals h.1
+    by_test : AreApart (port_names output signals) → (b : Bool) → AreApart (with_port b s (port_names output signals))
+    by_test rest true = (not_named output s.name signals h.0, rest)
+    by_test rest false = rest
 
 -- an input is no output
 abbrev Crossed : List Name → List Name → Type 0
@@ -77,17 +77,14 @@ names_crossed : (signals : List Signal) → AreApart (map signal_name signals) �
 names_crossed [] h = tt
 names_crossed (s ∷ signals) h =
     subst (λ xs. Crossed xs (port_names true (s ∷ signals))) (sym (names_more false s signals))
-    (subst (λ ys. Crossed (with_port (is_port false s.kind) s (port_names false signals)) ys) (sym (names_more true s signals)) (by_kind s.kind))
+    (subst (λ ys. Crossed (with_port (is_port false s.kind) s (port_names false signals)) ys) (sym (names_more true s signals)) (by_kind (names_crossed signals h.1) s.kind))
   where
-    rest : Crossed (port_names false signals) (port_names true signals)
-    rest = names_crossed signals h.1
-
-    by_kind : (k : Kind) → Crossed (with_port (is_port false k) s (port_names false signals)) (with_port (is_port true k) s (port_names true signals))
-    by_kind kind.Input = (not_named true s.name signals h.0, rest)
-    by_kind kind.Output = one_more s.name (port_names false signals) (port_names true signals) (not_named false s.name signals h.0) rest
-    by_kind kind.Wire = rest
-    by_kind (kind.Reg start) = rest
-    by_kind (kind.ChildOut k port) = rest
+    by_kind : Crossed (port_names false signals) (port_names true signals) → (k : Kind) → Crossed (with_port (is_port false k) s (port_names false signals)) (with_port (is_port true k) s (port_names true signals))
+    by_kind rest kind.Input = (not_named true s.name signals h.0, rest)
+    by_kind rest kind.Output = one_more s.name (port_names false signals) (port_names true signals) (not_named false s.name signals h.0) rest
+    by_kind rest kind.Wire = rest
+    by_kind rest (kind.Reg start) = rest
+    by_kind rest (kind.ChildOut k port) = rest
 
 abbrev signals_or : Option Variant → List Signal
 signals_or o = unwrap_or (option_map (λ (w : Variant). w.signals) o) []

@@ -3,6 +3,7 @@ use Rattle.std.proofs.Common.{◌≡◌, ℕ, ◌+◌, ◌<◌, ◌≤◌, ◌==
 use Rattle.std.specs.Prelude.{slice_get, option_and_then, find}
 use Rattle.std.specs.List.{filter_map, cons_option}
 use Rattle.std.proofs.lemmas.List.{get_or_past}
+use Rattle.std.proofs.lemmas.Option.{none-some, same_Some}
 use Rattle.std.proofs.lemmas.Bool.Decides.{nat_tests}
 use Rattle.bv_core.specs.Value.{Bits}
 use Rattle.tree_core.specs.Tree as tree
@@ -42,33 +43,33 @@ beside ns nexts fit i n among =
     let p = place_of nexts (i, n) among in
     let q = place_of nexts (i, next_of nexts i) (means.next_in nexts i n among) in
     let place : q.place ≡ p.place = fit.once q.place p.place i (next_of nexts i) n q.at p.at in
-    let one : Some (i, next_of nexts i) ≡ Some (i, n) = sym q.at ∙ ap (slice_get nexts) place ∙ p.at in
-    cc
+    let one : ◌≡◌ {A = Option (ℕ × ℕ)} (Some (i, next_of nexts i)) (Some (i, n)) = sym q.at ∙ ap (slice_get nexts) place ∙ p.at in
+    ap (λ (pair : ℕ × ℕ). pair.1) (same_Some (i, next_of nexts i) (i, n) one)
 
 -- in a list of what numbers are given, each by its own number
 found : (f : ℕ → Option (ℕ × ℕ)) → ((j : ℕ) (pair : ℕ × ℕ) → f j ≡ Some pair → pair.0 ≡ j) → (js : List ℕ) (i n : ℕ) → IsIn i js → f i ≡ Some (i, n) → next_of (filter_map f js) i ≡ n
 found f own [] i n m e = absurd m
-found f own (j ∷ js) i n m e = by_found (f j) refl m
+found f own (j ∷ js) i n m e = by_found (λ at. found f own js i n at e) (f j) refl m
   where
-    by_test : (pair : ℕ × ℕ) → f j ≡ Some pair → (i ≡ j) ⊎ IsIn i js → (b : Bool) → (pair.0 == i) ≡ b → (if b then pair.1 else next_of (filter_map f js) i) ≡ n
-    by_test pair g k true t =
+    by_test : (IsIn i js → next_of (filter_map f js) i ≡ n) → (pair : ℕ × ℕ) → f j ≡ Some pair → (i ≡ j) ⊎ IsIn i js → (b : Bool) → (pair.0 == i) ≡ b → (if b then pair.1 else next_of (filter_map f js) i) ≡ n
+    by_test rest pair g k true t =
         let here : j ≡ i = sym (own j pair g) ∙ eqb-true pair.0 i t in
-        let both : Some pair ≡ Some (i, n) = sym g ∙ ap f here ∙ e in
-        cc
-    by_test pair g (inl same) false t = absurd (true≢false (sym (eq-eqb pair.0 i (own j pair g ∙ sym same)) ∙ t))
-    by_test pair g (inr at) false t = found f own js i n at e
+        let both : ◌≡◌ {A = Option (ℕ × ℕ)} (Some pair) (Some (i, n)) = sym g ∙ ap f here ∙ e in
+        ap (λ (p : ℕ × ℕ). p.1) (same_Some pair (i, n) both)
+    by_test rest pair g (inl same) false t = absurd (true≢false (sym (eq-eqb pair.0 i (own j pair g ∙ sym same)) ∙ t))
+    by_test rest pair g (inr at) false t = rest at
 
-    by_found : (o : Option (ℕ × ℕ)) → f j ≡ o → (i ≡ j) ⊎ IsIn i js → next_of (cons_option o (filter_map f js)) i ≡ n
-    by_found None g (inl same) = absurd (let no : ◌≡◌ {A = Option (ℕ × ℕ)} None (Some (i, n)) = sym g ∙ ap f (sym same) ∙ e in cc)
-    by_found None g (inr at) = found f own js i n at e
-    by_found (Some pair) g k = by_test pair g k (pair.0 == i) refl
+    by_found : (IsIn i js → next_of (filter_map f js) i ≡ n) → (o : Option (ℕ × ℕ)) → f j ≡ o → (i ≡ j) ⊎ IsIn i js → next_of (cons_option o (filter_map f js)) i ≡ n
+    by_found rest None g (inl same) = absurd (none-some (i, n) (sym g ∙ ap f (sym same) ∙ e))
+    by_found rest None g (inr at) = rest at
+    by_found rest (Some pair) g k = by_test rest pair g k (pair.0 == i) refl
 
 own_number : (next : Origin → Option Whole) (ts : List Whole) (j : ℕ) (pair : ℕ × ℕ) → next_at next ts j ≡ Some pair → pair.0 ≡ j
 own_number next ts j pair e = by_tree (option_and_then next (origin_of (tree_at ts j))) e
   where
     by_tree : (o : Option Whole) → option_map (λ t. (j, number_of ts t)) o ≡ Some pair → pair.0 ≡ j
-    by_tree None e = cc
-    by_tree (Some t) e = let same : (j, number_of ts t) ≡ pair = cc in ap (λ (p : ℕ × ℕ). p.0) (sym same)
+    by_tree None e = absurd (none-some pair e)
+    by_tree (Some t) e = ap (λ (p : ℕ × ℕ). p.0) (sym (same_Some (j, number_of ts t) pair e))
 
 -- ---- a register
 

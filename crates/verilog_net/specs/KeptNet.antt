@@ -1,5 +1,5 @@
 -- The net of a design: that of the trees that are kept of it.
-use Rattle.std.specs.Prelude.{◌≡◌, ℕ, suc, ◌<◌, ◌^◌, true, List, [], ◌∷◌, length, map, filter_map, Option, Some, None, option_map, option_and_then, if◌then◌else◌}
+use Rattle.std.specs.Prelude.{◌≡◌, ℕ, suc, ◌<◌, ◌^◌, true, false, List, [], ◌∷◌, length, map, filter_map, Option, Some, None, option_map, option_and_then, if◌then◌else◌}
 use Rattle.tree_core.specs.Tree as tree
 use Rattle.tree_core.specs.Tree.{Origin, Whole}
 use Rattle.tree_core.specs.Fold.{same_tree, same_origin}
