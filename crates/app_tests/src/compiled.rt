@@ -457,14 +457,8 @@ endmodule
 
 /// Sources that are refused, and the line.
 static REFUSED: [(&str, &str); 10] = [
-    (
-        "",
-        "design fault 4 Syntax line 1\n",
-    ),
-    (
-        "module X { $ }",
-        "design fault 3 BadToken line 1\n",
-    ),
+    ("", "design fault 4 Syntax line 1\n"),
+    ("module X { $ }", "design fault 3 BadToken line 1\n"),
     (
         "module Y { }",
         "design fault 5 UnknownModule line 0 name X\n",

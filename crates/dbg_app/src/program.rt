@@ -138,14 +138,7 @@ fn write<S: Sink>(alloc: Global, judged: Judged, out: &mut S) -> Result<(), Stop
             Ok(())
         }
         Judged::Verilog(accepted, mode, ports) => {
-            write_verilog(
-                alloc,
-                &accepted.design,
-                &accepted.order,
-                mode,
-                &ports,
-                out,
-            )?;
+            write_verilog(alloc, &accepted.design, &accepted.order, mode, &ports, out)?;
             Ok(())
         }
     }

@@ -93,10 +93,10 @@ module _ (d : Design) (pairs : List Pair) (mode : Mode) (net : NetParts) (ports 
   outputs_settle (port ∷ told) [] signal t w = absurd t
   outputs_settle (port ∷ told) (output ∷ outputs) signal t w = (
     ap W (sym t.0.name)
-    ∙ w.0
-    ∙ node_value output.1 t.0.stands.within
-    ∙ ap (λ (u : Whole). value_of G u) t.0.stands.tree
-    ∙ sym (agrees.signals (place 0 port.0) (signal port (inl refl))),
+        ∙ w.0
+        ∙ node_value output.1 t.0.stands.within
+        ∙ ap (λ (u : Whole). value_of G u) t.0.stands.tree
+        ∙ sym (agrees.signals (place 0 port.0) (signal port (inl refl))),
     outputs_settle told outputs (λ other i. signal other (inr i)) t.1 w.1,
   )
 
