@@ -3,29 +3,27 @@ ghost use Rattle.design_core.specs.View.{variant_of};
 ghost use Rattle.lower_core.specs.Shape.{gen_part, instance_part, variant_part};
 
 use design_core::{Instance, Variant};
+use gen_scope::Scope;
 use std::alloc::Global;
 use symtab::{GenVariable, InstanceParts, VariantParts};
 use text_core::{Listed, NoMemory, Text};
 
-/// A generator variable with its number, copied.
-fn variable_copy(alloc: Global, variable: &(Text, i64)) -> Result<GenVariable, NoMemory>
-    ensures { IfOk result (λ part. part ≡ gen_part variable.now) }
+/// Names with numbers, as generator variables.
+fn variables(alloc: Global, gens: Vec<(Text, i64)>) -> Result<Listed<GenVariable>, NoMemory>
+    ensures { IfOk result (λ parts. parts ≡ map gen_part gens.items) }
 {
-    Ok(GenVariable {
-        name: Text::new(alloc, variable.0.bytes())?,
-        value: variable.1,
-    })
-}
-
-/// Generator variables with their numbers, copied.
-pub(crate) fn gens_of(alloc: Global, gens: &[(Text, i64)]) -> Result<Listed<GenVariable>, NoMemory>
-    ensures { IfOk result (λ parts. parts ≡ map gen_part gens.now) }
-{
-    let mut parts = Vec::new(alloc);
-    for variable in gens {
-        parts.push(variable_copy(alloc, variable)?)?;
+    let mut parts = Vec::with_capacity(alloc, gens.len())?;
+    for (name, value) in gens {
+        parts.push(GenVariable { name, value })?;
     }
     Ok(Listed::new(parts))
+}
+
+/// Generator variables with their numbers, listed.
+pub(crate) fn gens_of(alloc: Global, gens: &Scope) -> Result<Listed<GenVariable>, NoMemory>
+    ensures { IfOk result (λ parts. parts ≡ map gen_part gens.now) }
+{
+    variables(alloc, gens.list(alloc)?)
 }
 
 /// A variant: its module, and the parameters that it was made with.
@@ -34,7 +32,7 @@ fn variant_copy(alloc: Global, variant: &Variant) -> Result<VariantParts, NoMemo
 {
     Ok(VariantParts {
         module: Text::new(alloc, variant.module.bytes())?,
-        gens: gens_of(alloc, variant.params.items())?,
+        gens: gens_of(alloc, &variant.params)?,
     })
 }
 

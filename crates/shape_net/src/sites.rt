@@ -9,6 +9,7 @@ use crate::parts::gens_of;
 use crate::scopes::{lets_among, scope_names};
 use check_core::statements;
 use design_core::{Block, Signal, Stmt, Variant};
+use gen_scope::Scope;
 use std::alloc::Global;
 use symtab::Slot;
 use text_core::{Listed, NoMemory, Text};
@@ -39,13 +40,13 @@ fn line_of(stmt: &Stmt) -> u32
 
 /// The generator variables at a statement.
 #[tactic(auto, using(design_core::proofs::Views::design_views))]
-fn gens_at(stmt: &Stmt) -> &[(Text, i64)]
+fn gens_at(stmt: &Stmt) -> &Scope
     ensures { result.now ≡ (head_of (stmt_of stmt.now)).gens }
 {
     match stmt {
-        Stmt::Assign { gens, .. } => gens.items(),
-        Stmt::Let { gens, .. } => gens.items(),
-        Stmt::If { gens, .. } => gens.items(),
+        Stmt::Assign { gens, .. } => gens,
+        Stmt::Let { gens, .. } => gens,
+        Stmt::If { gens, .. } => gens,
     }
 }
 
