@@ -4,9 +4,9 @@ use crate::expr::{read, value};
 use crate::names::{Names, Values};
 use bv_core::text_of;
 use design_core::{Expr, Stmt};
+use gen_scope::Scope;
 use std::alloc::Global;
 use std::test::Fail;
-use text_core::{Listed, Text};
 
 /// A block of an instance in a cycle.
 #[derive(Drop)]
@@ -75,14 +75,14 @@ fn line_of(
     place: &Place,
     done: &Done,
     line: u32,
-    gens: &Listed<(Text, i64)>,
+    gens: &Scope,
 ) -> Result<String, Fail> {
     let mut told = format!(in alloc;
         "{} {line} {}",
         place.cycle,
         std::str::from_utf8(place.path)?
     )?;
-    for (x, number) in gens.items() {
+    for (x, number) in &gens.list(alloc)? {
         let one = format!(in alloc; " {}={number}", std::str::from_utf8(x.bytes())?)?;
         told.push_str(&one)?;
     }
