@@ -3,10 +3,11 @@
 use design_core::{Design, Stmt, Variant};
 use elab_core::{Count, ElabFault};
 use gen_elab::{Given, elaborate};
+use gen_scope::Scope;
 use gen_text::read_source;
 use std::alloc::Global;
 use std::test::Fail;
-use text_core::{Listed, Text};
+use text_core::Text;
 
 /// A parameter that is given to the top.
 pub(crate) type Word = (&'static str, i64);
@@ -52,9 +53,9 @@ pub(crate) fn fault(alloc: Global, fault: &ElabFault) -> Result<String, Fail> {
 }
 
 /// Generator variables with their numbers, a blank before each.
-fn gens(alloc: Global, gens: &Listed<(Text, i64)>) -> Result<String, Fail> {
+fn gens(alloc: Global, gens: &Scope) -> Result<String, Fail> {
     let mut told = String::new(alloc);
-    for (x, number) in gens.items() {
+    for (x, number) in &gens.list(alloc)? {
         let one = format!(in alloc; " {}={number}", name(x)?)?;
         told.push_str(&one)?;
     }
