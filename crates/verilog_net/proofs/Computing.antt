@@ -1,6 +1,7 @@
 -- Values that meet a printed module are those that execution gives.
-use Rattle.std.proofs.Common.{◌≡◌, ℕ, ◌<◌, Bool, true, false, List, [], ◌∷◌, ◌++◌, length, map, Some, if◌then◌else◌, inl, inr, refl, sym, ap, ◌∙◌, subst}
+use Rattle.std.proofs.Common.{◌≡◌, ℕ, ◌<◌, Bool, true, false, List, [], ◌∷◌, ◌++◌, length, map, Some, option_map, unwrap_or, bytes_eq, if◌then◌else◌, inl, inr, refl, sym, ap, ◌∙◌, subst}
 use Rattle.std.specs.Prelude.{slice_get}
+use Rattle.std.specs.List.{list_any}
 use Rattle.std.proofs.lemmas.List.{length-map}
 use Rattle.std.proofs.lemmas.Option.{slice_get_within, get_or_from_slice_get}
 use Rattle.bv_core.specs.Value.{Bits}
@@ -16,20 +17,22 @@ use Rattle.exec_core.specs.States.{CycleAgrees}
 use Rattle.exec_core.proofs.Lists.{each_member}
 use Rattle.exec_core.proofs.Cycles.{settled_agrees}
 use Rattle.design_core.specs.declared.Ports.{Ports}
+use Rattle.design_core.specs.declared.design.Instance.{Instance}
 use Rattle.design_core.specs.declared.variant.Signal.{Signal}
 use Rattle.design_core.specs.Design.{Design}
 use Rattle.design_core.specs.Ports.{bits, is_port, ports_in, top_signals}
-use Rattle.design_exec.specs.Processes.{processes_of, is_signal_of}
+use Rattle.design_exec.specs.Processes.{processes_of, is_signal_of, signals_in}
 use Rattle.dep_order.specs.Results.{Pair, signal_at}
 use Rattle.dep_order.proofs.Ready.{orders_are_accepted}
 use Rattle.net_core.specs.Nodes.{Shape, Register, no_shape, shape_at, node_tree, trees_of, tree_of}
 use Rattle.net_core.specs.Nets.{NetParts, IsNext}
 use Rattle.net_core.proofs.TreeLists.{tree_is}
 use Rattle.net_core.proofs.Solutions.{one_solution}
+use Rattle.check_exec.specs.Premises.{IsSound}
+use Rattle.check_exec.proofs.Facts.{in_any, name_same}
 use Rattle.check_exec.proofs.Givens.{givens_fit}
 use Rattle.world_core.specs.declared.mode.Mode.{Mode}
 use Rattle.lower_core.specs.Lowered.{OutputsTold}
-use Rattle.ssa_net.proofs.Outs.{top_signal}
 use Rattle.verilog_out.specs.Syntax.{Identifier, Numbered, Step, Module}
 use Rattle.verilog_out.specs.Printed.{identifier_at}
 use Rattle.verilog_out.specs.Meaning.{name_of}
@@ -40,6 +43,12 @@ use Rattle.verilog_net.specs.Cycles.{IsPrintedAs, IsCycleOf, ComputesCycle, Modu
 use Rattle.verilog_net.proofs.Alike.{compiled_text}
 use Rattle.verilog_net.proofs.Fits.{fits_ports}
 use Rattle.verilog_net.proofs.Nexts.{next_stands}
+
+-- a signal of the top is one of instance 0
+top_is_signal : (d : Design) → IsSound d → (s : Signal) → IsIn s (top_signals d) → is_signal_of d (place 0 s.name) ≡ true
+top_is_signal d sound s i =
+    ap (λ o. list_any (λ (t : Signal). bytes_eq t.name s.name) (unwrap_or (option_map (λ (r : Instance). signals_in d r.variant) o) [])) sound.kept.top
+    ∙ in_any (λ (t : Signal). bytes_eq t.name s.name) (top_signals d) s i (name_same s.name s.name refl)
 
 -- an output port is a signal of the top
 record OfSignal (signals : List Signal) (x : Name) : Type 0 where
@@ -103,7 +112,7 @@ module _ (d : Design) (pairs : List Pair) (mode : Mode) (net : NetParts) (ports 
   port_is : (port : Name × ℕ) → IsIn port (ports_in true (top_signals d)) → is_signal_of d (place 0 port.0) ≡ true
   port_is port i =
       let r = port_signal true (top_signals d) port i in
-      subst (λ x. is_signal_of d (place 0 x) ≡ true) (sym r.name) (top_signal d h.sound r.signal r.among).signal
+      subst (λ x. is_signal_of d (place 0 x) ≡ true) (sym r.name) (top_is_signal d h.sound r.signal r.among)
 
   -- ---- the registers
 
