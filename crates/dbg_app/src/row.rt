@@ -44,7 +44,7 @@ fn are_arguments(words: &Words, first: usize) -> bool
 
 /// Whether the names of a task's files may stand in a command.
 fn has_files(task: Task<'_>) -> bool
-    ensures { result ≡ has_files (task_as task) }
+    ensures { result ≡ has_files (task_as task.entry) }
 {
     match task {
         Task::TrailOver(stimulus) => !stimulus.is_empty(),
@@ -62,7 +62,7 @@ fn row_with<'a>(
     first: usize,
 ) -> Option<Row<'a>>
     requires { first ≤ length words.now }
-    ensures { option_map row_as result ≡ row_with (task_as task) source.now top.now (drop first words.now) mode }
+    ensures { option_map row_as result ≡ row_with (task_as task.entry) source.now top.now (drop first words.now) mode }
 {
     if source.is_empty() || !has_files(task) || !is_name(top.as_bytes()) {
         return None;

@@ -8,5 +8,5 @@ returns-in_err-design_line-in-NoDesign-clause-front g c = on_err_always c.from_r
 pub returns-in-NoCommand-clause-ok : goal.returns-in-NoCommand-clause-ok
 returns-in-NoCommand-clause-ok g c = on_ok_weaker c.write_line.result (usage_written c.args.judged _ _ c.in-NoCommand.is) c.write_line.ensures.ok
 
-pub returns-in_ok-write_trail-in-Accepted-clause-ok : goal.returns-in_ok-write_trail-in-Accepted-clause-ok
-returns-in_ok-write_trail-in-Accepted-clause-ok g c = trail_written c.args.judged c.in-Accepted.accepted c.in-Accepted.mode c.in-Accepted.stim _ _ c.in-Accepted.is c.in_ok-write_trail-in-Accepted.ensures.ok
+pub returns-in_ok-write_trail-in-Trail-clause-ok : goal.returns-in_ok-write_trail-in-Trail-clause-ok
+returns-in_ok-write_trail-in-Trail-clause-ok g c = trail_written c.args.judged c.in-Trail.accepted c.in-Trail.mode c.in-Trail.stim _ _ c.in-Trail.is c.in_ok-write_trail-in-Trail.ensures.ok
