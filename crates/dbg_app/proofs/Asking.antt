@@ -26,7 +26,7 @@ use Rattle.verilog_out.specs.Printed.{printed}
 use Rattle.verilog_net.specs.KeptNet.{kept_net}
 use Rattle.verilog_net.proofs.Alike.{one_text}
 use Rattle.trim_laws.proofs.Orders.{one_length}
-use Rattle.dbg_app.specs.Command.{Top, Task, TrailOver, Verilog, Row}
+use Rattle.dbg_app.specs.Command.{Top, TrailOver, Verilog, Row}
 use Rattle.dbg_app.specs.declared.design_fault.DesignFault.{DesignFault}
 use Rattle.dbg_app.specs.declared.design_fault.DesignFault.TheVariants.{Text, Elaboration, Check, CombLoop}
 use Rattle.dbg_app.specs.declared.accepted.Accepted.{Accepted}

@@ -8,7 +8,7 @@ use Rattle.design_core.specs.Design.{Design}
 use Rattle.design_core.specs.Slots.{from}
 use Rattle.design_core.specs.Ports.{ports_in, top_signals}
 use Rattle.design_exec.specs.Processes.{processes_of}
-use Rattle.net_core.specs.Nodes.{Shape, shape_at, trees_of}
+use Rattle.net_core.specs.Nodes.{Shape, shape_at}
 use Rattle.net_core.specs.Nets.{NetParts}
 use Rattle.check_exec.specs.Premises.{IsSound}
 use Rattle.world_core.specs.declared.mode.Mode.{Mode}

@@ -1,5 +1,5 @@
 -- Values that meet a printed module are those that execution gives.
-use Rattle.std.proofs.Common.{◌≡◌, ℕ, ◌<◌, Bool, true, false, List, [], ◌∷◌, ◌++◌, length, map, Some, option_map, unwrap_or, bytes_eq, if◌then◌else◌, inl, inr, refl, sym, ap, ◌∙◌, subst}
+use Rattle.std.proofs.Common.{◌≡◌, ℕ, ◌<◌, Bool, true, false, List, [], ◌∷◌, ◌++◌, length, Some, option_map, unwrap_or, bytes_eq, if◌then◌else◌, inl, inr, refl, sym, ap, ◌∙◌, subst}
 use Rattle.std.specs.Prelude.{slice_get}
 use Rattle.std.specs.List.{list_any}
 use Rattle.std.proofs.lemmas.List.{length-map}
@@ -10,7 +10,7 @@ use Rattle.tree_core.specs.Tree.{Leaf, Origin, Whole, value_of}
 use Rattle.exec_core.specs.Block.{Name}
 use Rattle.exec_core.specs.Lists.{EachOf, IsIn}
 use Rattle.exec_core.specs.Whole.{Place}
-use Rattle.exec_core.specs.Design.{place, next_tree, folded_tree}
+use Rattle.exec_core.specs.Design.{place}
 use Rattle.exec_core.specs.Run.{next_value}
 use Rattle.exec_core.specs.Accepted.{GivenFits}
 use Rattle.exec_core.specs.States.{CycleAgrees}
@@ -24,8 +24,8 @@ use Rattle.design_core.specs.Ports.{bits, is_port, ports_in, top_signals}
 use Rattle.design_exec.specs.Processes.{processes_of, is_signal_of, signals_in}
 use Rattle.dep_order.specs.Results.{Pair, signal_at}
 use Rattle.dep_order.proofs.Ready.{orders_are_accepted}
-use Rattle.net_core.specs.Nodes.{Shape, Register, no_shape, shape_at, node_tree, trees_of, tree_of}
-use Rattle.net_core.specs.Nets.{NetParts, IsNext}
+use Rattle.net_core.specs.Nodes.{Register, no_shape, node_tree, trees_of, tree_of}
+use Rattle.net_core.specs.Nets.{NetParts}
 use Rattle.net_core.proofs.TreeLists.{tree_is}
 use Rattle.net_core.proofs.Solutions.{one_solution}
 use Rattle.check_exec.specs.Premises.{IsSound}
@@ -33,11 +33,11 @@ use Rattle.check_exec.proofs.Facts.{in_any, name_same}
 use Rattle.check_exec.proofs.Givens.{givens_fit}
 use Rattle.world_core.specs.declared.mode.Mode.{Mode}
 use Rattle.lower_core.specs.Lowered.{OutputsTold}
-use Rattle.verilog_out.specs.Syntax.{Identifier, Numbered, Step, Module}
+use Rattle.verilog_out.specs.Syntax.{Numbered, Step, Module}
 use Rattle.verilog_out.specs.Printed.{identifier_at}
 use Rattle.verilog_out.specs.Meaning.{name_of}
 use Rattle.verilog_out.specs.ReadBack.{by_number, MeetsNet, Means}
-use Rattle.verilog_out.proofs.Members.{in_mapped, place_of}
+use Rattle.verilog_out.proofs.Members.{in_mapped}
 use Rattle.verilog_out.proofs.MeansNet.{printed_means_net}
 use Rattle.verilog_net.specs.Cycles.{IsPrintedAs, IsCycleOf, ComputesCycle, ModulesComputeSources}
 use Rattle.verilog_net.proofs.Alike.{compiled_text}
