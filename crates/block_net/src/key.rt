@@ -4,7 +4,7 @@ use std::alloc::Global;
 use text_core::{NoMemory, Text};
 
 /// What an assignment sets.
-#[derive(Debug, Drop)]
+#[derive(Drop)]
 pub enum Key {
     /// What a name is from there on, by `=` or `let`.
     Now(Text),

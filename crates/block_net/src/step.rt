@@ -1,7 +1,7 @@
 use crate::{Key, TermId};
 
 /// A step of a walk through a block. No id: no tree.
-#[derive(Debug, Drop)]
+#[derive(Drop)]
 pub enum Step {
     /// A key has this from here on.
     Set(Key, Option<TermId>),

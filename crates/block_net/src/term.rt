@@ -2,12 +2,12 @@ use design_core::{Op, UnOp};
 use text_core::Text;
 
 /// The number of a term among those of its block.
-#[derive(Clone, Copy, Debug, PartialEq, Eq)]
+#[derive(Clone, Copy, PartialEq, Eq)]
 pub struct TermId(pub usize);
 
 /// A term of a block: an expression over the names of an instance, whose operands are terms with lower numbers. Widths and
 /// places are as they were written.
-#[derive(Debug, Drop)]
+#[derive(Drop)]
 pub enum Term {
     /// What the signal of this name has settled at; or, for a register, what it holds.
     Leaf(Text),

@@ -12,7 +12,7 @@ use std::marker::Model;
 use text_core::NoMemory;
 
 /// The terms of a block, numbered above their operands. Contracts see the list of them, in which the id of each is its place.
-#[derive(Debug, Drop)]
+#[derive(Drop)]
 pub(crate) struct Terms {
     terms: Vec<Term>,
 }

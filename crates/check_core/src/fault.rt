@@ -5,7 +5,7 @@ use std::alloc::{AllocError, AllocFailed};
 use text_core::Text;
 
 /// A place in a design: the line of it, counted from 1, a name, and the path of an instance.
-#[derive(Debug, Drop)]
+#[derive(Drop)]
 pub struct Spot {
     pub line: u32,
     pub name: Text,
@@ -13,7 +13,7 @@ pub struct Spot {
 }
 
 /// What an elaborated design is refused for, in the order in which it is tested.
-#[derive(Clone, Copy, Debug, PartialEq, Eq)]
+#[derive(Clone, Copy, PartialEq, Eq)]
 pub enum Refusal {
     UnknownName,
     DuplicateName,
@@ -28,7 +28,7 @@ pub enum Refusal {
 }
 
 /// Why an elaborated design is refused, and where.
-#[derive(Debug, Drop)]
+#[derive(Drop)]
 pub enum CheckFault {
     /// A read names no signal and no earlier `let` of its block; or a target is no wire, output or register of the module; or
     /// a child is read that is not there.
@@ -56,7 +56,7 @@ pub enum CheckFault {
 }
 
 /// Two widths that do not go together: the one that stands there, and the one that is needed, in bits.
-#[derive(Clone, Copy, Debug, PartialEq, Eq)]
+#[derive(Clone, Copy, PartialEq, Eq)]
 pub struct Clash {
     pub have: u64,
     pub want: u64,

@@ -8,7 +8,7 @@ use std::alloc::Global;
 use text_core::NoMemory;
 
 /// Some kinds of signals.
-#[derive(Clone, Copy, Debug, PartialEq, Eq)]
+#[derive(Clone, Copy, PartialEq, Eq)]
 pub enum Kinds {
     Any,
     Inputs,

@@ -4,7 +4,7 @@ use gen_text::TextFault;
 use text_core::{Listed, Text as Name};
 
 /// Why a source is refused. Want of memory, which each of the first three faults can tell, refuses no source.
-#[derive(Debug, Drop)]
+#[derive(Drop)]
 pub enum DesignFault {
     /// It is not read.
     Text(TextFault),

@@ -15,7 +15,7 @@ use trail_net::write_trail;
 use verilog_net::write_verilog;
 
 /// How a run ended: its status, which is 0, 2, 3, 4, 7, 8 or 9.
-#[derive(Clone, Copy, Debug, PartialEq, Eq)]
+#[derive(Clone, Copy, PartialEq, Eq)]
 pub struct Ended {
     pub status: u8,
 }

@@ -8,7 +8,7 @@ use sink_text::SinkEnd;
 use std::alloc::{AllocError, AllocFailed};
 
 /// Why a run stops before its text is written.
-#[derive(Clone, Copy, Debug, PartialEq, Eq)]
+#[derive(Clone, Copy, PartialEq, Eq)]
 pub(crate) enum Stop {
     /// A file was not read; the files' count of faults rose.
     ReadFault,

@@ -6,7 +6,7 @@ use std::marker::Model;
 use text_core::NoMemory;
 
 /// The driven signals of a design in an order. Contracts see the list.
-#[derive(Debug, Drop)]
+#[derive(Drop)]
 pub struct Order {
     pub(crate) pairs: Vec<(u32, u32)>,
 }
@@ -29,7 +29,7 @@ impl Order {
 }
 
 /// Why a design has no order.
-#[derive(Debug, Drop)]
+#[derive(Drop)]
 pub enum OrderFault {
     /// Different signals, each depending on the next and the last on the first, beginning with the one that stands first in
     /// the design; each as the number of its instance and its place among the signals of the instance.

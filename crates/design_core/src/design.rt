@@ -7,7 +7,7 @@ use crate::Variant;
 use text_core::{Listed, Text};
 
 /// An instance of a variant: its path, and the number of the instance that it stands in, if it is not the top.
-#[derive(Debug, Drop)]
+#[derive(Drop)]
 pub struct Instance {
     pub path: Text,
     pub variant: u32,
@@ -16,7 +16,7 @@ pub struct Instance {
 
 /// An elaborated design: the module of its top, its variants in the order of their first instances, and its instances in
 /// preorder.
-#[derive(Debug, Drop)]
+#[derive(Drop)]
 pub struct Design {
     pub top: Text,
     pub variants: Vec<Variant>,

@@ -2,7 +2,7 @@ use std::boxed::Box;
 use text_core::Text;
 
 /// An operator on one value.
-#[derive(Clone, Copy, Debug, PartialEq, Eq)]
+#[derive(Clone, Copy, PartialEq, Eq)]
 pub enum UnOp {
     Not,
     All,
@@ -11,7 +11,7 @@ pub enum UnOp {
 }
 
 /// An operator on two values.
-#[derive(Clone, Copy, Debug, PartialEq, Eq)]
+#[derive(Clone, Copy, PartialEq, Eq)]
 pub enum Op {
     Add,
     Sub,
@@ -30,7 +30,7 @@ pub enum Op {
 
 /// A literal: how wide it is said to be, and its value, which need not fit. Both are from -2^62 to 2^62 where they were
 /// computed; a width that was written is from 0 to 2^62, and a value that was written from 0 to 2^128 - 1.
-#[derive(Debug, Drop)]
+#[derive(Drop)]
 pub struct Literal {
     /// The width in bits, as it was said.
     pub width: i64,
@@ -41,7 +41,7 @@ pub struct Literal {
 }
 
 /// An expression over the names of an instance.
-#[derive(Debug, Drop)]
+#[derive(Drop)]
 pub enum Expr {
     /// A signal or a `let`.
     Read(Text),

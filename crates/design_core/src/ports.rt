@@ -8,7 +8,7 @@ use text_core::{Listed, NoMemory, Text};
 /// The top of a design as its surroundings see it: the name of its module, its inputs and outputs in the order of
 /// their declaration, each with its width in bits from 1 to 128, and how many registers all of its instances have. Each of
 /// these names is a name of the language.
-#[derive(Debug, Drop)]
+#[derive(Drop)]
 pub struct Ports {
     pub module: Text,
     pub inputs: Listed<(Text, u8)>,

@@ -4,7 +4,7 @@ use text_core::Text;
 
 /// A statement of an elaborated block: its slot, its line, and the generator variables at it with their numbers, which it
 /// shares with the other statements of its loop or its instance.
-#[derive(Debug, Drop)]
+#[derive(Drop)]
 pub enum Stmt {
     /// What a wire or an output is from here on, in a `comb`; or what a register holds in the next cycle, in an `ff`.
     Assign {

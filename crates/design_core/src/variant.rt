@@ -3,7 +3,7 @@ use gen_scope::Scope;
 use text_core::{Listed, Text};
 
 /// What a signal is.
-#[derive(Debug, Drop)]
+#[derive(Drop)]
 pub enum Kind {
     Input,
     Output,
@@ -15,7 +15,7 @@ pub enum Kind {
 }
 
 /// A signal of an instance, with the line of its declaration and its width, which is from -2^62 to 2^62.
-#[derive(Debug, Drop)]
+#[derive(Drop)]
 pub struct Signal {
     pub line: u32,
     pub name: Text,
@@ -24,7 +24,7 @@ pub struct Signal {
 }
 
 /// What an input of a child is connected to.
-#[derive(Debug, Drop)]
+#[derive(Drop)]
 pub struct Conn {
     pub line: u32,
     pub port: Text,
@@ -32,7 +32,7 @@ pub struct Conn {
 }
 
 /// An instance inside a module: its name there, its variant by number, and its connections in order.
-#[derive(Debug, Drop)]
+#[derive(Drop)]
 pub struct Child {
     pub line: u32,
     pub name: Text,
@@ -41,7 +41,7 @@ pub struct Child {
 }
 
 /// A `comb`, or an `ff` where it is clocked, with its statements.
-#[derive(Debug, Drop)]
+#[derive(Drop)]
 pub struct Block {
     pub line: u32,
     pub clocked: bool,
@@ -50,7 +50,7 @@ pub struct Block {
 
 /// A module with its parameters: its signals in the order of their declaration (the outputs of a child at the place of its
 /// `inst`), its children and its blocks.
-#[derive(Debug, Drop)]
+#[derive(Drop)]
 pub struct Variant {
     pub module: Text,
     pub params: Scope,

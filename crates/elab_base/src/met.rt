@@ -6,7 +6,7 @@ ghost use Rattle.elab_base.specs.Met.{met_of, entered, CountsOne};
 use elab_core::{Count, ElabFault};
 
 /// How many of each were met so far.
-#[derive(Clone, Copy, Debug, PartialEq, Eq)]
+#[derive(Clone, Copy, PartialEq, Eq)]
 pub struct Met {
     pub instances: u32,
     pub turns: u32,

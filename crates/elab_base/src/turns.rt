@@ -13,7 +13,7 @@ use std::rc::Rc;
 use text_core::Text;
 
 /// The turns of a loop: the number of the first, and how many there are.
-#[derive(Debug, Drop)]
+#[derive(Drop)]
 pub struct Turns {
     pub from: i64,
     pub count: u32,

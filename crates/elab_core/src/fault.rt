@@ -5,7 +5,7 @@ use std::alloc::{AllocError, AllocFailed};
 use text_core::Text;
 
 /// What elaboration counts.
-#[derive(Clone, Copy, Debug, PartialEq, Eq)]
+#[derive(Clone, Copy, PartialEq, Eq)]
 pub enum Count {
     /// At most 4,096, with the top.
     Instances,
@@ -22,7 +22,7 @@ pub enum Count {
 }
 
 /// Why a source has no elaborated design, with the line of it, counted from 1; 0 stands for the top and its parameters.
-#[derive(Debug, Drop)]
+#[derive(Drop)]
 pub enum ElabFault {
     /// Not exactly one module has the name.
     UnknownModule { line: u32, name: Text },

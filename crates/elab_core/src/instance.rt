@@ -3,7 +3,7 @@ use gen_scope::Scope;
 use text_core::Text;
 
 /// An instance inside a module, as the walk meets it: its module by the place in the source, and its parameters.
-#[derive(Debug, Drop)]
+#[derive(Drop)]
 pub struct Child {
     pub line: u32,
     pub name: Text,
@@ -13,7 +13,7 @@ pub struct Child {
 }
 
 /// What a module's body gives in an instance. The statements of the blocks have slot 0.
-#[derive(Debug, Drop)]
+#[derive(Drop)]
 pub struct Content {
     pub signals: Vec<Signal>,
     pub children: Vec<Child>,
@@ -22,7 +22,7 @@ pub struct Content {
 
 /// An instance as the walk gives it: its path, the number of the instance that it stands in, its module by the place in
 /// the source, its parameters, and what its body gives.
-#[derive(Debug, Drop)]
+#[derive(Drop)]
 pub struct Instance {
     pub path: Text,
     pub parent: Option<u32>,

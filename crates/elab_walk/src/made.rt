@@ -4,14 +4,14 @@ use elab_core::{Content, Instance};
 use text_core::Text;
 
 /// The instance whose body is walked: its path, and its number in preorder.
-#[derive(Debug, Drop)]
+#[derive(Drop)]
 pub(crate) struct Here {
     pub path: Text,
     pub number: u32,
 }
 
 /// What a body gave so far, and the instances below. Each child is one of these.
-#[derive(Debug, Drop)]
+#[derive(Drop)]
 pub(crate) struct Made {
     pub content: Content,
     pub below: Vec<Instance>,

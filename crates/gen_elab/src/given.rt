@@ -6,7 +6,7 @@ use std::marker::Model;
 use text_core::{NoMemory, Text};
 
 /// Parameters that are given to the top, in order, with numbers from -2^62 to 2^62. Contracts see the list.
-#[derive(Debug, Drop)]
+#[derive(Drop)]
 pub struct Given {
     alloc: Global,
     params: Vec<(Text, i64)>,

@@ -7,7 +7,7 @@ use std::marker::Model;
 use text_core::{NoMemory, Text};
 
 /// Parameters with their numbers, in order, found by name. Contracts see the list of them.
-#[derive(Debug, Drop)]
+#[derive(Drop)]
 pub struct Params {
     numbers: IndexMap<Vec<u8>, i64>,
 }

@@ -10,7 +10,7 @@ use std::rc::Rc;
 use text_core::{NoMemory, Text};
 
 /// Parameters, or a turn of a loop inside of others.
-#[derive(Debug, Drop)]
+#[derive(Drop)]
 enum Chain {
     Params(Box<Params>),
     Turn {
@@ -23,7 +23,7 @@ enum Chain {
 /// The names that have a number at a place: the parameters of an instance, and the variables of the loops round the place.
 /// Contracts see the list of them: the parameters in order, then the variables from outer to inner, without those that are
 /// hidden.
-#[derive(Debug, Drop)]
+#[derive(Drop)]
 pub struct Scope {
     chain: Option<Rc<Chain>>,
 }

@@ -196,16 +196,21 @@ zext_at m room inner ts = do
   Ok (zext e.0 w.0, rest)
 
 -- behind `mux`
+-- behind the condition of `mux`
+abbrev pub choice_at : (List Tok → Read Expr) → Expr → List Tok → Read Expr
+choice_at inner test ts = do
+  a ← inner ts
+  t3 ← mark_at mark.Comma a.1
+  b ← inner t3
+  rest ← mark_at mark.RightParen b.1
+  Ok (mux test a.0 b.0, rest)
+
 abbrev pub mux_at : ℕ → (List Tok → Read Expr) → List Tok → Read Expr
 mux_at room inner ts = do
   t1 ← open_at mark.LeftParen room ts
   c ← inner t1
   t2 ← mark_at mark.Comma c.1
-  a ← inner t2
-  t3 ← mark_at mark.Comma a.1
-  b ← inner t3
-  rest ← mark_at mark.RightParen b.1
-  Ok (mux c.0 a.0 b.0, rest)
+  choice_at inner c.0 t2
 
 -- by the form of the first token, from it on and from behind it on
 abbrev pub prim_by : Mode → ℕ → (List Tok → Read Expr) → PrimForm → List Tok → List Tok → Read Expr

@@ -1,4 +1,6 @@
-//! Expressions and integers made of parts, which move behind boxes.
+//! Expressions and integers made of parts that stand behind boxes. A part goes behind its box as soon as it was read: what a
+//! reader lets go where it fails later is then a box, and not each variant of what the box holds; and no variant is made in
+//! place by a function that may fail, since the proofs of such functions are many times as long.
 
 ghost use Rattle.std.specs.Prelude.{◌≡◌, IfOk};
 ghost use Rattle.gen_tree.specs.View.{int_of, expr_of};
@@ -9,44 +11,58 @@ use std::alloc::Global;
 use std::boxed::Box;
 use text_core::NoMemory;
 
-/// An operator between two integers.
-pub(crate) fn computed(alloc: Global, op: IntOp, left: Int, right: Int) -> Result<Int, NoMemory>
-    ensures { IfOk result (λ int. int_of int ≡ tree.bin op (int_of left) (int_of right)) }
+/// A value behind a box.
+pub(crate) fn boxed(alloc: Global, value: Expr) -> Result<Box<Expr>, NoMemory>
+    ensures { IfOk result (λ made. expr_of made.value ≡ expr_of value) }
 {
-    let left = Box::new(alloc, left)?;
-    let right = Box::new(alloc, right)?;
-    Ok(Int::Bin(op, left, right))
+    Ok(Box::new(alloc, value)?)
+}
+
+/// An integer behind a box.
+pub(crate) fn boxed_int(alloc: Global, int: Int) -> Result<Box<Int>, NoMemory>
+    ensures { IfOk result (λ made. int_of made.value ≡ int_of int) }
+{
+    Ok(Box::new(alloc, int)?)
+}
+
+/// An operator between two integers.
+pub(crate) fn computed(op: IntOp, left: Box<Int>, right: Box<Int>) -> Int
+    ensures { int_of result ≡ tree.bin op (int_of left.value) (int_of right.value) }
+{
+    Int::Bin(op, left, right)
 }
 
 /// An operator on a value.
-pub(crate) fn unary(alloc: Global, op: UnOp, value: Expr) -> Result<Expr, NoMemory>
-    ensures { IfOk result (λ made. expr_of made ≡ tree.unary op (expr_of value)) }
+pub(crate) fn unary(op: UnOp, value: Box<Expr>) -> Expr
+    ensures { expr_of result ≡ tree.unary op (expr_of value.value) }
 {
-    let value = Box::new(alloc, value)?;
-    Ok(Expr::Un(op, value))
+    Expr::Un(op, value)
 }
 
 /// An operator between two values.
-pub(crate) fn binary(alloc: Global, op: Op, first: Expr, second: Expr) -> Result<Expr, NoMemory>
-    ensures { IfOk result (λ made. expr_of made ≡ tree.binary op (expr_of first) (expr_of second)) }
+pub(crate) fn binary(op: Op, first: Box<Expr>, second: Box<Expr>) -> Expr
+    ensures { expr_of result ≡ tree.binary op (expr_of first.value) (expr_of second.value) }
 {
-    let first = Box::new(alloc, first)?;
-    let second = Box::new(alloc, second)?;
-    Ok(Expr::Bin(op, first, second))
+    Expr::Bin(op, first, second)
+}
+
+/// A choice between two values.
+pub(crate) fn mux(test: Box<Expr>, first: Box<Expr>, second: Box<Expr>) -> Expr
+    ensures { expr_of result ≡ tree.mux (expr_of test.value) (expr_of first.value) (expr_of second.value) }
+{
+    Expr::Mux(test, first, second)
 }
 
 /// A value, made wider.
-pub(crate) fn zext(alloc: Global, value: Expr, width: Int) -> Result<Expr, NoMemory>
-    ensures { IfOk result (λ made. expr_of made ≡ tree.zext (expr_of value) (int_of width)) }
+pub(crate) fn zext(value: Box<Expr>, width: Int) -> Expr
+    ensures { expr_of result ≡ tree.zext (expr_of value.value) (int_of width) }
 {
-    let value = Box::new(alloc, value)?;
-    Ok(Expr::Zext(value, width))
+    Expr::Zext(value, width)
 }
 
 /// Some of the bits of a value.
-pub(crate) fn slice(alloc: Global, value: Expr, high: Int, low: Int) -> Result<Expr, NoMemory>
-    ensures { IfOk result (λ made. expr_of made ≡ tree.slice (expr_of value) (int_of high) (int_of low)) }
+pub(crate) fn slice(value: Box<Expr>, high: Int, low: Int) -> Expr
+    ensures { expr_of result ≡ tree.slice (expr_of value.value) (int_of high) (int_of low) }
 {
-    let value = Box::new(alloc, value)?;
-    Ok(Expr::Slice(value, high, low))
+    Expr::Slice(value, high, low)
 }

@@ -1,16 +1,17 @@
 ghost use Rattle.std.specs.Prelude.{◌≡◌};
 ghost use Rattle.gen_token.specs.Words.{placed, word_of};
-ghost use Rattle.gen_tree.specs.View.{fam_of, lit_of, expr_of};
+ghost use Rattle.gen_tree.specs.Tree as tree;
+ghost use Rattle.gen_tree.specs.View.{int_of, fam_of, lit_of, expr_of};
 ghost use Rattle.gen_text.specs.Faults.{Gives, with_rest};
 ghost use Rattle.gen_text.specs.Forms.{op_form};
 ghost use Rattle.gen_text.specs.Reading as list;
 
-use crate::build;
+use crate::build::{self, boxed};
 use crate::fault::ReadFault;
 use crate::ints::{fam_rest, int};
-use crate::words::{begins_mark, mark, name, open};
+use crate::words::{begins_mark, closed, name, open};
 use gen_token::{Keyword, Mark, Placed, Token};
-use gen_tree::{Expr, Fam, Lit, Mode, Op, UnOp};
+use gen_tree::{Expr, Fam, Int, Lit, Mode, Op, UnOp};
 use std::alloc::Global;
 use std::boxed::Box;
 use text_core::Text;
@@ -25,10 +26,8 @@ fn bits<'t, 'a>(
     ensures { Gives (with_rest lit_of) result (list.bits_at mode room (placed tokens.now)) }
 {
     let rest = open(tokens, Mark::LeftParen, room)?;
-    let (width, rest) = int(alloc, mode, room - 1, rest)?;
-    let rest = mark(rest, Mark::Comma)?;
-    let (value, rest) = int(alloc, mode, room - 1, rest)?;
-    let rest = mark(rest, Mark::RightParen)?;
+    let (width, rest) = closed(int(alloc, mode, room - 1, rest)?, Mark::Comma)?;
+    let (value, rest) = closed(int(alloc, mode, room - 1, rest)?, Mark::RightParen)?;
     Ok((Lit::Bits { width, value }, rest))
 }
 
@@ -186,10 +185,11 @@ fn bracket<'t, 'a>(
 {
     let rest = open(tokens, Mark::LeftParen, room)?;
     let (first, rest) = expr(alloc, mode, room - 1, rest)?;
+    let first = boxed(alloc, first)?;
     let (op, rest) = op(rest)?;
-    let (second, rest) = expr(alloc, mode, room - 1, rest)?;
-    let rest = mark(rest, Mark::RightParen)?;
-    Ok((build::binary(alloc, op, first, second)?, rest))
+    let (second, rest) = closed(expr(alloc, mode, room - 1, rest)?, Mark::RightParen)?;
+    let second = boxed(alloc, second)?;
+    Ok((build::binary(op, first, second), rest))
 }
 
 /// What stands behind an operator on one value, and what follows it.
@@ -204,9 +204,9 @@ fn unary<'t, 'a>(
     ensures { Gives (with_rest expr_of) result (list.unary_at room (list.inner_expr mode room) op (placed tokens.now)) }
 {
     let rest = open(tokens, Mark::LeftParen, room)?;
-    let (value, rest) = expr(alloc, mode, room - 1, rest)?;
-    let rest = mark(rest, Mark::RightParen)?;
-    Ok((build::unary(alloc, op, value)?, rest))
+    let (value, rest) = closed(expr(alloc, mode, room - 1, rest)?, Mark::RightParen)?;
+    let value = boxed(alloc, value)?;
+    Ok((build::unary(op, value), rest))
 }
 
 /// What stands behind `cat`, and what follows it.
@@ -220,11 +220,11 @@ fn cat<'t, 'a>(
     ensures { Gives (with_rest expr_of) result (list.cat_at room (list.inner_expr mode room) (placed tokens.now)) }
 {
     let rest = open(tokens, Mark::LeftParen, room)?;
-    let (high, rest) = expr(alloc, mode, room - 1, rest)?;
-    let rest = mark(rest, Mark::Comma)?;
-    let (low, rest) = expr(alloc, mode, room - 1, rest)?;
-    let rest = mark(rest, Mark::RightParen)?;
-    Ok((build::binary(alloc, Op::Cat, high, low)?, rest))
+    let (high, rest) = closed(expr(alloc, mode, room - 1, rest)?, Mark::Comma)?;
+    let high = boxed(alloc, high)?;
+    let (low, rest) = closed(expr(alloc, mode, room - 1, rest)?, Mark::RightParen)?;
+    let low = boxed(alloc, low)?;
+    Ok((build::binary(Op::Cat, high, low), rest))
 }
 
 /// What stands behind `zext`, and what follows it.
@@ -238,11 +238,10 @@ fn zext<'t, 'a>(
     ensures { Gives (with_rest expr_of) result (list.zext_at mode room (list.inner_expr mode room) (placed tokens.now)) }
 {
     let rest = open(tokens, Mark::LeftParen, room)?;
-    let (value, rest) = expr(alloc, mode, room - 1, rest)?;
-    let rest = mark(rest, Mark::Comma)?;
-    let (width, rest) = int(alloc, mode, room - 1, rest)?;
-    let rest = mark(rest, Mark::RightParen)?;
-    Ok((build::zext(alloc, value, width)?, rest))
+    let (value, rest) = closed(expr(alloc, mode, room - 1, rest)?, Mark::Comma)?;
+    let value = boxed(alloc, value)?;
+    let (width, rest) = closed(int(alloc, mode, room - 1, rest)?, Mark::RightParen)?;
+    Ok((build::zext(value, width), rest))
 }
 
 /// What stands behind `mux`, and what follows it.
@@ -256,15 +255,27 @@ fn mux<'t, 'a>(
     ensures { Gives (with_rest expr_of) result (list.mux_at room (list.inner_expr mode room) (placed tokens.now)) }
 {
     let rest = open(tokens, Mark::LeftParen, room)?;
-    let (test, rest) = expr(alloc, mode, room - 1, rest)?;
-    let rest = mark(rest, Mark::Comma)?;
-    let (first, rest) = expr(alloc, mode, room - 1, rest)?;
-    let rest = mark(rest, Mark::Comma)?;
-    let (second, rest) = expr(alloc, mode, room - 1, rest)?;
-    let rest = mark(rest, Mark::RightParen)?;
-    let test = Box::new(alloc, test)?;
-    let value = Expr::Mux(test, Box::new(alloc, first)?, Box::new(alloc, second)?);
-    Ok((value, rest))
+    let (test, rest) = closed(expr(alloc, mode, room - 1, rest)?, Mark::Comma)?;
+    let test = boxed(alloc, test)?;
+    choice(alloc, mode, room - 1, test, rest)
+}
+
+/// The two values that `mux` chooses from, behind its condition, and what follows them.
+#[cycle(exprs)]
+fn choice<'t, 'a>(
+    alloc: Global,
+    mode: Mode,
+    room: usize,
+    test: Box<Expr>,
+    tokens: &'t [Placed<'a>],
+) -> Result<(Expr, &'t [Placed<'a>]), ReadFault>
+    ensures { Gives (with_rest expr_of) result (list.choice_at (list.expr_at mode room) (expr_of test.value) (placed tokens.now)) }
+{
+    let (first, rest) = closed(expr(alloc, mode, room, tokens)?, Mark::Comma)?;
+    let first = boxed(alloc, first)?;
+    let (second, rest) = closed(expr(alloc, mode, room, rest)?, Mark::RightParen)?;
+    let second = boxed(alloc, second)?;
+    Ok((build::mux(test, first, second), rest))
 }
 
 /// A value with a slice behind it, or without, and what follows.
@@ -280,23 +291,22 @@ fn slice<'t, 'a>(
     if !begins_mark(tokens, Mark::LeftBracket) {
         return Ok((value, tokens));
     }
-    bounds(alloc, mode, room, value, tokens)
+    let value = boxed(alloc, value)?;
+    let ((high, low), rest) = bounds(alloc, mode, room, tokens)?;
+    Ok((build::slice(value, high, low), rest))
 }
 
-/// A value with the slice behind it, and what follows.
+/// The bounds of a slice, whatever it is of, and what follows them.
 fn bounds<'t, 'a>(
     alloc: Global,
     mode: Mode,
     room: usize,
-    value: Expr,
     tokens: &'t [Placed<'a>],
-) -> Result<(Expr, &'t [Placed<'a>]), ReadFault>
-    ensures { Gives (with_rest expr_of) result (list.bounds_at mode room (expr_of value) (placed tokens.now)) }
+) -> Result<((Int, Int), &'t [Placed<'a>]), ReadFault>
+    ensures { (value : tree.Expr) → Gives (with_rest (λ bounds. tree.slice value (int_of bounds.0) (int_of bounds.1))) result (list.bounds_at mode room value (placed tokens.now)) }
 {
     let rest = open(tokens, Mark::LeftBracket, room)?;
-    let (high, rest) = int(alloc, mode, room - 1, rest)?;
-    let rest = mark(rest, Mark::Colon)?;
-    let (low, rest) = int(alloc, mode, room - 1, rest)?;
-    let rest = mark(rest, Mark::RightBracket)?;
-    Ok((build::slice(alloc, value, high, low)?, rest))
+    let (high, rest) = closed(int(alloc, mode, room - 1, rest)?, Mark::Colon)?;
+    let (low, rest) = closed(int(alloc, mode, room - 1, rest)?, Mark::RightBracket)?;
+    Ok(((high, low), rest))
 }

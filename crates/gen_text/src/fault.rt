@@ -7,7 +7,7 @@ use std::alloc::{AllocError, AllocFailed};
 use text_core::NoMemory;
 
 /// Why a text is not read.
-#[derive(Clone, Copy, Debug, PartialEq, Eq)]
+#[derive(Clone, Copy, PartialEq, Eq)]
 pub enum TextFault {
     /// It has more than 1,048,576 bytes.
     TooLong,
@@ -24,7 +24,7 @@ pub enum TextFault {
 }
 
 /// Why tokens are not read.
-#[derive(Clone, Copy, Debug, PartialEq, Eq)]
+#[derive(Clone, Copy, PartialEq, Eq)]
 pub(crate) enum ReadFault {
     /// No form goes on with the token that stands so many tokens before the end; 0 at the end.
     At { left: usize },

@@ -5,9 +5,9 @@ ghost use Rattle.gen_text.specs.Faults.{Gives, with_rest};
 ghost use Rattle.gen_text.specs.Forms.{int_op_form, cmp_form};
 ghost use Rattle.gen_text.specs.Reading as list;
 
-use crate::build;
+use crate::build::{self, boxed_int};
 use crate::fault::ReadFault;
-use crate::words::{is_mark, mark, name};
+use crate::words::{closed, is_mark, name};
 use gen_token::{Mark, Placed, Token};
 use gen_tree::{Cmp, Fam, Int, IntOp, Mode};
 use std::alloc::Global;
@@ -120,10 +120,11 @@ fn int_group<'t, 'a>(
     ensures { Gives (with_rest int_of) result (list.group_at (list.int_at mode room) (placed tokens.now)) }
 {
     let (left, rest) = int(alloc, mode, room, tokens)?;
+    let left = boxed_int(alloc, left)?;
     let (op, rest) = int_op(rest)?;
-    let (right, rest) = int(alloc, mode, room, rest)?;
-    let rest = mark(rest, Mark::RightParen)?;
-    Ok((build::computed(alloc, op, left, right)?, rest))
+    let (right, rest) = closed(int(alloc, mode, room, rest)?, Mark::RightParen)?;
+    let right = boxed_int(alloc, right)?;
+    Ok((build::computed(op, left, right), rest))
 }
 
 /// The index behind a name, or none, and what follows it.

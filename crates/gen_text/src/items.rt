@@ -9,7 +9,7 @@ use crate::fault::ReadFault;
 use crate::ints::{fam, int};
 use crate::members::{conns, params};
 use crate::stmts::{block, given, turns};
-use crate::words::{begins_keyword, begins_mark, mark, open};
+use crate::words::{begins_keyword, begins_mark, closed, open};
 use gen_token::{Keyword, Mark, Placed, Token};
 use gen_tree::{Item, Mode};
 use std::alloc::Global;
@@ -49,10 +49,8 @@ fn wire<'t, 'a>(
 ) -> Result<(Item, &'t [Placed<'a>]), ReadFault>
     ensures { Gives (with_rest item_of) result (list.wire_at room line (placed tokens.now)) }
 {
-    let (name, rest) = fam(alloc, room, tokens)?;
-    let rest = mark(rest, Mark::Colon)?;
-    let (width, rest) = int(alloc, Mode::Source, room, rest)?;
-    let rest = mark(rest, Mark::Semicolon)?;
+    let (name, rest) = closed(fam(alloc, room, tokens)?, Mark::Colon)?;
+    let (width, rest) = closed(int(alloc, Mode::Source, room, rest)?, Mark::Semicolon)?;
     Ok((Item::Wire { line, name, width }, rest))
 }
 
@@ -66,12 +64,9 @@ fn reg<'t, 'a>(
 ) -> Result<(Item, &'t [Placed<'a>]), ReadFault>
     ensures { Gives (with_rest item_of) result (list.reg_at room line (placed tokens.now)) }
 {
-    let (name, rest) = fam(alloc, room, tokens)?;
-    let rest = mark(rest, Mark::Colon)?;
-    let (width, rest) = int(alloc, Mode::Source, room, rest)?;
-    let rest = mark(rest, Mark::Equals)?;
-    let (start, rest) = lit(alloc, Mode::Source, room, rest)?;
-    let rest = mark(rest, Mark::Semicolon)?;
+    let (name, rest) = closed(fam(alloc, room, tokens)?, Mark::Colon)?;
+    let (width, rest) = closed(int(alloc, Mode::Source, room, rest)?, Mark::Equals)?;
+    let (start, rest) = closed(lit(alloc, Mode::Source, room, rest)?, Mark::Semicolon)?;
     let reg = Item::Reg {
         line,
         name,
@@ -91,8 +86,7 @@ fn inst<'t, 'a>(
 ) -> Result<(Item, &'t [Placed<'a>]), ReadFault>
     ensures { Gives (with_rest item_of) result (list.inst_at room line (placed tokens.now)) }
 {
-    let (name, rest) = fam(alloc, room, tokens)?;
-    let rest = mark(rest, Mark::Colon)?;
+    let (name, rest) = closed(fam(alloc, room, tokens)?, Mark::Colon)?;
     let (module, rest) = crate::words::name(rest)?;
     let (args, rest) = params(alloc, room, rest)?;
     let (conns, rest) = conns(alloc, room, rest)?;
@@ -215,6 +209,5 @@ fn item_block<'t, 'a>(
         all.push(one)?;
         rest = after;
     }
-    let rest = mark(rest, Mark::RightBrace)?;
-    Ok((all, rest))
+    closed((all, rest), Mark::RightBrace)
 }

@@ -7,7 +7,7 @@ ghost use Rattle.gen_text.specs.Reading as list;
 use crate::exprs::expr;
 use crate::fault::ReadFault;
 use crate::ints::int;
-use crate::words::{begins_mark, mark, name, open};
+use crate::words::{begins_mark, closed, mark, name, open};
 use gen_token::{Mark, Placed, Token};
 use gen_tree::{Conn, Mode, Param};
 use std::alloc::Global;
@@ -52,9 +52,7 @@ pub(crate) fn params<'t, 'a>(
         return Ok((Vec::new(alloc), tokens));
     }
     let rest = open(tokens, Mark::LeftParen, room)?;
-    let (all, rest) = param_list(alloc, room - 1, rest)?;
-    let rest = mark(rest, Mark::RightParen)?;
-    Ok((all, rest))
+    closed(param_list(alloc, room - 1, rest)?, Mark::RightParen)
 }
 
 /// One parameter or more, with commas between them, and what follows them.
@@ -104,8 +102,7 @@ fn conn_rest<'t, 'a>(
     ensures { Gives (with_rest conn_of) result (list.conn_rest_at room line port.now (placed tokens.now)) }
 {
     let rest = mark(tokens, Mark::Equals)?;
-    let (value, rest) = expr(alloc, Mode::Source, room, rest)?;
-    let rest = mark(rest, Mark::Semicolon)?;
+    let (value, rest) = closed(expr(alloc, Mode::Source, room, rest)?, Mark::Semicolon)?;
     let port = Text::new(alloc, port)?;
     Ok((Conn { line, port, value }, rest))
 }
@@ -125,6 +122,5 @@ pub(crate) fn conns<'t, 'a>(
         all.push(one)?;
         rest = after;
     }
-    let rest = mark(rest, Mark::RightBrace)?;
-    Ok((all, rest))
+    closed((all, rest), Mark::RightBrace)
 }

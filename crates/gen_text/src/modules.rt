@@ -9,7 +9,7 @@ use crate::fault::ReadFault;
 use crate::ints::int;
 use crate::items::item;
 use crate::members::params;
-use crate::words::{begins_mark, is_keyword, mark, name, open};
+use crate::words::{begins_mark, closed, is_keyword, mark, name, open};
 use gen_token::{Keyword, Mark, Placed, Token};
 use gen_tree::{Item, Mode, Module, Port};
 use std::alloc::Global;
@@ -68,8 +68,7 @@ fn port_rest<'t, 'a>(
 {
     let (name, rest) = name(tokens)?;
     let rest = mark(rest, Mark::Colon)?;
-    let (width, rest) = int(alloc, Mode::Source, room, rest)?;
-    let rest = mark(rest, Mark::Semicolon)?;
+    let (width, rest) = closed(int(alloc, Mode::Source, room, rest)?, Mark::Semicolon)?;
     let name = Text::new(alloc, name)?;
     let port = Port {
         line,
@@ -114,8 +113,7 @@ fn content<'t, 'a>(
         all.push(one)?;
         rest = after;
     }
-    let rest = mark(rest, Mark::RightBrace)?;
-    Ok(((ports, all), rest))
+    closed(((ports, all), rest), Mark::RightBrace)
 }
 
 /// The module, from behind its keyword on, and what follows it.

@@ -7,7 +7,7 @@ ghost use Rattle.gen_text.specs.Reading as list;
 use crate::exprs::expr;
 use crate::fault::ReadFault;
 use crate::ints::{cmp, fam, fam_rest, int};
-use crate::words::{begins_keyword, begins_mark, keyword, mark, name, open};
+use crate::words::{begins_keyword, begins_mark, closed, keyword, mark, name, open};
 use gen_token::{Keyword, Mark, Placed, Token};
 use gen_tree::{Cmp, Int, Mode, Stmt};
 use std::alloc::Global;
@@ -23,8 +23,7 @@ pub(crate) fn turns<'t, 'a>(
 {
     let (var, rest) = name(tokens)?;
     let rest = keyword(rest, Keyword::In)?;
-    let (from, rest) = int(alloc, Mode::Source, room, rest)?;
-    let rest = mark(rest, Mark::DotDot)?;
+    let (from, rest) = closed(int(alloc, Mode::Source, room, rest)?, Mark::DotDot)?;
     let (to, rest) = int(alloc, Mode::Source, room, rest)?;
     let var = Text::new(alloc, var)?;
     Ok(((var, from, to), rest))
@@ -42,8 +41,7 @@ pub(crate) fn given<'t, 'a>(
     let rest = open(rest, Mark::LeftParen, room)?;
     let (left, rest) = int(alloc, Mode::Source, room - 1, rest)?;
     let (cmp, rest) = cmp(rest)?;
-    let (right, rest) = int(alloc, Mode::Source, room - 1, rest)?;
-    let rest = mark(rest, Mark::RightParen)?;
+    let (right, rest) = closed(int(alloc, Mode::Source, room - 1, rest)?, Mark::RightParen)?;
     Ok(((left, cmp, right), rest))
 }
 
@@ -97,8 +95,7 @@ fn assign<'t, 'a>(
 {
     let (target, rest) = fam_rest(alloc, Mode::Source, room, name, tokens)?;
     let rest = assign_mark(clocked, rest)?;
-    let (value, rest) = expr(alloc, Mode::Source, room, rest)?;
-    let rest = mark(rest, Mark::Semicolon)?;
+    let (value, rest) = closed(expr(alloc, Mode::Source, room, rest)?, Mark::Semicolon)?;
     let assign = Stmt::Assign {
         line,
         target,
@@ -117,10 +114,8 @@ fn bind<'t, 'a>(
 ) -> Result<(Stmt, &'t [Placed<'a>]), ReadFault>
     ensures { Gives (with_rest stmt_of) result (list.let_at room line (placed tokens.now)) }
 {
-    let (name, rest) = fam(alloc, room, tokens)?;
-    let rest = mark(rest, Mark::Equals)?;
-    let (value, rest) = expr(alloc, Mode::Source, room, rest)?;
-    let rest = mark(rest, Mark::Semicolon)?;
+    let (name, rest) = closed(fam(alloc, room, tokens)?, Mark::Equals)?;
+    let (value, rest) = closed(expr(alloc, Mode::Source, room, rest)?, Mark::Semicolon)?;
     Ok((Stmt::Let { line, name, value }, rest))
 }
 
@@ -234,6 +229,5 @@ pub(crate) fn block<'t, 'a>(
         all.push(one)?;
         rest = after;
     }
-    let rest = mark(rest, Mark::RightBrace)?;
-    Ok((all, rest))
+    closed((all, rest), Mark::RightBrace)
 }

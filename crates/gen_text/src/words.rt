@@ -55,6 +55,20 @@ pub(crate) fn mark<'t, 'a>(
     }
 }
 
+/// What was read, where this mark stands behind it, and what follows the mark. What is read goes through here, so that a
+/// reader has nothing to let go where the mark is not there.
+pub(crate) fn closed<'t, 'a, T: Drop>(
+    read: (T, &'t [Placed<'a>]),
+    by: Mark,
+) -> Result<(T, &'t [Placed<'a>]), ReadFault>
+    ensures exact { Gives (λ found. placed found.1.now) result (mark_at by (placed read.entry.1.now)) }
+    ensures same { IfOk result (λ found. found.0 ≡ read.entry.0) }
+{
+    let (found, tokens) = read;
+    let rest = mark(tokens, by)?;
+    Ok((found, rest))
+}
+
 /// What follows this keyword.
 pub(crate) fn keyword<'t, 'a>(
     tokens: &'t [Placed<'a>],

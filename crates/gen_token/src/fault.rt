@@ -5,7 +5,7 @@ use std::alloc::{AllocError, AllocFailed};
 use text_core::NoMemory;
 
 /// Why a text gave no tokens.
-#[derive(Clone, Copy, Debug, PartialEq, Eq)]
+#[derive(Clone, Copy, PartialEq, Eq)]
 pub enum TokenFault {
     /// No token begins at some place of the text. This is the line of the first such place; lines count from 1.
     BadToken { line: u32 },

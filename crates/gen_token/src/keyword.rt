@@ -2,7 +2,7 @@ ghost use Rattle.std.specs.Prelude.{◌≡◌, bytes_eq};
 ghost use Rattle.gen_token.specs.Keywords.{keyword_text, keyword_of};
 
 /// A word of the language that is no name.
-#[derive(Clone, Copy, Debug, PartialEq, Eq)]
+#[derive(Clone, Copy, PartialEq, Eq)]
 pub enum Keyword {
     Module,
     Input,

@@ -3,7 +3,7 @@ ghost use Rattle.std.specs.List.{starts_with};
 ghost use Rattle.gen_token.specs.Marks.{mark_text, mark_of};
 
 /// A sign between names and numbers.
-#[derive(Clone, Copy, Debug, PartialEq, Eq)]
+#[derive(Clone, Copy, PartialEq, Eq)]
 pub enum Mark {
     LeftBrace,
     RightBrace,

@@ -1,7 +1,7 @@
 use crate::{Keyword, Mark};
 
 /// A token. Its text and its numbers are what a source says; nothing of where it stands.
-#[derive(Clone, Copy, Debug)]
+#[derive(Clone, Copy)]
 pub enum Token<'a> {
     /// A letter, then letters, digits and `_`, and no keyword.
     Name(&'a [u8]),
@@ -16,7 +16,7 @@ pub enum Token<'a> {
 }
 
 /// A token, and the line that it stands on; lines count from 1.
-#[derive(Clone, Copy, Debug)]
+#[derive(Clone, Copy)]
 pub struct Placed<'a> {
     pub line: u32,
     pub token: Token<'a>,

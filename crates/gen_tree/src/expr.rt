@@ -2,7 +2,7 @@ use std::boxed::Box;
 use text_core::Text;
 
 /// An integer that elaboration computes.
-#[derive(Debug, Drop)]
+#[derive(Drop)]
 pub enum Int {
     /// A number, from 0 to 2^62.
     Num(u64),
@@ -13,7 +13,7 @@ pub enum Int {
 }
 
 /// An operator between two integers.
-#[derive(Clone, Copy, Debug, PartialEq, Eq)]
+#[derive(Clone, Copy, PartialEq, Eq)]
 pub enum IntOp {
     Add,
     Sub,
@@ -21,7 +21,7 @@ pub enum IntOp {
 }
 
 /// A comparison of two integers.
-#[derive(Clone, Copy, Debug, PartialEq, Eq)]
+#[derive(Clone, Copy, PartialEq, Eq)]
 pub enum Cmp {
     Eq,
     Ne,
@@ -30,14 +30,14 @@ pub enum Cmp {
 }
 
 /// A name, with an index if it is a member of a family.
-#[derive(Debug, Drop)]
+#[derive(Drop)]
 pub struct Fam {
     pub name: Text,
     pub index: Option<Int>,
 }
 
 /// A literal: how wide it is said to be, and its value, which need not fit.
-#[derive(Debug, Drop)]
+#[derive(Drop)]
 pub enum Lit {
     /// A width from 0 to 2^62, and a value from 0 to 2^128 - 1.
     Plain { width: u64, value: u128 },
@@ -46,7 +46,7 @@ pub enum Lit {
 }
 
 /// An operator on one value.
-#[derive(Clone, Copy, Debug, PartialEq, Eq)]
+#[derive(Clone, Copy, PartialEq, Eq)]
 pub enum UnOp {
     Not,
     All,
@@ -55,7 +55,7 @@ pub enum UnOp {
 }
 
 /// An operator on two values. `Cat` is written `cat(a, b)`, each other one between its operands.
-#[derive(Clone, Copy, Debug, PartialEq, Eq)]
+#[derive(Clone, Copy, PartialEq, Eq)]
 pub enum Op {
     Add,
     Sub,
@@ -73,7 +73,7 @@ pub enum Op {
 }
 
 /// An expression.
-#[derive(Debug, Drop)]
+#[derive(Drop)]
 pub enum Expr {
     /// A signal or a `let`.
     Read(Fam),

@@ -2,14 +2,14 @@ use crate::{Cmp, Expr, Fam, Int, Lit, Stmt};
 use text_core::Text;
 
 /// A parameter: in a module its default, at an `inst` its argument.
-#[derive(Debug, Drop)]
+#[derive(Drop)]
 pub struct Param {
     pub name: Text,
     pub value: Int,
 }
 
 /// What an input of a child is connected to.
-#[derive(Debug, Drop)]
+#[derive(Drop)]
 pub struct Conn {
     pub line: u32,
     pub port: Text,
@@ -17,7 +17,7 @@ pub struct Conn {
 }
 
 /// What a module's body is made of, behind its ports.
-#[derive(Debug, Drop)]
+#[derive(Drop)]
 pub enum Item {
     /// `wire name: width;`
     Wire {

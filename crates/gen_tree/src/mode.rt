@@ -1,5 +1,5 @@
 /// In which texts an expression stands.
-#[derive(Clone, Copy, Debug, PartialEq, Eq)]
+#[derive(Clone, Copy, PartialEq, Eq)]
 pub enum Mode {
     /// In a source.
     Source,

@@ -2,13 +2,13 @@ use crate::{Int, Item, Param};
 use text_core::Text;
 
 /// A source: its modules in order, one at least.
-#[derive(Debug, Drop)]
+#[derive(Drop)]
 pub struct Source {
     pub modules: Vec<Module>,
 }
 
 /// `module name(params) { ports items }`; without parameters no brackets stand there
-#[derive(Debug, Drop)]
+#[derive(Drop)]
 pub struct Module {
     pub line: u32,
     pub name: Text,
@@ -18,7 +18,7 @@ pub struct Module {
 }
 
 /// `input name: width;` or `output name: width;`
-#[derive(Debug, Drop)]
+#[derive(Drop)]
 pub struct Port {
     pub line: u32,
     pub output: bool,

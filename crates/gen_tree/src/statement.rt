@@ -2,7 +2,7 @@ use crate::{Cmp, Expr, Fam, Int};
 use text_core::Text;
 
 /// A statement of a block.
-#[derive(Debug, Drop)]
+#[derive(Drop)]
 pub enum Stmt {
     /// `target = value;` in a `comb`, `target <= value;` in an `ff`
     Assign {

@@ -4,7 +4,7 @@ ghost use Rattle.graph_order.specs.declared.fault.GraphFault.TheVariants.{NoMemo
 use std::alloc::{AllocError, AllocFailed};
 
 /// Why a graph has no order.
-#[derive(Debug, Drop)]
+#[derive(Drop)]
 pub enum GraphFault {
     /// Different vertices, each with an edge to the next and the last to the first, which is the least of them.
     Cycle(Vec<u32>),

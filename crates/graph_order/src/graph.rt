@@ -7,7 +7,7 @@ use std::marker::Model;
 use text_core::NoMemory;
 
 /// Where the edges of a vertex stand.
-#[derive(Clone, Copy, Debug)]
+#[derive(Clone, Copy)]
 pub struct Span {
     first: usize,
     past: usize,

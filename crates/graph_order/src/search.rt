@@ -11,7 +11,7 @@ use crate::{Graph, GraphFault};
 use std::alloc::{AllocError, Global};
 
 /// How far a vertex is.
-#[derive(Clone, Copy, Debug)]
+#[derive(Clone, Copy)]
 pub(crate) enum Mark {
     /// Not met yet.
     New,

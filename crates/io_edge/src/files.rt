@@ -6,7 +6,7 @@ ghost use Rattle.io_edge.specs.Files.{Reads, asked_after};
 use std::alloc::{AllocError, AllocFailed, Global};
 
 /// Why the bytes of a file were not answered.
-#[derive(Clone, Copy, Debug, PartialEq, Eq)]
+#[derive(Clone, Copy, PartialEq, Eq)]
 pub enum FileEnd {
     /// The file is missing or was not read; the count of faults rose.
     Failed,

@@ -1,6 +1,6 @@
 /// What a listener is told of a stop: the cycle, from 0; the slot, from 0; its line in the source, from 1; and how many
 /// instances are threads there.
-#[derive(Clone, Copy, Debug, PartialEq, Eq)]
+#[derive(Clone, Copy, PartialEq, Eq)]
 pub struct StopNote {
     pub cycle: u64,
     pub slot: u32,

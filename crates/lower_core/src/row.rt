@@ -6,7 +6,7 @@ use world_core::Mode;
 
 /// What one instance has at a statement: the node of its enable, and a node for each name in scope, in order; None for a name
 /// that some path to the statement does not assign.
-#[derive(Debug, Drop)]
+#[derive(Drop)]
 pub struct FullRow {
     pub slot: u32,
     pub instance: u32,

@@ -2,7 +2,7 @@ use crate::Node;
 use std::hash::{Hash, Hasher};
 
 /// A node with its width, which the nodes below it decide.
-#[derive(Debug, Drop)]
+#[derive(Drop)]
 pub(crate) struct Entry {
     pub(crate) node: Node,
     pub(crate) width: u8,

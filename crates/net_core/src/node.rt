@@ -7,7 +7,7 @@ use std::hash::{Hash, Hasher};
 use text_core::Text;
 
 /// A node of a net: an equation for its value over the values of the nodes that it names.
-#[derive(Debug, Drop)]
+#[derive(Drop)]
 pub enum Node {
     /// This value, always.
     Const(Bv),

@@ -7,7 +7,7 @@ ghost use Rattle.net_core.specs.Outcomes.{outcome_of};
 use bv_core::{Bv, Op1, Op2, apply1, apply2, choose};
 
 /// What folding makes of an operator on nodes that are folded.
-#[derive(Clone, Copy, Debug)]
+#[derive(Clone, Copy)]
 pub(crate) enum Outcome {
     /// This constant.
     Value(Bv),

@@ -5,7 +5,7 @@ use io_edge::Failed;
 use std::alloc::{AllocError, AllocFailed};
 
 /// Why a text was not written to its end.
-#[derive(Clone, Copy, Debug, PartialEq, Eq)]
+#[derive(Clone, Copy, PartialEq, Eq)]
 pub enum SinkEnd {
     /// The sink failed; its count of faults rose.
     Failed,

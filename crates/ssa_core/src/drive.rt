@@ -17,7 +17,7 @@ use std::alloc::Global;
 use text_core::NoMemory;
 
 /// What drives a signal.
-#[derive(Clone, Copy, Debug)]
+#[derive(Clone, Copy)]
 pub enum Drive {
     /// The link of this number.
     Link(u32),

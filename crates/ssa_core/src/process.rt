@@ -9,7 +9,7 @@ use std::alloc::Global;
 use text_core::NoMemory;
 
 /// A process: a block of an instance, by the numbers of the instance, of its variant, and of the block in the variant.
-#[derive(Clone, Copy, Debug)]
+#[derive(Clone, Copy)]
 pub struct ProcessKey {
     pub instance: u32,
     pub variant: u32,

@@ -7,7 +7,7 @@ use std::marker::Model;
 
 /// A stimulus: the values of a design's inputs in each cycle. It keeps that it has at most 1,000,000 rows, and that
 /// each row has one value for each input of its ports, in order and of its width.
-#[derive(Debug, Drop)]
+#[derive(Drop)]
 pub struct Stim {
     ports: Ports,
     count: u64,

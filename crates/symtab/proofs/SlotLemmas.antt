@@ -6,8 +6,9 @@ use Rattle.std.proofs.lemmas.List.Elements.{All-push, All-same}
 use Rattle.symtab.specs.declared.parts.NodeName.{NodeName}
 use Rattle.symtab.specs.declared.parts.Slot.{Slot}
 use Rattle.symtab.specs.Apart.{AreApart}
-use Rattle.symtab.specs.Checked.{IsPlaced, AreRows}
-use Rattle.symtab.specs.Shape.{IsSlot}
+use Rattle.symtab.specs.declared.parts.TableParts.{TableParts}
+use Rattle.symtab.specs.Checked.{IsPlaced, AreRows, AreNamed}
+use Rattle.symtab.specs.Shape.{IsSlot, IsTable, variants_of}
 
 -- the names of these texts are the texts that they are
 own_texts : (texts own : List (List ℕ)) → texts ≡ own → map (λ text. text) texts ≡ own
@@ -69,6 +70,22 @@ all_fit {N} nodes own_nodes count own_count variants own_variants slots own_slot
     let fit_count = subst (λ (m : ℕ). All (IsSlot own_nodes m variants) slots) same_count fit_nodes in
     let fit_variants = subst (λ (v : List ℕ). All (IsSlot own_nodes own_count v) slots) same_variants fit_count in
     subst (λ (s : List Slot). All (IsSlot own_nodes own_count own_variants) s) same_slots fit_variants
+
+-- slots of which one breaks a rule
+pub none_fit : {N : Type 0} (nodes own_nodes : List NodeName) (count own_count : ℕ) (variants : List ℕ) (slots own_slots : List Slot) (found : Option N) →
+    nodes ≡ own_nodes → count ≡ own_count → slots ≡ own_slots →
+    (IsSome found ↔ All (IsSlot nodes count variants) slots) → found ≡ None → All (IsSlot own_nodes own_count variants) own_slots → ⊥
+none_fit {N} nodes own_nodes count own_count variants slots own_slots found same_nodes same_count same_slots tested none fit =
+    let fit_slots = subst (λ (s : List Slot). All (IsSlot own_nodes own_count variants) s) (sym same_slots) fit in
+    let fit_count = subst (λ (m : ℕ). All (IsSlot own_nodes m variants) slots) (sym same_count) fit_slots in
+    let fit_nodes = subst (λ (n : List NodeName). All (IsSlot n count variants) slots) (sym same_nodes) fit_count in
+    false≢true (subst (λ (o : Option N). IsSome o) none (tested.1 fit_nodes))
+
+-- parts whose names or slots break a rule are no table's
+pub not_named : {N : Type 0} (parts : TableParts) (variants : List ℕ) (found : Option N) → variants ≡ variants_of parts.instances → (IsSome found ↔ AreNamed variants parts) → found ≡ None → IsTable parts → ⊥
+not_named {N} parts variants found are tested none table =
+    let named : AreNamed variants parts = subst (λ (of_instances : List ℕ). AreNamed of_instances parts) (sym are) (record { node_names = table.node_names; paths = table.paths; slots = table.slots }) in
+    false≢true (subst (λ (o : Option N). IsSome o) none (tested.1 named))
 
 -- the names that were made of some items
 pub made_of : {N A B : Type 0} (look : N → List B) (name_of : A → B) (items own : List A) (found : Option N) (made : N) → items ≡ own →

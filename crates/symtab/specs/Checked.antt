@@ -1,10 +1,11 @@
 -- The rules of shape in the groups in which they are tested.
-use Rattle.std.specs.Prelude.{◌≡◌, ℕ, ◌<◌, ◌^◌, List, Some, All, length, slice_get}
+use Rattle.std.specs.Prelude.{◌≡◌, ℕ, ◌<◌, ◌^◌, List, Some, All, length, map, slice_get}
 use Rattle.symtab.specs.declared.parts.NodeName.{NodeName}
 use Rattle.symtab.specs.declared.parts.Slot.{Slot}
 use Rattle.symtab.specs.declared.parts.TableParts.{TableParts}
 use Rattle.symtab.specs.Places.{places}
-use Rattle.symtab.specs.Shape.{IsShort, IsWidth, AreGens, IsRow, paths_of}
+use Rattle.symtab.specs.Apart.{AreApart}
+use Rattle.symtab.specs.Shape.{IsShort, IsWidth, AreGens, IsRow, IsSlot, paths_of}
 
 -- the rules on the variant, the line, the generator variables and the number of names of a slot
 pub record IsPlaced (variants : ℕ) (slot : Slot) : Type 0 where
@@ -28,3 +29,9 @@ pub record IsNumbered (parts : TableParts) : Type 0 where
   pub instances : All (λ instance. instance.variant < length parts.variants) parts.instances
   pub top : slice_get (paths_of parts.instances) 0 ≡ Some parts.top
   pub short_slots : IsShort parts.slots
+
+-- the rules that speak of names that differ, and of slots, over the variant of each instance
+pub record AreNamed (of_instances : List ℕ) (parts : TableParts) : Type 0 where
+  pub node_names : AreApart (map (λ node. node.name) parts.nodes)
+  pub paths : AreApart (paths_of parts.instances)
+  pub slots : All (IsSlot parts.nodes (length parts.variants) of_instances) parts.slots

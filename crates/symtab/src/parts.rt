@@ -3,35 +3,35 @@ use std::alloc::AllocError;
 use text_core::{Listed, NoMemory, Text};
 
 /// A node of the design: its name, and its width in bits. In a table the widths are 1 to 128.
-#[derive(Debug, Drop)]
+#[derive(Drop)]
 pub struct NodeName {
     pub name: Text,
     pub width: u8,
 }
 
 /// A generator variable and its number. In a table the numbers are from -2^62 to 2^62.
-#[derive(Debug, Drop)]
+#[derive(Drop)]
 pub struct GenVariable {
     pub name: Text,
     pub value: i64,
 }
 
 /// A variant of a module: the module's name, and the generator variables that it was made with.
-#[derive(Debug, Drop)]
+#[derive(Drop)]
 pub struct VariantParts {
     pub module: Text,
     pub gens: Listed<GenVariable>,
 }
 
 /// An instance: its path, and the number of its variant.
-#[derive(Debug, Drop)]
+#[derive(Drop)]
 pub struct InstanceParts {
     pub path: Text,
     pub variant: u32,
 }
 
 /// What one instance has at a statement: where the enable is found, and what each name in scope stands for.
-#[derive(Debug, Drop)]
+#[derive(Drop)]
 pub struct Row {
     pub on: Ref,
     pub cells: Listed<Binding>,
@@ -39,7 +39,7 @@ pub struct Row {
 
 /// A statement of a variant: its line, its generator variables, the names in scope, and a row for each instance of the
 /// variant, in order. In a table the line is below 2^30, and a row has a cell for each name, in order.
-#[derive(Debug, Drop)]
+#[derive(Drop)]
 pub struct Slot {
     pub variant: u32,
     pub line: u32,
@@ -49,7 +49,7 @@ pub struct Slot {
 }
 
 /// The parts of a symbol table. Nodes, variants, instances and slots are numbered from 0, in order.
-#[derive(Debug, Drop)]
+#[derive(Drop)]
 pub struct TableParts {
     /// The path of instance 0.
     pub top: Text,
@@ -60,7 +60,7 @@ pub struct TableParts {
 }
 
 /// Why no table was made.
-#[derive(Clone, Copy, Debug, PartialEq, Eq)]
+#[derive(Clone, Copy, PartialEq, Eq)]
 pub enum TableEnd {
     /// The parts break a rule of shape, or name a node or a variant that they have not, or a node at another width.
     BadTable,

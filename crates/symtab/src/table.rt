@@ -1,6 +1,7 @@
 ghost use Rattle.std.specs.Prelude.{◌≡◌, ◌<◌, ◌↔◌, ℕ, Some, IfOk, IfSome, IsErrOf, IsSome, OnOk, All, Contains, length, map, slice_get, position, bytes_eq};
 ghost use Rattle.symtab.specs.Places.{places};
-ghost use Rattle.symtab.specs.Shape.{IsSlot, IsTable, IsFound, IsCell, width_of, variants_of, lines_of, paths_of};
+ghost use Rattle.symtab.specs.Checked.{AreNamed};
+ghost use Rattle.symtab.specs.Shape.{IsShort, IsSlot, IsTable, IsFound, IsCell, width_of, variants_of, lines_of, paths_of};
 ghost use Rattle.symtab.specs.Lookups.{instances_of, row_of, enable_of, binding_of, IsInScope};
 
 use crate::names::Names;
@@ -92,6 +93,43 @@ fn all_names(
     Ok(Some(all))
 }
 
+/// Where each line stands among the slots, and each variant among the instances.
+fn places_of(alloc: Global, parts: &TableParts) -> Result<(Places, Places), NoMemory>
+    requires slots { IsShort parts.now.slots }
+    requires instances { IsShort parts.now.instances }
+    ensures lines { IfOk result (λ found. found.0 ≡ lines_of parts.now.slots) }
+    ensures variants { IfOk result (λ found. found.1 ≡ variants_of parts.now.instances) }
+{
+    let lines = Places::new(alloc, lines_of(alloc, parts.slots.items())?)?;
+    let variants = Places::new(alloc, variants_of(alloc, parts.instances.items())?)?;
+    Ok((lines, variants))
+}
+
+/// The paths of the instances, and the names of each slot. None where two nodes or two instances have one name, or where a
+/// slot breaks a rule, where the list has the variant of each instance.
+fn names_of(
+    alloc: Global,
+    parts: &TableParts,
+    variants: &Places,
+) -> Result<Option<(Names, Vec<Names>)>, NoMemory>
+    ensures fits { IfOk result (λ found. IsSome found ↔ AreNamed variants.now parts.now) }
+    ensures paths { IfOk result (λ found. IfSome found (λ names. names.0 ≡ paths_of parts.now.instances)) }
+    ensures names { IfOk result (λ found. IfSome found (λ names. names.1.items ≡ map (λ slot. slot.names) parts.now.slots)) }
+{
+    let nodes = parts.nodes.items();
+    if Names::of(alloc, nodes)?.is_none() {
+        return Ok(None);
+    }
+    let Some(paths) = Names::of(alloc, parts.instances.items())? else {
+        return Ok(None);
+    };
+    let count = parts.variants.items().len();
+    let Some(names) = all_names(alloc, nodes, count, variants, parts.slots.items())? else {
+        return Ok(None);
+    };
+    Ok(Some((paths, names)))
+}
+
 impl Table {
     /// The table of these parts. `BadTable` exactly where they break a rule of shape: a width is not 1 to 128; two
     /// nodes, two instances or two names of a slot have one name; a variant is not there; a slot has not a row for each
@@ -106,19 +144,10 @@ impl Table {
         if !is_numbered(&parts) {
             return Err(TableEnd::BadTable);
         }
-        let variants = Places::new(alloc, variants_of(alloc, parts.instances.items())?)?;
-        let lines = Places::new(alloc, lines_of(alloc, parts.slots.items())?)?;
-        let nodes = parts.nodes.items();
-        let count = parts.variants.items().len();
-        let Some(names) = all_names(alloc, nodes, count, &variants, parts.slots.items())? else {
+        let (lines, variants) = places_of(alloc, &parts)?;
+        let Some((paths, names)) = names_of(alloc, &parts, &variants)? else {
             return Err(TableEnd::BadTable);
         };
-        let Some(paths) = Names::of(alloc, parts.instances.items())? else {
-            return Err(TableEnd::BadTable);
-        };
-        if Names::of(alloc, nodes)?.is_none() {
-            return Err(TableEnd::BadTable);
-        }
         Ok(Table {
             parts,
             lines,

@@ -1,5 +1,5 @@
 /// What a seek answers.
-#[derive(Clone, Copy, Debug, PartialEq, Eq)]
+#[derive(Clone, Copy, PartialEq, Eq)]
 pub enum Seek {
     /// The cursor stands at the cycle.
     At,
@@ -8,14 +8,14 @@ pub enum Seek {
 }
 
 /// The direction in which positions are searched.
-#[derive(Clone, Copy, Debug, PartialEq, Eq)]
+#[derive(Clone, Copy, PartialEq, Eq)]
 pub enum Way {
     Forward,
     Backward,
 }
 
 /// What is searched for.
-#[derive(Clone, Copy, Debug, PartialEq, Eq)]
+#[derive(Clone, Copy, PartialEq, Eq)]
 pub enum Want {
     /// A position where an armed breakpoint matches.
     Breakpoints,
@@ -24,7 +24,7 @@ pub enum Want {
 }
 
 /// What a search for a position answers.
-#[derive(Clone, Copy, Debug, PartialEq, Eq)]
+#[derive(Clone, Copy, PartialEq, Eq)]
 pub enum Scanned {
     /// The nearest position that matches.
     Hit(i64),

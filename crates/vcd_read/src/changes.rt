@@ -16,7 +16,7 @@ use text_core::NoMemory;
 
 /// A change, in places of the columns: its time, its code, and the end of its digits, which begin where those of the
 /// change before end.
-#[derive(Clone, Copy, Debug)]
+#[derive(Clone, Copy)]
 struct Row {
     step: u32,
     code: u32,
@@ -24,7 +24,7 @@ struct Row {
 }
 
 /// The changes so far, and the time now. Contracts see the changes as a list.
-#[derive(Debug, Drop)]
+#[derive(Drop)]
 pub(crate) struct Changes {
     time: u64,
     times: Vec<u64>,

@@ -14,7 +14,7 @@ use text_core::NoMemory;
 
 /// A code but for its bytes: the size of its variables, and the code before it in its bucket, by its number and one
 /// more; 0 where there is none.
-#[derive(Clone, Copy, Debug)]
+#[derive(Clone, Copy)]
 pub(crate) struct CodeRow {
     size: u32,
     next: u32,

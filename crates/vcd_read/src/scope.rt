@@ -1,5 +1,5 @@
 /// A scope that a value change dump file opens.
-#[derive(Clone, Copy, Debug)]
+#[derive(Clone, Copy)]
 pub struct VcdScope<'a> {
     /// The number of the scope around it; 0 outside every scope.
     pub parent: u32,

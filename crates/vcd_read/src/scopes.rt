@@ -11,7 +11,7 @@ use std::marker::Model;
 use text_core::NoMemory;
 
 /// A scope: the number of the one around it, and how long its path is.
-#[derive(Clone, Copy, Debug)]
+#[derive(Clone, Copy)]
 pub(crate) struct ScopeRow {
     parent: u32,
     len: u32,
@@ -19,7 +19,7 @@ pub(crate) struct ScopeRow {
 
 /// The scopes that were opened, in order, by their names and the numbers of those around them. Number 0 is outside every
 /// scope, and 1 is the first. Contracts see their paths.
-#[derive(Debug, Drop)]
+#[derive(Drop)]
 pub(crate) struct Scopes {
     names: Texts,
     rows: Vec<ScopeRow>,

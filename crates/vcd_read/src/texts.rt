@@ -40,7 +40,7 @@ fn end_of(ends: &[u32], i: usize) -> usize
 }
 
 /// A list of texts, one behind the other in one buffer, by the place where each ends. Contracts see the texts.
-#[derive(Debug, Drop)]
+#[derive(Drop)]
 pub(crate) struct Texts {
     letters: Vec<u8>,
     ends: Vec<u32>,

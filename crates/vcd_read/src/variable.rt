@@ -1,5 +1,5 @@
 /// A variable that a value change dump file declares.
-#[derive(Clone, Copy, Debug)]
+#[derive(Clone, Copy)]
 pub struct VcdVar<'a> {
     /// The number of the scope around it; 0 outside every scope. Scopes are numbered from 1 in the order in which the
     /// text opens them, and one that is opened again has a number for each time.

@@ -8,7 +8,7 @@ use std::marker::Model;
 use text_core::NoMemory;
 
 /// A variable but for its name.
-#[derive(Clone, Copy, Debug)]
+#[derive(Clone, Copy)]
 pub(crate) struct VarRow {
     scope: u32,
     code: u32,
@@ -17,7 +17,7 @@ pub(crate) struct VarRow {
 }
 
 /// The variables that were declared, in order. Contracts see them by the numbers of their scopes.
-#[derive(Debug, Drop)]
+#[derive(Drop)]
 pub(crate) struct Vars {
     names: Texts,
     rows: Vec<VarRow>,

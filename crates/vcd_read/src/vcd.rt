@@ -20,7 +20,7 @@ use text_core::NoMemory;
 /// It keeps that it has at most 2^26 changes, that their times do not fall, that variables of one code have one size,
 /// and that the code of each change is declared and its digits are value characters, at least one and no more than
 /// that size.
-#[derive(Debug, Drop)]
+#[derive(Drop)]
 pub struct Vcd {
     scopes: Scopes,
     vars: Vars,

@@ -10,7 +10,7 @@ use crate::VcdFault;
 use std::marker::Model;
 
 /// A word of a text: a run of bytes that are no blanks.
-#[derive(Clone, Copy, Debug)]
+#[derive(Clone, Copy)]
 pub(crate) struct Word<'a> {
     /// How many bytes of the text stand before it.
     pub at: u64,

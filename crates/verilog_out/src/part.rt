@@ -1,5 +1,5 @@
 /// What stands in a module for its nodes, in this order. The outputs stand before the steps.
-#[derive(Clone, Copy, Debug, PartialEq, Eq)]
+#[derive(Clone, Copy, PartialEq, Eq)]
 pub(crate) enum Part {
     /// A node is declared, as a wire or as a register with the value that it starts with.
     Declarations,

@@ -8,7 +8,7 @@ use net_core::{Net, Node};
 use text_core::NoMemory;
 
 /// What is to be done with a node of the old net.
-#[derive(Clone, Copy, Debug)]
+#[derive(Clone, Copy)]
 pub(crate) enum Task {
     /// Its operands are walked, and then it gets a copy, unless it has one.
     Enter(NodeId),

@@ -1,5 +1,5 @@
 /// Which expressions are kept for the debugger.
-#[derive(Clone, Copy, Debug, PartialEq, Eq)]
+#[derive(Clone, Copy, PartialEq, Eq)]
 pub enum Mode {
     /// Those that outputs, enables and registers need.
     Opt,
