@@ -1,7 +1,5 @@
-//! The builder of nets: which node it gives for each rule of folding, and for what is near to one.
+//! The builder of nets, called as no design has it called: two inputs of one name.
 #![tactic(auto)]
 
 #[cfg(test)]
-mod cases;
-#[cfg(test)]
-mod tests;
+mod inputs;

@@ -2,11 +2,79 @@ use graph_order::{Graph, GraphFault, order_of};
 use std::alloc::Global;
 use std::test::Fail;
 
+/// How many vertices a deep graph has.
+const DEEP: u32 = 200_000;
+
+/// A graph of so many vertices: vertices with two edges each, where they go; and what may be told of it. A cycle is told from its
+/// least vertex on, and where a graph has several, each of them may be.
+type Case = (u32, &'static [(u32, u32, u32)], &'static [&'static str]);
+
+static CASES: [Case; 11] = [
+    (1, &[(0, 0, 0)], &["cycle 0"]),
+    (2, &[(0, 1, 1), (1, 0, 0)], &["cycle 0 1"]),
+    (
+        5,
+        &[(0, 1, 2), (1, 3, 3), (2, 4, 3), (4, 2, 2)],
+        &["cycle 2 4"],
+    ),
+    (
+        4,
+        &[(3, 2, 1), (2, 3, 0), (1, 0, 3)],
+        &["cycle 2 3", "cycle 1 3"],
+    ),
+    (
+        6,
+        &[(0, 5, 4), (5, 4, 3), (4, 3, 2), (3, 2, 5), (2, 1, 1)],
+        &["cycle 3 5", "cycle 3 5 4"],
+    ),
+    (
+        3,
+        &[(0, 1, 2), (1, 2, 0), (2, 0, 1)],
+        &[
+            "cycle 0 1",
+            "cycle 0 2",
+            "cycle 1 2",
+            "cycle 0 1 2",
+            "cycle 0 2 1",
+        ],
+    ),
+    (
+        7,
+        &[(6, 5, 5), (5, 4, 4), (4, 6, 3), (3, 1, 2), (1, 3, 0)],
+        &["cycle 4 6 5", "cycle 1 3"],
+    ),
+    (
+        4,
+        &[(0, 2, 1), (1, 3, 3), (2, 3, 2), (3, 1, 1)],
+        &["cycle 2", "cycle 1 3"],
+    ),
+    (
+        6,
+        &[(0, 3, 3), (3, 5, 5), (5, 2, 2), (2, 3, 3)],
+        &["cycle 2 3 5"],
+    ),
+    (3, &[(1, 1, 1)], &["cycle 1"]),
+    (4, &[(1, 0, 0), (2, 0, 0), (3, 1, 2)], &["order 0 1 2 3"]),
+];
+
 /// A graph of so many vertices without edges.
 fn vertices(alloc: Global, count: u32) -> Result<Graph, Fail> {
     let mut graph = Graph::new(alloc);
     for _ in 0..count {
         graph.add(&[])?;
+    }
+    Ok(graph)
+}
+
+/// The graph of a case; fails where an edge joins no vertices.
+fn graph_of(alloc: Global, case: &Case) -> Result<Graph, Fail> {
+    let mut graph = vertices(alloc, case.0)?;
+    for (from, one, other) in case.1 {
+        let many = graph.count();
+        if *from >= many || *one >= many || *other >= many {
+            return Err("an edge joins vertices")?;
+        }
+        graph.set(*from, &[*one, *other])?;
     }
     Ok(graph)
 }
@@ -35,64 +103,14 @@ fn told(alloc: Global, graph: &Graph) -> Result<String, Fail> {
     Ok(told)
 }
 
-/// Each vertex of a chain has an edge to the next one, and the first one is looked at first.
+/// The graph behind those of the table is made with its edges.
 #[test]
-fn a_deep_chain_has_an_order(rt: HostRuntime) -> Result<(), Fail> {
-    let mut graph = vertices(rt.alloc(), 200_000)?;
-    for i in 0..199_999 {
-        join(&mut graph, i, i + 1)?;
+fn orders_and_cycles_are_those_worked_by_hand(rt: HostRuntime) -> Result<(), Fail> {
+    for (i, case) in CASES.iter().enumerate() {
+        let graph = graph_of(rt.alloc(), case)?;
+        let found = told(rt.alloc(), &graph)?;
+        assert!(rt; case.2.contains(&found.as_str()), "graph {i}: {found}");
     }
-    let Ok(order) = order_of(rt.alloc(), &graph) else {
-        return Err("a chain has an order")?;
-    };
-    assert_eq!(rt; order.len(), 200_000);
-    for (i, vertex) in order.iter().enumerate() {
-        assert!(rt; *vertex as usize + i == 199_999, "place {i}");
-    }
-    Ok(())
-}
-
-/// The same chain, closed: the cycle is all of it, from the least vertex on.
-#[test]
-fn a_deep_ring_is_a_cycle(rt: HostRuntime) -> Result<(), Fail> {
-    let mut graph = vertices(rt.alloc(), 200_000)?;
-    for i in 0..199_999 {
-        join(&mut graph, i, i + 1)?;
-    }
-    join(&mut graph, 199_999, 0)?;
-    let Err(GraphFault::Cycle(cycle)) = order_of(rt.alloc(), &graph) else {
-        return Err("a ring has a cycle")?;
-    };
-    assert_eq!(rt; cycle.len(), 200_000);
-    for (i, vertex) in cycle.iter().enumerate() {
-        assert!(rt; *vertex as usize == i, "place {i}");
-    }
-    Ok(())
-}
-
-#[test]
-fn a_cycle_begins_with_its_least_vertex(rt: HostRuntime) -> Result<(), Fail> {
-    let mut graph = vertices(rt.alloc(), 6)?;
-    join(&mut graph, 0, 3)?;
-    join(&mut graph, 3, 5)?;
-    join(&mut graph, 5, 2)?;
-    join(&mut graph, 2, 3)?;
-    let found = told(rt.alloc(), &graph)?;
-    assert_eq!(rt; found.as_str(), "cycle 2 3 5");
-    Ok(())
-}
-
-#[test]
-fn an_edge_to_itself_is_a_cycle(rt: HostRuntime) -> Result<(), Fail> {
-    let mut graph = vertices(rt.alloc(), 3)?;
-    join(&mut graph, 1, 1)?;
-    let found = told(rt.alloc(), &graph)?;
-    assert_eq!(rt; found.as_str(), "cycle 1");
-    Ok(())
-}
-
-#[test]
-fn vertices_stand_after_those_that_they_need(rt: HostRuntime) -> Result<(), Fail> {
     let mut graph = Graph::new(rt.alloc());
     let sink = graph.add(&[])?;
     let left = graph.add(&[sink])?;
@@ -100,5 +118,33 @@ fn vertices_stand_after_those_that_they_need(rt: HostRuntime) -> Result<(), Fail
     graph.add(&[left, right, sink])?;
     let found = told(rt.alloc(), &graph)?;
     assert_eq!(rt; found.as_str(), "order 0 1 2 3");
+    Ok(())
+}
+
+/// Each vertex of a chain has an edge to the next one, and the first one is looked at first. Closed, the cycle is all of it, from the
+/// least vertex on.
+#[test]
+fn a_deep_chain_has_an_order_and_a_deep_ring_is_a_cycle(rt: HostRuntime) -> Result<(), Fail> {
+    let mut graph = vertices(rt.alloc(), DEEP)?;
+    for i in 1..DEEP {
+        join(&mut graph, i - 1, i)?;
+    }
+    let Ok(order) = order_of(rt.alloc(), &graph) else {
+        return Err("a chain has an order")?;
+    };
+    join(&mut graph, DEEP - 1, 0)?;
+    let Err(GraphFault::Cycle(cycle)) = order_of(rt.alloc(), &graph) else {
+        return Err("a ring has a cycle")?;
+    };
+    assert!(rt; order.len() == DEEP as usize && cycle.len() == DEEP as usize);
+    for (i, vertex) in cycle.iter().enumerate() {
+        assert!(rt; *vertex as usize == i, "place {i} of the cycle");
+    }
+    for (i, vertex) in order.iter().rev().enumerate() {
+        assert!(rt;
+            *vertex as usize == i,
+            "place {i} from the last of the order"
+        );
+    }
     Ok(())
 }

@@ -1,9 +1,5 @@
-//! Tests of orders: deep graphs, and cycles; designs with an order or a loop. What is wanted stands here case by case.
+//! Orders and cycles of graphs that no design has. What is wanted stands here case by case, worked by hand.
 #![tactic(auto)]
 
 #[cfg(test)]
-mod designs;
-#[cfg(test)]
 mod graphs;
-#[cfg(test)]
-mod judged;
