@@ -9,7 +9,7 @@ use crate::fault::ReadFault;
 use crate::ints::{fam, int};
 use crate::members::{conns, params};
 use crate::stmts::{block, given, turns};
-use crate::words::{begins_keyword, begins_mark, closed, open};
+use crate::words::{begins_keyword, begins_mark, closed, mark, open};
 use gen_token::{Keyword, Mark, Placed, Token};
 use gen_tree::{Item, Mode};
 use std::alloc::Global;
@@ -209,5 +209,6 @@ fn item_block<'t, 'a>(
         all.push(one)?;
         rest = after;
     }
-    closed((all, rest), Mark::RightBrace)
+    let rest = mark(rest, Mark::RightBrace)?;
+    Ok((all, rest))
 }

@@ -122,5 +122,6 @@ pub(crate) fn conns<'t, 'a>(
         all.push(one)?;
         rest = after;
     }
-    closed((all, rest), Mark::RightBrace)
+    let rest = mark(rest, Mark::RightBrace)?;
+    Ok((all, rest))
 }

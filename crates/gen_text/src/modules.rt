@@ -113,7 +113,8 @@ fn content<'t, 'a>(
         all.push(one)?;
         rest = after;
     }
-    closed(((ports, all), rest), Mark::RightBrace)
+    let rest = mark(rest, Mark::RightBrace)?;
+    Ok(((ports, all), rest))
 }
 
 /// The module, from behind its keyword on, and what follows it.

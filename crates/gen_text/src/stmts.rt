@@ -229,5 +229,6 @@ pub(crate) fn block<'t, 'a>(
         all.push(one)?;
         rest = after;
     }
-    closed((all, rest), Mark::RightBrace)
+    let rest = mark(rest, Mark::RightBrace)?;
+    Ok((all, rest))
 }

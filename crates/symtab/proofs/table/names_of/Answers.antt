@@ -12,16 +12,16 @@ returns-then-is_none-clause-fits c =
 
 pub returns-in_default-clause-fits : goal.returns-in_default-clause-fits
 returns-in_default-clause-fits c = (
-    λ no. absurd (false≢true no),
-    λ named. absurd (not_apart (λ instance. instance.path) c.items.result.now c.args.parts.now.instances c.in_ok-paths.field-0 c.items.ensures c.in_ok-paths.ensures.apart c.in_default.is named.paths),
-  )
+  λ no. absurd (false≢true no),
+  λ named. absurd (not_apart (λ instance. instance.path) c.items.result.now c.args.parts.now.instances c.in_ok-paths.field-0 c.items.ensures c.in_ok-paths.ensures.apart c.in_default.is named.paths),
+)
 
 pub returns-in_default-2-clause-fits : goal.returns-in_default-2-clause-fits
 returns-in_default-2-clause-fits c = (
-    λ no. absurd (false≢true no),
-    λ named. absurd (none_fit c.items-nodes.result.now c.args.parts.now.nodes _ _ c.args.variants.now c.items-2.result.now c.args.parts.now.slots c.in_ok-names.field-0
-        c.items-nodes.ensures (ap length c.items-count.ensures) c.items-2.ensures c.in_ok-names.ensures.fits c.in_default-2.is named.slots),
-  )
+  λ no. absurd (false≢true no),
+  λ named. absurd (none_fit c.items-nodes.result.now c.args.parts.now.nodes _ _ c.args.variants.now c.items-2.result.now c.args.parts.now.slots c.in_ok-names.field-0
+      c.items-nodes.ensures (ap length c.items-count.ensures) c.items-2.ensures c.in_ok-names.ensures.fits c.in_default-2.is named.slots),
+)
 
 pub returns-clause-fits : goal.returns-clause-fits
 returns-clause-fits c =
