@@ -1,7 +1,6 @@
-use Rattle.std.proofs.Common.{◌≡◌, rules, sym, refl, false, true, IsSome, None, subst}
-use Rattle.std.proofs.lemmas.Bool.{false≢true}
+use Rattle.std.proofs.Common.{◌≡◌, rules, sym, refl, IsSome, None, subst}
 use Rattle.symtab.specs.Checked.{IsNumbered, AreNamed}
-use Rattle.symtab.specs.Shape.{IsTable, variants_of}
+use Rattle.symtab.specs.Shape.{variants_of}
 use Rattle.symtab.proofs.SlotLemmas.{not_named}
 use Rattle.symtab.proofs.table.Table.make.Goals as goal
 
