@@ -3,7 +3,7 @@
 A judge is called with the path of the built hgdb, by default crates/hgdb/out/hgdb. Without that program nothing is judged, which
 is no fault; a path that is given and has no program is one.
 """
-import os, subprocess, sys, tempfile
+import importlib.machinery, importlib.util, os, subprocess, sys, tempfile
 
 HERE = os.path.dirname(os.path.abspath(__file__))
 
@@ -50,3 +50,11 @@ def fault(answer, status, want):
     if answer[0] != status:
         return f"status {answer[0]}, and {status} is wanted; it wrote {answer[1][:200]!r}"
     return None if answer[1] == want else difference(answer[1], want)
+
+
+def other(name):
+    """Loads another judge of this folder, whose file has no ending."""
+    loader = importlib.machinery.SourceFileLoader(name, f"{HERE}/{name}")
+    found = importlib.util.module_from_spec(importlib.util.spec_from_loader(name, loader))
+    loader.exec_module(found)
+    return found

@@ -1,0 +1,2 @@
+def design(rng):
+    return "module X { }\n", "\n\n", ["X"]
