@@ -27,6 +27,12 @@ def with_arguments(text, arguments):
     return re.sub(r"[A-Za-z]\w*", lambda it: arguments.get(it.group(), it.group()), text)
 
 
+def given_width(width, arguments):
+    """The width that an input has in an instance with these arguments."""
+    text = with_arguments(width[0], arguments)
+    return fixed(int(text)) if text.isdigit() else (text, *width[1:])
+
+
 class Module:
     """A module that is there to be instantiated. A parameter has a name, its default and the range of its numbers."""
 
@@ -301,8 +307,8 @@ class Maker:
             self.ints.append((f"({var} + 1)", 1, count))
         written, arguments = self.arguments(module)
         conns = []
-        for port, (text, least, most) in self.rng.sample(module.inputs, len(module.inputs)):
-            conns.append(f"{port} = {self.text(self.pool, (with_arguments(text, arguments), least, most), 2)};")
+        for port, width in self.rng.sample(module.inputs, len(module.inputs)):
+            conns.append(f"{port} = {self.text(self.pool, given_width(width, arguments), 2)};")
         self.ints = old
         member = f"{name}#{var}" if count else name
         text = "\n".join([f"inst {member} : {module.name}{written} {{", *conns, "}"])
