@@ -1,28 +1,8 @@
-//! Tests of the program over files and a sink in memory.
+//! Tests of the program over files and a sink in memory: what the built program cannot show.
 //!
-//! They stand apart from the crates that they test, since a crate with tests is proved twice: with them and without. What
-//! is wanted is written down here, case by case, from what the command is to do, and never taken from its output.
+//! Its texts and statuses are cases of `outside/`, over real files. Here stand the files that are asked for, reads and puts that
+//! fail, and how much was taken by then. What is wanted was worked out from what the commands are to do.
 #![tactic(auto)]
 
 #[cfg(test)]
-mod compiled;
-#[cfg(test)]
-mod designs_accepted;
-#[cfg(test)]
-mod designs_refused;
-#[cfg(test)]
-mod failing_outside;
-#[cfg(test)]
-mod modes;
-#[cfg(test)]
-mod outcome;
-#[cfg(test)]
-mod stimuli_accepted;
-#[cfg(test)]
-mod stimuli_refused;
-#[cfg(test)]
-mod straight_line;
-#[cfg(test)]
-mod usage;
-#[cfg(test)]
-mod worked_example;
+mod runs;
