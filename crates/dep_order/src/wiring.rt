@@ -1,4 +1,5 @@
-ghost use Rattle.std.specs.Prelude.{◌≡◌, ◌≢◌, ◌<◌, ◌≤◌, ℕ, length, map, true, option_map, OnOk};
+ghost use Rattle.std.specs.Prelude.{◌≡◌, ◌≢◌, ◌<◌, ◌≤◌, ℕ, length, map, true, option_map, IfOk, OnOk};
+ghost use Rattle.graph_order.specs.Graphs as graphs;
 ghost use Rattle.graph_order.specs.Graphs.{IsGraph, next_of};
 ghost use Rattle.graph_order.specs.Lists.{EachOf};
 ghost use Rattle.dep_order.specs.Wiring.{Drives, DrivesBlock, DrivesBlocks, DrivesBy, DrivesConn, DrivesConns, DrivesName, DrivesNames, DrivesOutput, KeepsOthers, StaysLayered};
@@ -6,7 +7,7 @@ ghost use Rattle.dep_order.specs.Blocks.{AreSignals, single, version_of};
 ghost use Rattle.check_core.specs.Maps.{value_of};
 ghost use Rattle.check_core.specs.Known.{has};
 ghost use Rattle.dep_order.specs.Names.{names_at};
-ghost use Rattle.dep_order.specs.Standing.{AreVertices};
+ghost use Rattle.dep_order.specs.Standing.{AreVertices, StandFor};
 ghost use Rattle.exec_core.specs.Block.{Name};
 ghost use Rattle.design_core.specs.View.{block_of, conn_of, expr_of};
 ghost use Rattle.design_exec.specs.Processes.{tree_of};
@@ -45,6 +46,18 @@ pub(crate) fn drive(
     Ok(())
 }
 
+/// The vertices that an expression over the names of an instance reads.
+fn reads_of(alloc: Global, numbers: &NumberMap, expr: &Expr) -> Result<Vec<u32>, NoMemory>
+    ensures within { IfOk result (λ read. (g : graphs.Graph) → AreSignals (length g) (value_of numbers.now) → EachOf (λ v. v < length g) read.items) }
+    ensures stand { IfOk result (λ read. (signals : ℕ) (g : graphs.Graph) → AreSignals signals (value_of numbers.now) → StandFor signals g (value_of numbers.now) read.items (tree_of (expr_of expr.now))) }
+{
+    let own = NameSet::new(alloc);
+    let versions = VersionMap::new(alloc);
+    let mut read = Vec::new(alloc);
+    let _ = read_expr(alloc, &own, numbers, &versions, expr, &mut read)?;
+    Ok(read)
+}
+
 /// Drives a signal's vertex by an expression over the names of an instance, unless its driver was met before.
 pub(crate) fn drive_by(
     alloc: Global,
@@ -63,10 +76,7 @@ pub(crate) fn drive_by(
     ensures drives { OnOk result (DrivesBy graph.old driven.old graph.new driven.new vertex (value_of numbers.now) (tree_of (expr_of expr.now))) }
     ensures others { OnOk result ((v : ℕ) → v ≢ vertex → next_of graph.new v ≡ next_of graph.old v) }
 {
-    let own = NameSet::new(alloc);
-    let versions = VersionMap::new(alloc);
-    let mut read = Vec::new(alloc);
-    let _ = read_expr(alloc, &own, numbers, &versions, expr, &mut read)?;
+    let read = reads_of(alloc, numbers, expr)?;
     drive(graph, driven, vertex, &read)?;
     Ok(())
 }
