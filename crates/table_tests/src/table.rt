@@ -72,7 +72,9 @@ fn slots_and_instances_are_found(rt: HostRuntime) -> Result<(), Fail> {
         return Err("a table".into());
     };
     assert!(rt; has_lines(&table) && has_paths(&table) && has_slots(&table));
-    assert!(rt; table.parts().top.bytes() == b"T".as_slice() && table.parts().nodes.items().len() == 2);
+    assert!(rt;
+        table.parts().top.bytes() == b"T".as_slice() && table.parts().nodes.items().len() == 2
+    );
     Ok(())
 }
 
