@@ -1,13 +1,13 @@
-//! Tests of `io_edge`.
+//! Tests of `io_edge`: files and a sink in memory. The built program shows that words stand in their order.
 
-use io_edge::{FileEnd, Files, MemFiles, MemSink, Sink, Words};
+use io_edge::{FileEnd, Files, MemFiles, MemSink, Sink};
 use std::alloc::Global;
 use std::test::Fail;
 use text_core::NoMemory;
 
 /// Reads, one after another: the name, the most bytes that are let pass, the answer that is wanted, and the count of
 /// faults after it.
-const READS: [(&str, usize, Result<&[u8], FileEnd>, u64); 9] = [
+static READS: [(&str, usize, Result<&[u8], FileEnd>, u64); 9] = [
     ("a", 3, Ok(&[1, 2, 3]), 0),
     ("a", 2, Err(FileEnd::TooLong), 0),
     ("a", 3, Err(FileEnd::Failed), 1),
@@ -34,36 +34,40 @@ fn reads(
     files: &mut MemFiles,
     name: &str,
     most: usize,
-    wanted: Result<&[u8], FileEnd>,
-) -> Result<bool, NoMemory> {
+    wanted: &Result<&[u8], FileEnd>,
+) -> bool {
     match (files.read_all(alloc, name, most), wanted) {
-        (Err(FileEnd::NoMemory), _) => Err(NoMemory),
-        (Ok(bytes), Ok(wanted)) => Ok(bytes.as_slice() == wanted),
-        (Err(end), Err(wanted)) => Ok(end == wanted),
-        _ => Ok(false),
+        (Ok(bytes), Ok(wanted)) => bytes.as_slice() == *wanted,
+        (Err(end), Err(wanted)) => end == *wanted,
+        _ => false,
     }
 }
 
-/// Whether these are the names of the reads, in order.
-fn were_asked(asked: &[String]) -> bool {
-    let mut pairs = asked.iter().zip(READS);
-    asked.len() == READS.len() && pairs.all(|(asked, (name, ..))| asked.as_str() == name)
+/// Whether the names that were asked for are those of the reads up to one.
+fn were_asked(asked: &[String], last: usize) -> bool {
+    for (i, (name, ..)) in READS.iter().enumerate() {
+        if i <= last && (i >= asked.len() || asked[i].as_str() != *name) {
+            return false;
+        }
+    }
+    true
 }
 
 #[test]
 fn a_read_answers_by_its_name_its_most_and_its_number(rt: HostRuntime) -> Result<(), Fail> {
     let mut files = three_files(rt.alloc())?;
     for (i, (name, most, wanted, faults)) in READS.iter().enumerate() {
-        let read = reads(rt.alloc(), &mut files, name, *most, *wanted)?;
+        let read = reads(rt.alloc(), &mut files, name, *most, wanted);
         assert!(rt; read && files.faults() == *faults, "read {i}");
+        assert!(rt; were_asked(files.asked(), i), "names {i}");
     }
-    assert!(rt; were_asked(files.asked()), "{:?}", files.asked());
+    assert!(rt; files.asked().len() == READS.len());
     Ok(())
 }
 
 /// Puts, one after another: the piece, whether it is taken as a whole, and how many bytes were taken and how many faults
 /// there were after it.
-const PUTS: [(&str, bool, usize, u64); 7] = [
+static PUTS: [(&str, bool, usize, u64); 7] = [
     ("abc", true, 3, 0),
     ("defgh", false, 5, 1),
     ("ijkl", false, 5, 2),
@@ -86,17 +90,5 @@ fn a_put_takes_what_has_room_and_half_where_it_fails(rt: HostRuntime) -> Result<
         assert!(rt; puts(&mut sink, piece, *whole, *taken, *faults), "put {i}");
     }
     assert_eq!(rt; sink.bytes(), b"abcdeijk".as_slice());
-    Ok(())
-}
-
-#[test]
-fn words_stand_in_the_order_in_which_they_were_added(rt: HostRuntime) -> Result<(), Fail> {
-    let mut words = Words::new(rt.alloc());
-    assert_eq!(rt; words.count(), 0);
-    words.add("trail")?;
-    words.add("keep")?;
-    assert_eq!(rt; words.count(), 2);
-    assert_eq!(rt; words.word(0), "trail");
-    assert_eq!(rt; words.word(1), "keep");
     Ok(())
 }

@@ -1,7 +1,11 @@
-//! Tests of the simulator and its trace, on a counter of 4 bits with an enable. What is wanted was worked out by hand.
+//! Tests of the trace of a simulated net and of the printer of modules, on a register that takes an input in each cycle.
+//! What is wanted was worked out by hand.
+//!
+//! The built program shows what a trail and a module are. Only a call shows a cursor that moves back, a cycle that is not
+//! there, and a sink that fails.
 #![tactic(auto)]
 
 #[cfg(test)]
-mod counter;
+mod delay;
 #[cfg(test)]
 mod tests;

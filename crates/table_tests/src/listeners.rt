@@ -16,32 +16,51 @@ fn stop(cycle: u64, line: u32) -> StopNote {
 /// The cycles and lines of stops.
 static STOPS: [(u64, u32); 5] = [(40, 18), (41, 18), (41, 39), (100, 39), (100, 18)];
 
-#[test]
-fn stops_are_counted_by_line_and_by_cycle(rt: HostRuntime) -> Result<(), Fail> {
-    let mut lines = LineHits::new(rt.alloc())?;
-    let mut cycles = CycleHits::new(rt.alloc())?;
-    assert!(rt; lines.kind() == 1 && cycles.kind() == 2);
+/// The stops.
+fn stop_each(listener: &mut impl Listener) {
     for (cycle, line) in &STOPS {
-        lines.stopped(&stop(*cycle, *line));
-        cycles.stopped(&stop(*cycle, *line));
+        listener.stopped(&stop(*cycle, *line));
     }
-    assert_eq!(rt; lines.rows(), 2);
-    assert!(rt; lines.rows() == 2 && lines.row(0) == (18, 3) && lines.row(1) == (39, 2));
-    assert_eq!(rt; cycles.rows(), 3);
-    assert!(rt; cycles.rows() == 3 && cycles.row(0) == (40, 1));
-    assert!(rt; cycles.rows() == 3 && cycles.row(1) == (41, 2) && cycles.row(2) == (100, 2));
-    Ok(())
+}
+
+/// Whether a listener has these pairs in front.
+fn has(listener: &impl Listener, pairs: &[(u64, u64)]) -> bool {
+    for (i, pair) in pairs.iter().enumerate() {
+        if i >= listener.rows() || listener.row(i) != *pair {
+            return false;
+        }
+    }
+    true
 }
 
 #[test]
-fn a_key_beyond_the_room_is_passed_over(rt: HostRuntime) -> Result<(), Fail> {
-    let mut cycles = CycleHits::new(rt.alloc())?;
-    for cycle in 0..1025u64 {
+fn stops_are_counted_by_line(rt: HostRuntime) -> Result<(), Fail> {
+    let mut lines = LineHits::new(rt.alloc())?;
+    stop_each(&mut lines);
+    assert!(rt; lines.kind() == 1 && lines.rows() == 2);
+    assert!(rt; has(&lines, &[(18, 3), (39, 2)]));
+    Ok(())
+}
+
+/// A stop in each of 1,023 further cycles, of which 1,021 have room, and one more in the last of these.
+fn stop_beyond_the_room(cycles: &mut CycleHits) {
+    for cycle in 1000..2023u64 {
         cycles.stopped(&stop(cycle, 1));
     }
-    cycles.stopped(&stop(1023, 1));
-    assert_eq!(rt; cycles.rows(), 1024);
-    assert!(rt; cycles.rows() == 1024 && cycles.row(1022) == (1022, 1));
-    assert!(rt; cycles.rows() == 1024 && cycles.row(1023) == (1023, 2));
+    cycles.stopped(&stop(2020, 1));
+}
+
+#[test]
+fn stops_are_counted_by_cycle_and_a_key_beyond_the_room_is_passed_over(
+    rt: HostRuntime,
+) -> Result<(), Fail> {
+    let mut cycles = CycleHits::new(rt.alloc())?;
+    stop_each(&mut cycles);
+    assert!(rt; cycles.rows() == 3);
+    stop_beyond_the_room(&mut cycles);
+    assert!(rt; cycles.kind() == 2 && cycles.rows() == 1024);
+    assert!(rt; has(&cycles, &[(40, 1), (41, 2), (100, 2), (1000, 1)]));
+    assert!(rt; cycles.rows() == 1024 && cycles.row(1022) == (2019, 1));
+    assert!(rt; cycles.rows() == 1024 && cycles.row(1023) == (2020, 2));
     Ok(())
 }

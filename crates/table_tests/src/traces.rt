@@ -1,5 +1,7 @@
 //! A trace in memory, of two nodes in three cycles.
 
+ghost use Rattle.std.specs.Prelude.{◌≡◌, IfOk, length};
+
 use bv_core::{Bv, NodeId, Sample};
 use std::alloc::{AllocError, Global};
 use std::test::Fail;
@@ -16,48 +18,49 @@ fn sample(width: u8, number: Option<u128>) -> Sample {
     }
 }
 
-/// The trace's samples: of 8 bits and of 1 bit, cycle by cycle.
-static SAMPLES: [(Option<u128>, Option<u128>); 3] = [
-    (Some(7), Some(0)),
-    (None, Some(1)),
-    (Some(9), None),
-];
+/// The samples of a cycle: of 8 bits and of 1 bit.
+type Cycle = (Option<u128>, Option<u128>);
 
-/// The trace.
-fn trace(alloc: Global) -> Result<Option<FakeTrace>, AllocError> {
-    let mut rows = Vec::new(alloc);
-    for (number, bit) in &SAMPLES {
-        rows.push([sample(8, *number), sample(1, *bit)].to_vec(alloc)?)?;
-    }
-    if rows.iter().any(|row| row.len() != 2) {
-        return Ok(None);
-    }
-    Ok(FakeTrace::new(rows, 2).ok())
+/// The trace's samples, cycle by cycle.
+static SAMPLES: [Cycle; 3] = [(Some(7), Some(0)), (None, Some(1)), (Some(9), None)];
+
+/// The samples of a cycle.
+fn row(alloc: Global, cycle: &Cycle) -> Result<Vec<Sample>, AllocError>
+    ensures { IfOk result (λ row. length row.items ≡ 2) }
+{
+    [sample(8, cycle.0), sample(1, cycle.1)].to_vec(alloc)
 }
 
-/// Whether the trace has these samples in a cycle.
-fn has(trace: &mut FakeTrace, cycle: u64, number: Option<u128>, bit: Option<u128>) -> bool {
+/// The trace. It takes three rows of a known length, since a closure that looks at each row costs a minute to prove.
+fn trace(alloc: Global) -> Result<FakeTrace, Fail> {
+    let mut rows = Vec::new(alloc);
+    rows.push(row(alloc, &SAMPLES[0])?)?;
+    rows.push(row(alloc, &SAMPLES[1])?)?;
+    rows.push(row(alloc, &SAMPLES[2])?)?;
+    Ok(FakeTrace::new(rows, 2)?)
+}
+
+/// Whether the trace has these samples in a cycle, even after a seek to no cycle.
+fn has(trace: &mut FakeTrace, cycle: u64, samples: &Cycle) -> bool {
     if trace.nodes() != 2 || cycle >= trace.cycles() {
         return false;
     }
     trace.seek(cycle) == Seek::At
-        && trace.value(NodeId(0)) == sample(8, number)
-        && trace.value(NodeId(1)) == sample(1, bit)
+        && trace.seek(u64::MAX) == Seek::OutOfRange
+        && trace.value(NodeId(0)) == sample(8, samples.0)
+        && trace.value(NodeId(1)) == sample(1, samples.1)
 }
 
 #[test]
 fn a_trace_has_its_samples_and_a_seek_beyond_leaves_the_cursor(
     rt: HostRuntime,
 ) -> Result<(), Fail> {
-    let mut trace = trace(rt.alloc())?.ok_or("no trace")?;
+    let mut trace = trace(rt.alloc())?;
     assert!(rt; trace.cycles() == 3 && trace.nodes() == 2);
-    for (cycle, (number, bit)) in SAMPLES.iter().enumerate() {
-        assert!(rt;
-            has(&mut trace, cycle as u64, *number, *bit),
-            "cycle {cycle}"
-        );
+    for (cycle, samples) in SAMPLES.iter().enumerate() {
+        assert!(rt; has(&mut trace, cycle as u64, samples), "cycle {cycle}");
     }
-    assert!(rt; has(&mut trace, 0, Some(7), Some(0)));
-    assert!(rt; trace.seek(3) == Seek::OutOfRange && trace.seek(u64::MAX) == Seek::OutOfRange);
+    assert!(rt; has(&mut trace, 0, &SAMPLES[0]));
+    assert!(rt; trace.seek(3) == Seek::OutOfRange);
     Ok(())
 }

@@ -1,6 +1,6 @@
 //! A trace that is cut at every place.
 
-use crate::texts::OWN;
+use crate::vcd_texts::OWN;
 use std::test::Fail;
 use vcd_read::{Vcd, VcdFault, read_vcd};
 
@@ -30,18 +30,24 @@ static BACK: [(usize, u64, u64); 5] = [
 
 /// Where the last word of a text begins.
 fn last_word(text: &[u8]) -> u64 {
-    match text
-        .iter()
-        .rposition(|byte| *byte == b' ' || *byte == b'\n')
-    {
-        Some(place) => place as u64 + 1,
-        None => 0,
+    let mut begin = 0;
+    for (i, byte) in text.iter().enumerate() {
+        if *byte == b' ' || *byte == b'\n' {
+            begin = i as u64 + 1;
+        }
     }
+    begin
 }
 
 /// How many changes are whole in so many bytes.
 fn whole_changes(count: usize) -> u64 {
-    WHOLE.iter().filter(|end| **end <= count).count() as u64
+    let mut whole = 0u64;
+    for end in &WHOLE {
+        if *end <= count {
+            whole = whole.saturating_add(1);
+        }
+    }
+    whole
 }
 
 /// Whether the first bytes of the trace are this outcome.

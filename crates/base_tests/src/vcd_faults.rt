@@ -1,6 +1,5 @@
 //! Texts that are refused, each for its first fault.
 
-use std::alloc::{AllocError, Global};
 use std::test::Fail;
 use vcd_read::{VcdFault, read_vcd};
 
@@ -151,22 +150,9 @@ fn texts_are_refused_for_their_first_fault(rt: HostRuntime) -> Result<(), Fail> 
     Ok(())
 }
 
-/// A text of so many blanks.
-fn blanks(alloc: Global, count: usize) -> Result<Vec<u8>, AllocError> {
-    let line = [b' '; 64];
-    let mut text = Vec::with_capacity(alloc, count)?;
-    for _ in 0..count / 64 {
-        text.extend_from_slice(&line)?;
-    }
-    for _ in 0..count % 64 {
-        text.push(b' ')?;
-    }
-    Ok(text)
-}
-
 #[test]
 fn a_text_of_more_than_64_mib_is_refused(rt: HostRuntime) -> Result<(), Fail> {
-    let mut text = blanks(rt.alloc(), 67_108_864)?;
+    let mut text = vec![in rt.alloc(); b' '; 67_108_864]?;
     assert!(rt; matches!(read_vcd(rt.alloc(), &text), Err(VcdFault::NoEndDefinitions)));
     text.push(b' ')?;
     assert!(rt; matches!(read_vcd(rt.alloc(), &text), Err(VcdFault::TooLong)));

@@ -1,13 +1,13 @@
 //! Traces that are read, with every scope, declaration and change.
 
-use crate::texts::{COMMERCIAL, DOTTED, FOREIGN, ICARUS, OWN, VERILATOR};
+use crate::vcd_texts::{COMMERCIAL, DOTTED, FOREIGN, ICARUS, OWN, VERILATOR};
 use std::alloc::Global;
 use std::test::Fail;
 use text_core::NoMemory;
 use vcd_read::{Vcd, read_vcd};
 
-/// A scope: the number of the one around it, its name and its path.
-type Scope = (u32, &'static str, &'static str);
+/// A scope: its number, the number of the one around it, its name and its path.
+type Scope = (u32, u32, &'static str, &'static str);
 
 /// A variable: the number of its scope, its name, code and size, and whether its values are bits.
 type Var = (u32, &'static str, u32, u32, bool);
@@ -30,7 +30,7 @@ struct Told {
 static TOLD: [Told; 6] = [
     Told {
         text: OWN,
-        scopes: &[(0, "A", "A")],
+        scopes: &[(1, 0, "A", "A")],
         vars: &[
             (1, "clk", 0, 1, true),
             (1, "en", 1, 1, true),
@@ -70,7 +70,7 @@ static TOLD: [Told; 6] = [
     },
     Told {
         text: FOREIGN,
-        scopes: &[(0, "tb", "tb"), (1, "dut", "tb.dut")],
+        scopes: &[(1, 0, "tb", "tb"), (2, 1, "dut", "tb.dut")],
         vars: &[
             (2, "clk", 0, 1, true),
             (2, "en", 1, 1, true),
@@ -96,7 +96,7 @@ static TOLD: [Told; 6] = [
     },
     Told {
         text: ICARUS,
-        scopes: &[(0, "tb", "tb"), (1, "loop[0]", "tb.loop[0]")],
+        scopes: &[(1, 0, "tb", "tb"), (2, 1, "loop[0]", "tb.loop[0]")],
         vars: &[
             (1, "q", 0, 8, true),
             (1, "clk", 1, 1, true),
@@ -118,7 +118,7 @@ static TOLD: [Told; 6] = [
     },
     Told {
         text: VERILATOR,
-        scopes: &[(0, "TOP", "TOP"), (1, "top", "TOP.top")],
+        scopes: &[(1, 0, "TOP", "TOP"), (2, 1, "top", "TOP.top")],
         vars: &[
             (1, "clk", 0, 1, true),
             (2, "clk", 0, 1, true),
@@ -130,9 +130,9 @@ static TOLD: [Told; 6] = [
     Told {
         text: COMMERCIAL,
         scopes: &[
-            (0, "top", "top"),
-            (1, "\\esc+aped", "top.\\esc+aped"),
-            (1, "\\esc+aped", "top.\\esc+aped"),
+            (1, 0, "top", "top"),
+            (2, 1, "\\esc+aped", "top.\\esc+aped"),
+            (3, 1, "\\esc+aped", "top.\\esc+aped"),
         ],
         vars: &[
             (2, "bus", 0, 4, true),
@@ -154,15 +154,15 @@ static TOLD: [Told; 6] = [
     Told {
         text: DOTTED,
         scopes: &[
-            (0, "a.b", "a.b"),
-            (0, "a", "a"),
-            (2, "bc", "a.bc"),
-            (2, "b", "a.b"),
-            (4, "c.d", "a.b.c.d"),
-            (4, "c", "a.b.c"),
-            (6, "d", "a.b.c.d"),
-            (0, "a", "a"),
-            (8, "b", "a.b"),
+            (1, 0, "a.b", "a.b"),
+            (2, 0, "a", "a"),
+            (3, 2, "bc", "a.bc"),
+            (4, 2, "b", "a.b"),
+            (5, 4, "c.d", "a.b.c.d"),
+            (6, 4, "c", "a.b.c"),
+            (7, 6, "d", "a.b.c.d"),
+            (8, 0, "a", "a"),
+            (9, 8, "b", "a.b"),
         ],
         vars: &[
             (1, "x", 0, 1, true),
@@ -187,14 +187,17 @@ static TOLD: [Told; 6] = [
     },
 ];
 
-/// Whether a scope of a number is this one.
-fn is_scope(vcd: &Vcd, number: u32, wanted: &Scope) -> bool {
-    let (parent, name, path) = *wanted;
+/// Whether a scope is this one.
+fn is_scope(vcd: &Vcd, wanted: &Scope) -> bool {
+    let (number, parent, name, path) = *wanted;
     if number == 0 || u64::from(number) > vcd.scopes() {
         return false;
     }
     let scope = vcd.scope(number);
-    scope.parent == parent && scope.name == name.as_bytes() && vcd.is_scope(number, path)
+    scope.parent == parent
+        && scope.name == name.as_bytes()
+        && vcd.is_scope(number, path)
+        && vcd.has_scope(path)
 }
 
 /// Whether a variable is this one.
@@ -222,18 +225,25 @@ fn is_change(vcd: &Vcd, i: u64, wanted: &Change) -> bool {
 
 /// Whether these and no others are a file's scopes.
 fn has_scopes(vcd: &Vcd, wanted: &[Scope]) -> bool {
+    for scope in wanted {
+        if !is_scope(vcd, scope) {
+            return false;
+        }
+    }
     vcd.scopes() == wanted.len() as u64
-        && wanted.iter().zip(1u32..).all(|(wanted, number)| vcd.has_scope(wanted.2)
-            && is_scope(vcd, number, wanted))
+        && !vcd.has_scope("")
+        && !vcd.has_scope("dut")
+        && !vcd.has_scope("tb.")
 }
 
 /// Whether these and no others are a file's variables.
 fn has_vars(vcd: &Vcd, wanted: &[Var]) -> bool {
+    for (i, var) in wanted.iter().enumerate() {
+        if !is_var(vcd, i as u64, var) {
+            return false;
+        }
+    }
     vcd.vars() == wanted.len() as u64
-        && wanted
-            .iter()
-            .enumerate()
-            .all(|(i, wanted)| is_var(vcd, i as u64, wanted))
 }
 
 /// Whether these and no others are the variables of scopes.
@@ -249,11 +259,12 @@ fn has_groups(alloc: Global, vcd: &Vcd, wanted: &[Group]) -> Result<bool, NoMemo
 
 /// Whether these and no others are a file's changes.
 fn has_changes(vcd: &Vcd, wanted: &[Change]) -> bool {
+    for (i, change) in wanted.iter().enumerate() {
+        if !is_change(vcd, i as u64, change) {
+            return false;
+        }
+    }
     vcd.changes() == wanted.len() as u64
-        && wanted
-            .iter()
-            .enumerate()
-            .all(|(i, wanted)| is_change(vcd, i as u64, wanted))
 }
 
 #[test]
@@ -261,10 +272,6 @@ fn texts_tell_every_declaration_and_change(rt: HostRuntime) -> Result<(), Fail> 
     for (i, told) in TOLD.iter().enumerate() {
         let vcd = read_vcd(rt.alloc(), told.text)?;
         assert!(rt; has_scopes(&vcd, told.scopes), "scopes {i}");
-        assert!(rt;
-            !vcd.has_scope("") && !vcd.has_scope("dut") && !vcd.has_scope("tb."),
-            "others {i}"
-        );
         assert!(rt; has_vars(&vcd, told.vars), "variables {i}");
         assert!(rt; has_groups(rt.alloc(), &vcd, told.groups)?, "groups {i}");
         assert!(rt; has_changes(&vcd, told.changes), "changes {i}");
