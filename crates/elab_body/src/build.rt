@@ -15,9 +15,17 @@ use std::alloc::Global;
 use std::boxed::Box;
 use text_core::Text;
 
+/// A value behind a box. It goes there as soon as it was made: where a walk fails later, it lets go of a box by one call, and not
+/// of each variant of what the box holds.
+pub(crate) fn boxed(alloc: Global, value: Expr) -> Result<Box<Expr>, ElabFault>
+    ensures { NoMemoryOr (λ made. expr_of made.value ≡ expr_of value) result }
+{
+    Ok(Box::new(alloc, value)?)
+}
+
 /// An operator on a value.
-pub(crate) fn unary(alloc: Global, op: gen_tree::UnOp, value: Expr) -> Result<Expr, ElabFault>
-    ensures { NoMemoryOr (λ made. expr_of made ≡ design.Unary (unary_of op) (expr_of value)) result }
+pub(crate) fn unary(op: gen_tree::UnOp, value: Box<Expr>) -> Expr
+    ensures { expr_of result ≡ design.Unary (unary_of op) (expr_of value.value) }
 {
     let op = match op {
         gen_tree::UnOp::Not => design_core::UnOp::Not,
@@ -25,8 +33,7 @@ pub(crate) fn unary(alloc: Global, op: gen_tree::UnOp, value: Expr) -> Result<Ex
         gen_tree::UnOp::Any => design_core::UnOp::Any,
         gen_tree::UnOp::Parity => design_core::UnOp::Parity,
     };
-    let value = Box::new(alloc, value)?;
-    Ok(Expr::Un(op, value))
+    Expr::Un(op, value)
 }
 
 /// An operator of the source, as one of the elaborated design.
@@ -51,44 +58,31 @@ fn elaborated(op: gen_tree::Op) -> design_core::Op
 }
 
 /// An operator between two values.
-pub(crate) fn binary(
-    alloc: Global,
-    op: gen_tree::Op,
-    first: Expr,
-    second: Expr,
-) -> Result<Expr, ElabFault>
-    ensures { NoMemoryOr (λ made. expr_of made ≡ design.Binary (binary_of op) (expr_of first) (expr_of second)) result }
+pub(crate) fn binary(op: gen_tree::Op, first: Box<Expr>, second: Box<Expr>) -> Expr
+    ensures { expr_of result ≡ design.Binary (binary_of op) (expr_of first.value) (expr_of second.value) }
 {
-    let op = elaborated(op);
-    let first = Box::new(alloc, first)?;
-    let second = Box::new(alloc, second)?;
-    Ok(Expr::Bin(op, first, second))
+    Expr::Bin(elaborated(op), first, second)
 }
 
 /// One of two values.
-pub(crate) fn mux(alloc: Global, test: Expr, first: Expr, second: Expr) -> Result<Expr, ElabFault>
-    ensures { NoMemoryOr (λ made. expr_of made ≡ design.Mux (expr_of test) (expr_of first) (expr_of second)) result }
+pub(crate) fn mux(test: Box<Expr>, first: Box<Expr>, second: Box<Expr>) -> Expr
+    ensures { expr_of result ≡ design.Mux (expr_of test.value) (expr_of first.value) (expr_of second.value) }
 {
-    let test = Box::new(alloc, test)?;
-    let first = Box::new(alloc, first)?;
-    let second = Box::new(alloc, second)?;
-    Ok(Expr::Mux(test, first, second))
+    Expr::Mux(test, first, second)
 }
 
 /// A value, made wider.
-pub(crate) fn zext(alloc: Global, value: Expr, width: i64) -> Result<Expr, ElabFault>
-    ensures { NoMemoryOr (λ made. expr_of made ≡ design.Zext (expr_of value) width) result }
+pub(crate) fn zext(value: Box<Expr>, width: i64) -> Expr
+    ensures { expr_of result ≡ design.Zext (expr_of value.value) width }
 {
-    let value = Box::new(alloc, value)?;
-    Ok(Expr::Zext(value, width))
+    Expr::Zext(value, width)
 }
 
 /// Some of the bits of a value.
-pub(crate) fn slice(alloc: Global, value: Expr, high: i64, low: i64) -> Result<Expr, ElabFault>
-    ensures { NoMemoryOr (λ made. expr_of made ≡ design.Slice (expr_of value) high low) result }
+pub(crate) fn slice(value: Box<Expr>, high: i64, low: i64) -> Expr
+    ensures { expr_of result ≡ design.Slice (expr_of value.value) high low }
 {
-    let value = Box::new(alloc, value)?;
-    Ok(Expr::Slice(value, high, low))
+    Expr::Slice(value, high, low)
 }
 
 /// An assignment.

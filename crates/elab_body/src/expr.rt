@@ -6,7 +6,7 @@ ghost use Rattle.elab_core.specs.Walk.{judge};
 ghost use Rattle.elab_core.specs.Elab.{expr as walk};
 ghost use Rattle.elab_base.specs.Met.{met_of};
 
-use crate::build::{binary, mux, slice, unary, zext};
+use crate::build::{binary, boxed, mux, slice, unary, zext};
 use elab_base::{Met, family_name, literal_at, number_at, two_numbers};
 use elab_core::{Count, ElabFault};
 use gen_scope::Scope;
@@ -44,33 +44,36 @@ pub fn expression(
         }
         Expr::Un(op, value) => {
             let value = expression(alloc, met, value, line, scope)?;
-            let made = unary(alloc, *op, value)?;
-            Ok(made)
+            let value = boxed(alloc, value)?;
+            Ok(unary(*op, value))
         }
         Expr::Bin(op, first, second) => {
             let first = expression(alloc, met, first, line, scope)?;
+            let first = boxed(alloc, first)?;
             let second = expression(alloc, met, second, line, scope)?;
-            let made = binary(alloc, *op, first, second)?;
-            Ok(made)
+            let second = boxed(alloc, second)?;
+            Ok(binary(*op, first, second))
         }
         Expr::Mux(test, first, second) => {
             let test = expression(alloc, met, test, line, scope)?;
+            let test = boxed(alloc, test)?;
             let first = expression(alloc, met, first, line, scope)?;
+            let first = boxed(alloc, first)?;
             let second = expression(alloc, met, second, line, scope)?;
-            let made = mux(alloc, test, first, second)?;
-            Ok(made)
+            let second = boxed(alloc, second)?;
+            Ok(mux(test, first, second))
         }
         Expr::Zext(value, width) => {
             let value = expression(alloc, met, value, line, scope)?;
+            let value = boxed(alloc, value)?;
             let width = number_at(alloc, line, scope, width)?;
-            let made = zext(alloc, value, width)?;
-            Ok(made)
+            Ok(zext(value, width))
         }
         Expr::Slice(value, high, low) => {
             let value = expression(alloc, met, value, line, scope)?;
+            let value = boxed(alloc, value)?;
             let (high, low) = two_numbers(alloc, line, scope, high, low)?;
-            let made = slice(alloc, value, high, low)?;
-            Ok(made)
+            Ok(slice(value, high, low))
         }
     }
 }
