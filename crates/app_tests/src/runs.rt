@@ -3,7 +3,6 @@
 use dbg_app::run;
 use io_edge::{MemFiles, MemSink, Words};
 use std::alloc::Global;
-use std::test::Fail;
 use text_core::NoMemory;
 
 /// The files: a design of two statements, one whose trail is longer than a sink is handed at once, and a stimulus of one cycle.
@@ -258,10 +257,11 @@ fn is_as_wanted(alloc: Global, case: &Case) -> Result<bool, NoMemory> {
 }
 
 #[test]
-fn runs_end_as_files_and_sinks_let_them(rt: HostRuntime) -> Result<(), Fail> {
+fn runs_end_as_files_and_sinks_let_them(rt: HostRuntime) {
     for (i, case) in CASES.iter().enumerate() {
-        let wanted = is_as_wanted(rt.alloc(), case)?;
-        assert!(rt; wanted, "case {i}");
+        assert!(rt;
+            matches!(is_as_wanted(rt.alloc(), case), Ok(true)),
+            "case {i}"
+        );
     }
-    Ok(())
 }

@@ -103,7 +103,9 @@ fn one_of_two_is_chosen(rt: HostRuntime) {
 fn values_are_printed(rt: HostRuntime) -> Result<(), Fail> {
     for (i, (pair, wanted)) in TEXTS.iter().enumerate() {
         let value = Bv::make(pair.0, pair.1).ok_or("a value fits its width")?;
-        let text = text_of(rt.alloc(), value)?;
+        let Ok(text) = text_of(rt.alloc(), value) else {
+            return Err("memory lasts".into());
+        };
         assert!(rt; text.as_str() == *wanted, "case {i}");
     }
     Ok(())

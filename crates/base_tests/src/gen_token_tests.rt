@@ -259,7 +259,9 @@ fn are(tokens: &[Placed<'_>], wanted: &[(u32, Token<'_>)]) -> bool {
 fn a_text_has_its_tokens(rt: HostRuntime) -> Result<(), Fail> {
     for (i, (text, wanted)) in READINGS.iter().enumerate() {
         assert!(rt; text.len() < 1000);
-        let tokens = tokens_of(rt.alloc(), text)?;
+        let Ok(tokens) = tokens_of(rt.alloc(), text) else {
+            return Err("the text has tokens".into());
+        };
         assert!(rt; are(&tokens, wanted), "case {i}");
     }
     Ok(())

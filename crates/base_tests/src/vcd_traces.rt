@@ -273,7 +273,10 @@ fn texts_tell_every_declaration_and_change(rt: HostRuntime) -> Result<(), Fail> 
         let vcd = read_vcd(rt.alloc(), told.text)?;
         assert!(rt; has_scopes(&vcd, told.scopes), "scopes {i}");
         assert!(rt; has_vars(&vcd, told.vars), "variables {i}");
-        assert!(rt; has_groups(rt.alloc(), &vcd, told.groups)?, "groups {i}");
+        assert!(rt;
+            matches!(has_groups(rt.alloc(), &vcd, told.groups), Ok(true)),
+            "groups {i}"
+        );
         assert!(rt; has_changes(&vcd, told.changes), "changes {i}");
     }
     Ok(())

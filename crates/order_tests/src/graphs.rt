@@ -1,6 +1,7 @@
 use graph_order::{Graph, GraphFault, order_of};
 use std::alloc::Global;
 use std::test::Fail;
+use text_core::NoMemory;
 
 /// How many vertices a deep graph has.
 const DEEP: u32 = 200_000;
@@ -58,7 +59,7 @@ static CASES: [Case; 11] = [
 ];
 
 /// A graph of so many vertices without edges.
-fn vertices(alloc: Global, count: u32) -> Result<Graph, Fail> {
+fn vertices(alloc: Global, count: u32) -> Result<Graph, NoMemory> {
     let mut graph = Graph::new(alloc);
     for _ in 0..count {
         graph.add(&[])?;
@@ -66,34 +67,34 @@ fn vertices(alloc: Global, count: u32) -> Result<Graph, Fail> {
     Ok(graph)
 }
 
-/// The graph of a case; fails where an edge joins no vertices.
-fn graph_of(alloc: Global, case: &Case) -> Result<Graph, Fail> {
+/// The graph of a case. None where an edge joins no vertices.
+fn graph_of(alloc: Global, case: &Case) -> Result<Option<Graph>, NoMemory> {
     let mut graph = vertices(alloc, case.0)?;
     for (from, one, other) in case.1 {
         let many = graph.count();
         if *from >= many || *one >= many || *other >= many {
-            return Err("an edge joins vertices")?;
+            return Ok(None);
         }
         graph.set(*from, &[*one, *other])?;
     }
-    Ok(graph)
+    Ok(Some(graph))
 }
 
-/// Gives a vertex one edge in place of those that it has; fails where one of both is no vertex.
-fn join(graph: &mut Graph, from: u32, to: u32) -> Result<(), Fail> {
+/// Gives a vertex one edge in place of those that it has. False where one of both is no vertex.
+fn join(graph: &mut Graph, from: u32, to: u32) -> Result<bool, NoMemory> {
     if from < graph.count() && to < graph.count() {
         graph.set(from, &[to])?;
-        return Ok(());
+        return Ok(true);
     }
-    Err("an edge joins vertices")?
+    Ok(false)
 }
 
 /// What is told of a graph: its order, or its cycle behind a word.
-fn told(alloc: Global, graph: &Graph) -> Result<String, Fail> {
+fn told(alloc: Global, graph: &Graph) -> Result<String, NoMemory> {
     let (word, vertices) = match order_of(alloc, graph) {
         Ok(order) => ("order", order),
         Err(GraphFault::Cycle(cycle)) => ("cycle", cycle),
-        Err(GraphFault::NoMemory) => return Err("memory lasts")?,
+        Err(GraphFault::NoMemory) => return Err(NoMemory),
     };
     let mut told = format!(in alloc; "{word}")?;
     for vertex in &vertices {
@@ -103,21 +104,30 @@ fn told(alloc: Global, graph: &Graph) -> Result<String, Fail> {
     Ok(told)
 }
 
-/// The graph behind those of the table is made with its edges.
-#[test]
-fn orders_and_cycles_are_those_worked_by_hand(rt: HostRuntime) -> Result<(), Fail> {
-    for (i, case) in CASES.iter().enumerate() {
-        let graph = graph_of(rt.alloc(), case)?;
-        let found = told(rt.alloc(), &graph)?;
-        assert!(rt; case.2.contains(&found.as_str()), "graph {i}: {found}");
-    }
-    let mut graph = Graph::new(rt.alloc());
+/// What is told of a graph that is made with its edges.
+fn told_with_edges(alloc: Global) -> Result<String, NoMemory> {
+    let mut graph = Graph::new(alloc);
     let sink = graph.add(&[])?;
     let left = graph.add(&[sink])?;
     let right = graph.add(&[sink])?;
     graph.add(&[left, right, sink])?;
-    let found = told(rt.alloc(), &graph)?;
-    assert_eq!(rt; found.as_str(), "order 0 1 2 3");
+    told(alloc, &graph)
+}
+
+#[test]
+fn orders_and_cycles_are_those_worked_by_hand(rt: HostRuntime) -> Result<(), Fail> {
+    for (i, case) in CASES.iter().enumerate() {
+        let Ok(Some(graph)) = graph_of(rt.alloc(), case) else {
+            return Err("an edge joins vertices".into());
+        };
+        let Ok(found) = told(rt.alloc(), &graph) else {
+            return Err("memory lasts".into());
+        };
+        assert!(rt; case.2.contains(&found.as_str()), "graph {i}: {found}");
+    }
+    assert!(rt;
+        matches!(told_with_edges(rt.alloc()), Ok(found) if found.as_str() == "order 0 1 2 3")
+    );
     Ok(())
 }
 
@@ -125,14 +135,16 @@ fn orders_and_cycles_are_those_worked_by_hand(rt: HostRuntime) -> Result<(), Fai
 /// least vertex on.
 #[test]
 fn a_deep_chain_has_an_order_and_a_deep_ring_is_a_cycle(rt: HostRuntime) -> Result<(), Fail> {
-    let mut graph = vertices(rt.alloc(), DEEP)?;
+    let Ok(mut graph) = vertices(rt.alloc(), DEEP) else {
+        return Err("memory lasts".into());
+    };
     for i in 1..DEEP {
-        join(&mut graph, i - 1, i)?;
+        assert!(rt; matches!(join(&mut graph, i - 1, i), Ok(true)));
     }
     let Ok(order) = order_of(rt.alloc(), &graph) else {
         return Err("a chain has an order")?;
     };
-    join(&mut graph, DEEP - 1, 0)?;
+    assert!(rt; matches!(join(&mut graph, DEEP - 1, 0), Ok(true)));
     let Err(GraphFault::Cycle(cycle)) = order_of(rt.alloc(), &graph) else {
         return Err("a ring has a cycle")?;
     };

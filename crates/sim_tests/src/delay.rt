@@ -8,22 +8,22 @@ ghost use Rattle.design_core.specs.Ports.{has_name};
 ghost use Rattle.verilog_out.specs.Printed.{FitsPorts};
 ghost use Rattle.sim_hist.specs.Run.{InputsArePorts};
 
+use crate::missing::Missing;
 use bv_core::Bv;
 use design_core::Ports;
 use net_core::{Net, NetBuilder};
 use std::alloc::Global;
-use std::test::Fail;
 use text_core::{Listed, Text};
 
 /// A value of 8 bits.
-fn byte(value: u8) -> Result<Bv, Fail>
+fn byte(value: u8) -> Result<Bv, Missing>
     ensures { IfOk result (λ b. b.width ≡ 8) }
 {
-    Ok(Bv::make(8, u128::from(value)).ok_or("a value fits its width")?)
+    Bv::make(8, u128::from(value)).ok_or(Missing)
 }
 
 /// Node 0 is the input `d` of 8 bits. Node 1 is a register that starts at 14, and then has what `d` was in the cycle before.
-pub(crate) fn delay(alloc: Global) -> Result<Net, Fail>
+pub(crate) fn delay(alloc: Global) -> Result<Net, Missing>
     ensures placed { IfOk result (λ net. (ports : Ports) → ports.inputs ≡ (codes "x", 8) ∷ (codes "d", 8) ∷ [] → InputsArePorts net.nodes ports) }
     ensures fits { IfOk result (λ net. (ports : Ports) → ports.inputs ≡ (codes "x", 8) ∷ (codes "d", 8) ∷ [] → ports.outputs ≡ [] → FitsPorts net ports) }
 {
@@ -38,7 +38,7 @@ pub(crate) fn delay(alloc: Global) -> Result<Net, Fail>
 
 /// The inputs: `x`, which the net has not, and `d`.
 #[tactic(auto, unfolding(gen_token::specs::Spelling::is_name))]
-fn inputs(alloc: Global) -> Result<Listed<(Text, u8)>, Fail>
+fn inputs(alloc: Global) -> Result<Listed<(Text, u8)>, Missing>
     ensures ports { IfOk result (λ found. found ≡ (codes "x", 8) ∷ (codes "d", 8) ∷ []) }
     ensures names { IfOk result (λ found. IsTrue (list_all has_name found)) }
 {
@@ -50,14 +50,14 @@ fn inputs(alloc: Global) -> Result<Listed<(Text, u8)>, Fail>
 
 /// The name of the module.
 #[tactic(auto, unfolding(gen_token::specs::Spelling::is_name))]
-fn module_name(alloc: Global) -> Result<Text, Fail>
+fn module_name(alloc: Global) -> Result<Text, Missing>
     ensures { IfOk result (λ name. IsTrue (is_name name)) }
 {
     Ok(Text::new(alloc, b"A")?)
 }
 
 /// The ports of the module.
-pub(crate) fn ports(alloc: Global) -> Result<Ports, Fail>
+pub(crate) fn ports(alloc: Global) -> Result<Ports, Missing>
     ensures inputs { IfOk result (λ ports. ports.inputs ≡ (codes "x", 8) ∷ (codes "d", 8) ∷ []) }
     ensures outputs { IfOk result (λ ports. ports.outputs ≡ []) }
 {

@@ -8,4 +8,6 @@
 #[cfg(test)]
 mod delay;
 #[cfg(test)]
+mod missing;
+#[cfg(test)]
 mod tests;

@@ -1,4 +1,5 @@
 use crate::delay::{delay, ports};
+use crate::missing::Missing;
 use bv_core::{NodeId, Sample};
 use io_edge::{MemSink, Sink};
 use sim_core::Simulator;
@@ -11,7 +12,7 @@ use trace_core::{Seek, Trace};
 use verilog_out::print_net;
 
 /// The trace of the net under a stimulus.
-fn traced(alloc: Global, rows: &[u8]) -> Result<SimTrace, Fail> {
+fn traced(alloc: Global, rows: &[u8]) -> Result<SimTrace, Missing> {
     let ports = ports(alloc)?;
     let stim = read_stim(alloc, rows, &ports)?;
     let net = delay(alloc)?;
@@ -85,7 +86,7 @@ static PRINTED: [(&[u64], Result<(), SinkEnd>, usize); 2] = [
 ];
 
 /// What a sink takes of the net where the puts of these numbers fail, and how printing ends.
-fn printed(alloc: Global, failing: &[u64]) -> Result<(MemSink, Result<(), SinkEnd>), Fail> {
+fn printed(alloc: Global, failing: &[u64]) -> Result<(MemSink, Result<(), SinkEnd>), Missing> {
     let net = delay(alloc)?;
     let ports = ports(alloc)?;
     let mut sink = MemSink::new(alloc, 4096, failing.to_vec(alloc)?)?;

@@ -35,7 +35,9 @@ fn has(listener: &impl Listener, pairs: &[(u64, u64)]) -> bool {
 
 #[test]
 fn stops_are_counted_by_line(rt: HostRuntime) -> Result<(), Fail> {
-    let mut lines = LineHits::new(rt.alloc())?;
+    let Ok(mut lines) = LineHits::new(rt.alloc()) else {
+        return Err("memory lasts".into());
+    };
     stop_each(&mut lines);
     assert!(rt; lines.kind() == 1 && lines.rows() == 2);
     assert!(rt; has(&lines, &[(18, 3), (39, 2)]));
@@ -54,7 +56,9 @@ fn stop_beyond_the_room(cycles: &mut CycleHits) {
 fn stops_are_counted_by_cycle_and_a_key_beyond_the_room_is_passed_over(
     rt: HostRuntime,
 ) -> Result<(), Fail> {
-    let mut cycles = CycleHits::new(rt.alloc())?;
+    let Ok(mut cycles) = CycleHits::new(rt.alloc()) else {
+        return Err("memory lasts".into());
+    };
     stop_each(&mut cycles);
     assert!(rt; cycles.rows() == 3);
     stop_beyond_the_room(&mut cycles);

@@ -5,6 +5,7 @@ ghost use Rattle.std.specs.Prelude.{◌≡◌, IfOk, length};
 use bv_core::{Bv, NodeId, Sample};
 use std::alloc::{AllocError, Global};
 use std::test::Fail;
+use text_core::NoMemory;
 use trace_core::{FakeTrace, Seek, Trace};
 
 /// A sample of a width: a number, or none.
@@ -32,7 +33,7 @@ fn row(alloc: Global, cycle: &Cycle) -> Result<Vec<Sample>, AllocError>
 }
 
 /// The trace. It takes three rows of a known length, since a closure that looks at each row costs a minute to prove.
-fn trace(alloc: Global) -> Result<FakeTrace, Fail> {
+fn trace(alloc: Global) -> Result<FakeTrace, NoMemory> {
     let mut rows = Vec::new(alloc);
     rows.push(row(alloc, &SAMPLES[0])?)?;
     rows.push(row(alloc, &SAMPLES[1])?)?;
@@ -55,7 +56,9 @@ fn has(trace: &mut FakeTrace, cycle: u64, samples: &Cycle) -> bool {
 fn a_trace_has_its_samples_and_a_seek_beyond_leaves_the_cursor(
     rt: HostRuntime,
 ) -> Result<(), Fail> {
-    let mut trace = trace(rt.alloc())?;
+    let Ok(mut trace) = trace(rt.alloc()) else {
+        return Err("memory lasts".into());
+    };
     assert!(rt; trace.cycles() == 3 && trace.nodes() == 2);
     for (cycle, samples) in SAMPLES.iter().enumerate() {
         assert!(rt; has(&mut trace, cycle as u64, samples), "cycle {cycle}");
