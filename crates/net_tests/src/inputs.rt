@@ -1,3 +1,5 @@
+//! Two inputs of one name. Only a call makes them: a design has one input of each name, so no source shows it.
+
 use net_core::NetBuilder;
 use std::alloc::Global;
 use text_core::NoMemory;
