@@ -3,6 +3,7 @@ use Rattle.std.proofs.Common.{◌≡◌, ◌≤◌, ◌<◌, ◌+◌, ℕ, zero,
 use Rattle.std.proofs.lemmas.Bool.{cases_lt}
 use Rattle.gen_token.specs.declared.Keyword.TheVariants as keyword
 use Rattle.gen_token.specs.Words.{Tok}
+use Rattle.gen_tree.specs.declared.Mode.{Mode}
 use Rattle.gen_tree.specs.declared.Mode.TheVariants as mode
 use Rattle.gen_tree.specs.Brackets.{opens, side, room_after, room_left, Within}
 use Rattle.gen_tree.specs.Tree.{Module}
@@ -88,22 +89,22 @@ spelled_accepted b ts h = ((answer (each_depth module_depth b) ts).ok b (spelled
 
 -- ---- the room
 
-accepted_within : (ts : List Tok) (room : ℕ) (stack : List Symbol) → run mode.Source room stack ts ≡ accepted → Within room ts
+pub accepted_within : (m : Mode) (ts : List Tok) (room : ℕ) (stack : List Symbol) → run m room stack ts ≡ accepted → Within room ts
 unfolding run
-accepted_within [] room stack e = refl
-accepted_within (t ∷ ts) room stack e = by (λ r s. accepted_within ts r s) (settle mode.Source stack t.word) (room_after room t.word) e
+accepted_within m [] room stack e = refl
+accepted_within m (t ∷ ts) room stack e = by (λ r s. accepted_within m ts r s) (settle m stack t.word) (room_after room t.word) e
   where
-    by : ((r : ℕ) (s : List Symbol) → run mode.Source r s ts ≡ accepted → Within r ts) → (s : Option (List Symbol)) (r : Option ℕ) → run_by s r (suc (length ts)) (λ r s. run mode.Source r s ts) ≡ accepted → IsSome (option_and_then (λ r. room_left r ts) r)
+    by : ((r : ℕ) (s : List Symbol) → run m r s ts ≡ accepted → Within r ts) → (s : Option (List Symbol)) (r : Option ℕ) → run_by s r (suc (length ts)) (λ r s. run m r s ts) ≡ accepted → IsSome (option_and_then (λ r. room_left r ts) r)
     by more None r e = absurd cc
     by more (Some s) None e = absurd cc
     by more (Some s) (Some r) e = more r s e
 
-accepted_if_within : (ts : List Tok) (big room : ℕ) (stack : List Symbol) → run mode.Source big stack ts ≡ accepted → Within room ts → run mode.Source room stack ts ≡ accepted
+pub accepted_if_within : (m : Mode) (ts : List Tok) (big room : ℕ) (stack : List Symbol) → run m big stack ts ≡ accepted → Within room ts → run m room stack ts ≡ accepted
 unfolding run
-accepted_if_within [] big room stack e w = e
-accepted_if_within (t ∷ ts) big room stack e w = by (λ r r2 s. accepted_if_within ts r r2 s) (settle mode.Source stack t.word) (room_after big t.word) (room_after room t.word) e w
+accepted_if_within m [] big room stack e w = e
+accepted_if_within m (t ∷ ts) big room stack e w = by (λ r r2 s. accepted_if_within m ts r r2 s) (settle m stack t.word) (room_after big t.word) (room_after room t.word) e w
   where
-    by : ((r r2 : ℕ) (s : List Symbol) → run mode.Source r s ts ≡ accepted → Within r2 ts → run mode.Source r2 s ts ≡ accepted) → (s : Option (List Symbol)) (r r2 : Option ℕ) → run_by s r (suc (length ts)) (λ r s. run mode.Source r s ts) ≡ accepted → IsSome (option_and_then (λ r. room_left r ts) r2) → run_by s r2 (suc (length ts)) (λ r s. run mode.Source r s ts) ≡ accepted
+    by : ((r r2 : ℕ) (s : List Symbol) → run m r s ts ≡ accepted → Within r2 ts → run m r2 s ts ≡ accepted) → (s : Option (List Symbol)) (r r2 : Option ℕ) → run_by s r (suc (length ts)) (λ r s. run m r s ts) ≡ accepted → IsSome (option_and_then (λ r. room_left r ts) r2) → run_by s r2 (suc (length ts)) (λ r s. run m r s ts) ≡ accepted
     by more None r r2 e w = absurd cc
     by more (Some s) None r2 e w = absurd cc
     by more (Some s) (Some r) None e w = absurd cc
@@ -112,7 +113,7 @@ accepted_if_within (t ∷ ts) big room stack e w = by (λ r r2 s. accepted_if_wi
 -- ---- the theorem
 
 pub read_found : (room : ℕ) (ts : List Tok) (b : List Module) → source_at room ts ≡ Ok b → Spells b ts × Within room ts
-read_found room ts b e = let a = (answer room ts).ok b e in (a.0, accepted_within ts room (a_module ∷ []) a.1)
+read_found room ts b e = let a = (answer room ts).ok b e in (a.0, accepted_within mode.Source ts room (a_module ∷ []) a.1)
 
 pub read_only : (room : ℕ) (ts : List Tok) (b : List Module) → Spells b ts → Within room ts → source_at room ts ≡ Ok b
 read_only room ts b h w = by (source_at room ts) refl
@@ -120,7 +121,7 @@ read_only room ts b h w = by (source_at room ts) refl
     by : (o : Result (List Module) ℕ) → source_at room ts ≡ o → o ≡ Ok b
     by (Ok c) eo = ap Ok (one_tree c b ts ((answer room ts).ok c eo).0 h)
     by (Err left) eo =
-        let acc : run mode.Source room (a_module ∷ []) ts ≡ accepted = accepted_if_within ts (each_depth module_depth b) room (a_module ∷ []) (spelled_accepted b ts h) w in
+        let acc : run mode.Source room (a_module ∷ []) ts ≡ accepted = accepted_if_within mode.Source ts (each_depth module_depth b) room (a_module ∷ []) (spelled_accepted b ts h) w in
         let bad : stopped left ≡ accepted = sym ((answer room ts).err left eo) ∙ acc in absurd cc
 
 bad_is : (room : ℕ) (ts good bad : List Tok) (left : ℕ) → source_at room ts ≡ Err left → ts ≡ good ++ bad → Within room good → Why mode.Source room (a_module ∷ []) good bad → IsBad IsSource room good bad
@@ -148,13 +149,16 @@ too_many (g ∷ good) room t more e h w = by (λ r. too_many good r t more) (roo
     by next (Some r) e w = next r e h w
 
 -- what is whole has no fault
-pub not_whole : (room : ℕ) (ts : List Tok) (modules : List Module) (left : ℕ) → Spells modules ts → Within room ts → FaultAt IsSource room ts left → ⊥
-not_whole room ts modules left s w f = by f.bad f.parts f.is_bad
+pub none_in_whole : (S : List Tok → Type 0) (room : ℕ) (ts : List Tok) (left : ℕ) → S ts → Within room ts → FaultAt S room ts left → ⊥
+none_in_whole S room ts left s w f = by f.bad f.parts f.is_bad
   where
-    by : (bad : List Tok) → ts ≡ f.good ++ bad → IsBad IsSource room f.good bad → ⊥
-    by [] parts bad = bad (modules, subst (λ (x : List Tok). Spells modules x) (parts ∙ append-nil f.good) s)
-    by (t ∷ rest) parts (inl none) = none rest (modules, subst (λ (x : List Tok). Spells modules x) parts s)
+    by : (bad : List Tok) → ts ≡ f.good ++ bad → IsBad S room f.good bad → ⊥
+    by [] parts bad = bad (subst (λ (x : List Tok). S x) (parts ∙ append-nil f.good) s)
+    by (t ∷ rest) parts (inl none) = none rest (subst (λ (x : List Tok). S x) parts s)
     by (t ∷ rest) parts (inr deep) = too_many f.good room t rest deep.0 deep.1 (subst (λ (x : List Tok). Within room x) parts w)
+
+pub not_whole : (room : ℕ) (ts : List Tok) (modules : List Module) (left : ℕ) → Spells modules ts → Within room ts → FaultAt IsSource room ts left → ⊥
+not_whole room ts modules left s w f = none_in_whole IsSource room ts left (modules, s) w f
 
 -- ---- the place is one
 

@@ -131,7 +131,7 @@ fn op<'t, 'a>(tokens: &'t [Placed<'a>]) -> Result<(Op, &'t [Placed<'a>]), ReadFa
 /// The expression in front, and what follows it. `room` brackets may still be opened.
 #[cycle(exprs)]
 #[tactic(auto, using(crate::proofs::OnlyExprs::expr_opened))]
-pub(crate) fn expr<'t, 'a>(
+pub fn expr<'t, 'a>(
     alloc: Global,
     mode: Mode,
     room: usize,

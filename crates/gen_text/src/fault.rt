@@ -25,7 +25,7 @@ pub enum TextFault {
 
 /// Why tokens are not read.
 #[derive(Clone, Copy, PartialEq, Eq)]
-pub(crate) enum ReadFault {
+pub enum ReadFault {
     /// No form goes on with the token that stands so many tokens before the end; 0 at the end.
     At { left: usize },
     /// Want of memory.

@@ -13,6 +13,7 @@ mod source;
 mod stmts;
 mod words;
 
-pub use fault::TextFault;
+pub use exprs::expr;
+pub use fault::{ReadFault, TextFault};
 pub use laws::{one_answer, one_place, one_spelling, spells_the_sample};
 pub use source::read_source;

@@ -36,9 +36,10 @@ pub fn tokens_of(alloc: Global, text: &[u8]) -> Result<Vec<Placed<'_>>, TokenFau
     Ok(tokens)
 }
 
-/// The token in front of a text, as long as it can be, and what follows it.
+/// The token in front of a text, as long as it can be, and what follows it; None where no token begins. Blanks and comments are
+/// no tokens: `skip` goes over them. Takes no memory.
 #[tactic(auto, unfolding(crate::specs::Tokens::token_at))]
-fn token_at(text: &[u8]) -> Option<(Token<'_>, &[u8])>
+pub fn token_at(text: &[u8]) -> Option<(Token<'_>, &[u8])>
     ensures token { found_as result ≡ token_at text.now }
     ensures shorter { IfSome result (λ found. length found.1.now < length text.now) }
 {
@@ -84,9 +85,9 @@ fn mark_at(text: &[u8]) -> Option<(Token<'_>, &[u8])>
     Some((Token::Mark(mark), &text[mark.text().len()..]))
 }
 
-/// The line and the text behind blanks and comments.
+/// The line and the text behind blanks and comments, of a text that begins on this line. Takes no memory.
 #[tactic(auto, unfolding(crate::specs::Tokens::skip))]
-fn skip(text: &[u8], line: u32) -> (u32, &[u8])
+pub fn skip(text: &[u8], line: u32) -> (u32, &[u8])
     requires { line + length text.now < 2 ^ 32 }
     ensures skipped { (result.0, result.1.now) ≡ skip false line text.now }
     ensures shorter { length result.1.now ≤ length text.now }

@@ -15,7 +15,7 @@ pub use bytes::first_other_byte;
 pub use fault::TokenFault;
 pub use keyword::Keyword;
 pub use laws::{longest, one_list};
-pub use lexer::tokens_of;
+pub use lexer::{skip, token_at, tokens_of};
 pub use mark::Mark;
 pub use name::is_name;
 pub use token::{Placed, Token};

@@ -1,0 +1,7 @@
+pub mod Conditions
+pub mod FirstPlace
+pub mod Nodes
+pub mod Offsets
+pub mod Refill
+pub mod Strict
+pub mod Tests

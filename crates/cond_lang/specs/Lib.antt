@@ -1,0 +1,17 @@
+pub mod Bound
+pub mod Faults
+pub mod Found
+pub mod Judged
+pub mod Laws
+pub mod Meaning
+pub mod Names
+pub mod PartView
+pub mod Parts
+pub mod Reader
+pub mod Reading
+pub mod Sampled
+pub mod Shown
+pub mod Single
+pub mod Strict
+pub mod TextShown
+pub mod View

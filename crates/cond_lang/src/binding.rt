@@ -1,0 +1,89 @@
+//! From a text that was read to a condition at a place. All names are found before a width is judged, so that the first name without
+//! a value is told whatever does not fit.
+
+ghost use Rattle.std.specs.Prelude.{◌≡◌, Option, Ok, IfOk, IfErr, []};
+ghost use Rattle.bv_core.specs.declared.Binding as binding;
+ghost use Rattle.cond_lang.specs.Names.{Name};
+ghost use Rattle.cond_lang.specs.Judged.{judged};
+ghost use Rattle.cond_lang.specs.Bound.{scope_of, bound_by};
+ghost use Rattle.cond_lang.specs.Faults.{Refuses, TellsFound};
+ghost use Rattle.cond_lang.specs.Found.{Finds, name_ref, found_after};
+ghost use Rattle.cond_lang.specs.Shown.{cond_tree, cond_width};
+ghost use Rattle.cond_lang.specs.TextShown.{text_expr, text_offsets};
+
+use crate::cond::Cond;
+use crate::fault::BindEnd;
+use crate::part::part;
+use crate::text::CondText;
+use bv_core::{Binding, Ref};
+use std::alloc::Global;
+use text_core::Text;
+
+/// What a name stands for. Names are texts, so other bytes stand for nothing.
+fn found<F: Fn(&str) -> Option<Binding>>(name: &[u8], find: &F) -> Option<Binding>
+    requires { F.IsAlwaysCallable find.now }
+    ensures { (places : Name → Option binding.Binding) → Finds F.Fn find.now places → result ≡ places name.now }
+{
+    match std::str::from_utf8(name) {
+        Ok(name) => find(name),
+        Err(_) => None,
+    }
+}
+
+/// Where the value of a name is found, which stands for this.
+fn ref_of(alloc: Global, name: &[u8], found: Option<Binding>) -> Result<Ref, BindEnd>
+    ensures { TellsFound (λ at. at) result (name_ref name.now found) }
+{
+    match found {
+        Some(Binding::Value(at)) => Ok(at),
+        Some(Binding::Unset) => Err(BindEnd::Unset {
+            name: Text::new(alloc, name)?,
+        }),
+        Some(Binding::Removed) => Err(BindEnd::Removed {
+            name: Text::new(alloc, name)?,
+        }),
+        None => Err(BindEnd::Unknown {
+            name: Text::new(alloc, name)?,
+        }),
+    }
+}
+
+/// Where the values of names are found, each in turn.
+fn refs_of<F: Fn(&str) -> Option<Binding>>(
+    alloc: Global,
+    names: &[Text],
+    find: &F,
+) -> Result<Vec<Ref>, BindEnd>
+    requires { F.IsAlwaysCallable find.now }
+    ensures { (places : Name → Option binding.Binding) → Finds F.Fn find.now places → TellsFound (λ refs. refs.items) result (found_after places [] names.now) }
+{
+    let mut refs = Vec::new(alloc);
+    for name in names {
+        let found = found(name.bytes(), find);
+        let at = ref_of(alloc, name.bytes(), found)?;
+        refs.push(at)?;
+    }
+    Ok(refs)
+}
+
+/// The condition that a text is at a place, where `find` answers what a name stands for there. It is asked once for each name in
+/// the text, in order.
+///
+/// # Errors
+///
+/// `Unknown`, `Removed` and `Unset` with the first name in the text that has no value there; `Width` with the offset of the first
+/// part that does not fit, where all names have values; and `NoMemory`.
+pub fn bind<F: Fn(&str) -> Option<Binding>>(
+    alloc: Global,
+    text: &CondText,
+    find: &F,
+) -> Result<Cond, BindEnd>
+    requires { F.IsAlwaysCallable find.now }
+    ensures width { (places : Name → Option binding.Binding) → Finds F.Fn find.now places → IfOk result (λ cond. judged (scope_of places) (text_expr text.now) (text_offsets text.now) ≡ Ok (cond_width cond)) }
+    ensures bound { (places : Name → Option binding.Binding) → Finds F.Fn find.now places → IfOk result (λ cond. cond_tree cond ≡ bound_by places (text_expr text.now)) }
+    ensures refused { (places : Name → Option binding.Binding) → Finds F.Fn find.now places → IfErr result (λ end. Refuses end (judged (scope_of places) (text_expr text.now) (text_offsets text.now))) }
+{
+    let refs = refs_of(alloc, &text.names, find)?;
+    let (cond, _, _) = part(alloc, &text.expr, &refs, &text.offsets)?;
+    Ok(cond)
+}
