@@ -6,14 +6,12 @@ use Rattle.std.proofs.lemmas.Option.{same_Some, none-some}
 use Rattle.exec_core.specs.Block.{Name, Expr, Key, Now, Next}
 use Rattle.exec_core.specs.Exec.{on_one, on_two, on_three}
 use Rattle.exec_core.specs.Trees.{tree_in}
-use Rattle.check_core.specs.Maps.{no_value}
+use Rattle.names.specs.Maps.{no_value}
 use Rattle.block_net.specs.declared.term.Term.{Term}
 use Rattle.block_net.specs.declared.term.TermId.{TermId}
-use Rattle.block_net.specs.declared.step.Step.{Step}
-use Rattle.block_net.specs.Terms.{Stands, tree_for}
+use Rattle.block_net.specs.Terms.{Stands}
 use Rattle.block_net.specs.Walks.{FitBy, env_by, themselves}
-use Rattle.block_net.specs.Blocks.{AreLinked, TellsExpr}
-use Rattle.block_net.specs.Logs.{AreWithin}
+use Rattle.block_net.specs.Blocks.{TellsExpr}
 
 pub alone : (e : Expr) → tree_in e themselves ≡ Some e
 alone (Const b) = refl

@@ -7,7 +7,7 @@ use Rattle.bv_core.specs.Operators.{flag_of}
 use Rattle.exec_core.specs.Block.{Name, Key, Now, Next, same_key, Body, body_assigns}
 use Rattle.exec_core.specs.Exec.{start}
 use Rattle.exec_core.specs.Trees.{body_rows, body_trees_after}
-use Rattle.check_core.specs.Maps.{put_value, no_value}
+use Rattle.names.specs.Maps.{put_value, no_value}
 use Rattle.block_net.specs.declared.key.Key as code_key
 use Rattle.block_net.specs.declared.key.Key.TheVariants as keys
 use Rattle.block_net.specs.declared.term.Term.{Term}

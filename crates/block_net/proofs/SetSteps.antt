@@ -2,7 +2,7 @@
 use Rattle.std.proofs.Common.{◌≡◌, ℕ, ◌+◌, ◌<◌, ◌≤◌, Bool, true, false, not, ◌||◌, bytes_eq, List, [], ◌∷◌, ◌++◌, length, take, get_or, refl, sym, ap, ◌∙◌}
 use Rattle.std.proofs.lemmas.List.{take_more, take_all}
 use Rattle.exec_core.specs.Block.{Name, Key, Now, Next, same_key}
-use Rattle.check_core.specs.Known.{Known, has, none, with}
+use Rattle.names.specs.Known.{Known, has, none, with}
 use Rattle.block_net.specs.declared.key.Key as code_key
 use Rattle.block_net.specs.declared.key.Key.TheVariants as keys
 use Rattle.block_net.specs.declared.key_set.KeySet.{KeySet}

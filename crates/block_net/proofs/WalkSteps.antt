@@ -6,7 +6,7 @@ use Rattle.tree_core.specs.Tree.{Tree}
 use Rattle.exec_core.specs.Block.{Name, Key, Now, Next}
 use Rattle.exec_core.specs.Exec.{Env, put}
 use Rattle.exec_core.specs.Trees.{Row}
-use Rattle.check_core.specs.Maps.{value_of, put_value}
+use Rattle.names.specs.Maps.{value_of, put_value}
 use Rattle.block_net.specs.declared.key.Key as code_key
 use Rattle.block_net.specs.declared.key.Key.TheVariants as keys
 use Rattle.block_net.specs.declared.step.Step.{Step}

@@ -5,7 +5,7 @@ use Rattle.tree_core.specs.Tree.{Tree}
 use Rattle.exec_core.specs.Block.{Name, Expr, Key, Now, Next, Body}
 use Rattle.exec_core.specs.Exec.{Env, start}
 use Rattle.exec_core.specs.Trees.{block_rows, block_trees}
-use Rattle.check_core.specs.Maps.{value_of, put_value}
+use Rattle.names.specs.Maps.{value_of, put_value}
 use Rattle.block_net.specs.declared.step.Step.{Step}
 use Rattle.block_net.specs.declared.term.Term.{Term}
 use Rattle.block_net.specs.declared.term.TermId.{TermId}

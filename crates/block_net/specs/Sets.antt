@@ -1,7 +1,7 @@
 -- Which keys a set of keys has seen.
 use Rattle.std.specs.Prelude.{◌≡◌, Bool}
 use Rattle.exec_core.specs.Block.{Key, Now, Next}
-use Rattle.check_core.specs.Known.{has}
+use Rattle.names.specs.Known.{has}
 use Rattle.block_net.specs.declared.key_set.KeySet.{KeySet}
 use Rattle.block_net.specs.Walks.{among}
 

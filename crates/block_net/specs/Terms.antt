@@ -4,7 +4,8 @@ use Rattle.bv_core.specs.declared.operators.Op1.TheVariants as op1
 use Rattle.tree_core.specs.Tree as tree
 use Rattle.tree_core.specs.Tree.{Tree}
 use Rattle.exec_core.specs.Block.{Name}
-use Rattle.design_exec.specs.Processes.{bits, unary_of, binary_of}
+use Rattle.design_exec.specs.Processes.{unary_of, binary_of}
+use Rattle.design_core.specs.Widths.{bits}
 use Rattle.block_net.specs.declared.term.Term.{Term}
 use Rattle.block_net.specs.declared.term.Term.TheVariants.{Leaf, Value, Unary, Binary, Mux, Zext, Slice}
 use Rattle.block_net.specs.declared.term.TermId.{TermId}

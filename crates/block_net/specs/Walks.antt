@@ -5,7 +5,7 @@ use Rattle.tree_core.specs.Tree.{Tree}
 use Rattle.exec_core.specs.Block.{Name, Key, Now, Next, same_key, key_name, Stmt, Body, body_assigns}
 use Rattle.exec_core.specs.Exec.{Env, on_three}
 use Rattle.exec_core.specs.Trees.{Row, rows, body_rows, trees_after, body_trees_after}
-use Rattle.check_core.specs.Maps.{value_of}
+use Rattle.names.specs.Maps.{value_of}
 use Rattle.block_net.specs.declared.key.Key as code_key
 use Rattle.block_net.specs.declared.bindings.Binding.{Binding}
 use Rattle.block_net.specs.declared.step.Step.{Step}

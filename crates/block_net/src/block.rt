@@ -1,7 +1,10 @@
+//! A block run once on expressions. What it has come to at its end is kept with its terms and its log, so that each instance and each
+//! row can be read off it without another run.
+
 ghost use Rattle.std.specs.Prelude.{◌≡◌, ◌<◌, [], length, IfOk, OnOk};
 ghost use Rattle.tree_core.specs.Tree.{Leaf};
 ghost use Rattle.exec_core.specs.Exec.{start};
-ghost use Rattle.check_core.specs.Maps.{value_of};
+ghost use Rattle.names.specs.Maps.{value_of};
 ghost use Rattle.design_core.specs.View.{block_of};
 ghost use Rattle.design_exec.specs.Processes.{body_of};
 ghost use Rattle.block_net.specs.Logs.{key_of};
@@ -11,12 +14,12 @@ ghost use Rattle.block_net.specs.Walks.{Fits, among, env_of};
 ghost use Rattle.block_net.specs.Blocks.{AreLinked, BlockParts, Tells, hidden, hide};
 
 use crate::body::walk_body;
-use crate::ids::IdMap;
 use crate::keys::assigned_by;
 use crate::terms::Terms;
 use crate::walk::Walk;
 use crate::{Key, Step, Term, TermId};
 use design_core::{Block, Stmt};
+use names::NameMap;
 use std::alloc::Global;
 use std::marker::Model;
 use text_core::NoMemory;
@@ -27,8 +30,8 @@ use text_core::NoMemory;
 pub struct BlockTerms {
     terms: Terms,
     log: Vec<Step>,
-    names: IdMap,
-    registers: IdMap,
+    names: NameMap<Option<TermId>>,
+    registers: NameMap<Option<TermId>>,
 }
 
 impl Model for BlockTerms {
@@ -100,7 +103,7 @@ impl BlockTerms {
 }
 
 /// Puts a name in without a term, if the key is one that an own name of a block has.
-fn hide_key(alloc: Global, now: &mut IdMap, key: &Key) -> Result<(), NoMemory>
+fn hide_key(alloc: Global, now: &mut NameMap<Option<TermId>>, key: &Key) -> Result<(), NoMemory>
     ensures { OnOk result (value_of now.new ≡ hide (key_of key.now) (value_of now.old)) }
 {
     match key {
@@ -111,10 +114,10 @@ fn hide_key(alloc: Global, now: &mut IdMap, key: &Key) -> Result<(), NoMemory>
 }
 
 /// The own names of a block that assigns these keys, without terms.
-fn hide_all(alloc: Global, keys: &[Key]) -> Result<IdMap, NoMemory>
+fn hide_all(alloc: Global, keys: &[Key]) -> Result<NameMap<Option<TermId>>, NoMemory>
     ensures { IfOk result (λ now. value_of now ≡ hidden (among keys.now)) }
 {
-    let mut now = IdMap::new(alloc);
+    let mut now = NameMap::new(alloc);
     for key in keys {
         hide_key(alloc, &mut now, key)?;
     }
@@ -132,7 +135,7 @@ fn begin(alloc: Global, clocked: bool, stmts: &[Stmt]) -> Result<Walk, NoMemory>
     Ok(Walk {
         terms: Terms::new(alloc),
         now,
-        next: IdMap::new(alloc),
+        next: NameMap::new(alloc),
         log: Vec::new(alloc),
     })
 }

@@ -1,14 +1,16 @@
-ghost use Rattle.std.specs.Prelude.{◌≡◌, [], Some, IfOk};
+//! An expression alone as terms: a walk that begins with nothing and has no log.
+
+ghost use Rattle.std.specs.Prelude.{◌≡◌, [], IfOk};
 ghost use Rattle.block_net.specs.Blocks.{TellsExpr};
 ghost use Rattle.block_net.specs.Source.{expr_in};
 ghost use Rattle.block_net.specs.Walks.{Fits, env_of, themselves};
 
 use crate::TermId;
 use crate::block::BlockTerms;
-use crate::ids::IdMap;
 use crate::terms::Terms;
 use crate::walk::Walk;
 use design_core::Expr;
+use names::NameMap;
 use std::alloc::Global;
 use text_core::NoMemory;
 
@@ -20,8 +22,8 @@ fn blank(alloc: Global) -> Walk
 {
     Walk {
         terms: Terms::new(alloc),
-        now: IdMap::new(alloc),
-        next: IdMap::new(alloc),
+        now: NameMap::new(alloc),
+        next: NameMap::new(alloc),
         log: Vec::new(alloc),
     }
 }

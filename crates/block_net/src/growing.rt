@@ -1,20 +1,20 @@
-ghost use Rattle.std.specs.Prelude.{◌≡◌, IfOk, OnOk};
+//! Terms put in behind those that are there. An operand that is missing, as a name was unset, leaves none.
+
+ghost use Rattle.std.specs.Prelude.{◌≡◌, IfOk, OnOk, Some, codes, ◌++◌};
 ghost use Rattle.bv_core.specs.declared.operators.Op1.TheVariants as op1;
-ghost use Rattle.tree_core.specs.Tree.{One, Two, Mux};
+ghost use Rattle.tree_core.specs.Tree.{One, Two, Mux, Const};
 ghost use Rattle.exec_core.specs.Exec.{on_one, on_two, on_three};
 ghost use Rattle.exec_core.specs.Trees.{tree_in};
-ghost use Rattle.design_exec.specs.Processes.{bits, binary_of, unary_of, value_of as bits_of};
-ghost use Rattle.tree_core.specs.Tree.{Const};
+ghost use Rattle.design_exec.specs.Processes.{binary_of, unary_of};
+ghost use Rattle.design_core.specs.Widths.{bits};
 ghost use Rattle.block_net.specs.Terms.{IsWithin, Stands, tree_for};
 ghost use Rattle.block_net.specs.Source.{expr_in};
 ghost use Rattle.block_net.specs.Walks.{Fits, Grown, env_of};
-ghost use Rattle.std.specs.Prelude.{Some, codes, ◌++◌};
 ghost use Rattle.exec_core.specs.Block.{Now};
 
 use crate::walk::Walk;
 use crate::{Term, TermId};
-use check_core::below;
-use design_core::{Expr, Literal, Op, UnOp};
+use design_core::{Expr, Literal, Op, UnOp, below};
 use std::alloc::Global;
 use text_core::{NoMemory, Text};
 

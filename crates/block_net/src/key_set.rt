@@ -1,3 +1,5 @@
+//! The keys that a block assigns, each once, in the order in which they came first.
+
 ghost use Rattle.std.specs.Prelude.{◌≡◌, not, IfOk, OnOk};
 ghost use Rattle.exec_core.specs.Block.{same_key};
 ghost use Rattle.block_net.specs.Logs.{key_of};
@@ -5,7 +7,7 @@ ghost use Rattle.block_net.specs.Walks.{among, either};
 ghost use Rattle.block_net.specs.Sets.{IsKept, seen};
 
 use crate::Key;
-use check_core::NameSet;
+use names::NameSet;
 use std::alloc::Global;
 use text_core::NoMemory;
 

@@ -6,7 +6,6 @@ mod block;
 mod body;
 mod expression;
 mod growing;
-mod ids;
 mod key;
 mod key_set;
 mod keys;
@@ -18,7 +17,6 @@ mod walk;
 
 pub use block::{BlockTerms, block_terms};
 pub use expression::expr_terms;
-pub use ids::IdMap;
 pub use key::Key;
 pub use keys::assigned_by;
 pub use laws::tells_the_sample;

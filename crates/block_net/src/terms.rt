@@ -1,8 +1,11 @@
-ghost use Rattle.std.specs.Prelude.{◌≡◌, ◌<◌, ◌∷◌, ◌++◌, [], length, IfOk, OnOk, Some, OnErr};
+//! The terms of a block. Each stands above its operands, so a term is a tree by its number alone.
+
+ghost use Rattle.std.specs.Prelude.{◌≡◌, ◌<◌, ◌∷◌, ◌++◌, [], length, IfOk, OnOk, Some};
 ghost use Rattle.exec_core.specs.Exec.{on_one, on_two, on_three};
 ghost use Rattle.tree_core.specs.Tree.{One, Two, Mux};
 ghost use Rattle.bv_core.specs.declared.operators.Op1.TheVariants as op1;
-ghost use Rattle.design_exec.specs.Processes.{bits, unary_of, binary_of};
+ghost use Rattle.design_exec.specs.Processes.{unary_of, binary_of};
+ghost use Rattle.design_core.specs.Widths.{bits};
 ghost use Rattle.block_net.specs.Terms.{AreNumbered, Extends, IsWithin, OperandsBelow, Stands, term_tree, tree_at, tree_for, trees_of};
 
 use crate::{Term, TermId};

@@ -1,19 +1,17 @@
-ghost use Rattle.std.specs.Prelude.{◌≡◌, ◌∷◌, [], IfOk, OnOk, Some, codes, ◌++◌};
+//! A walk through a block: what each key has now. A name that is read first, and was not set, stands for itself.
+
+ghost use Rattle.std.specs.Prelude.{◌≡◌, ◌∷◌, [], IfOk, OnOk, Some, ◌++◌};
 ghost use Rattle.exec_core.specs.Block.{Now, Next};
-ghost use Rattle.exec_core.specs.Exec.{put, start};
-ghost use Rattle.exec_core.specs.Trees.{tree_in};
-ghost use Rattle.design_core.specs.View.{expr_of};
-ghost use Rattle.design_exec.specs.Processes.{tree_of};
+ghost use Rattle.exec_core.specs.Exec.{put};
 ghost use Rattle.tree_core.specs.Tree.{Leaf};
 ghost use Rattle.block_net.specs.Terms.{Extends, IsWithin, Stands, tree_for};
 ghost use Rattle.block_net.specs.Logs.{key_of};
 ghost use Rattle.block_net.specs.Walks.{Fits, Grown, Walked, env_of};
 
-use crate::ids::IdMap;
 use crate::terms::Terms;
 use crate::{Key, Step, Term, TermId};
-use check_core::below;
-use design_core::{Expr, Literal};
+use design_core::{Expr, Literal, below};
+use names::NameMap;
 use std::alloc::Global;
 use text_core::{NoMemory, Text};
 
@@ -21,8 +19,8 @@ use text_core::{NoMemory, Text};
 #[derive(Drop)]
 pub(crate) struct Walk {
     pub(crate) terms: Terms,
-    pub(crate) now: IdMap,
-    pub(crate) next: IdMap,
+    pub(crate) now: NameMap<Option<TermId>>,
+    pub(crate) next: NameMap<Option<TermId>>,
     pub(crate) log: Vec<Step>,
 }
 

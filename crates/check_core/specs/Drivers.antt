@@ -5,8 +5,8 @@ use Rattle.design_core.specs.declared.variant.Signal.{Signal}
 use Rattle.design_core.specs.Design.{Stmt, Assign, Let, If, Conn, Child, Block, Variant}
 use Rattle.check_core.specs.declared.fault.CheckFault.{CheckFault}
 use Rattle.check_core.specs.declared.fault.CheckFault.TheVariants.{TwoDrivers, Undriven}
-use Rattle.check_core.specs.Known.{Name, Known, with}
-use Rattle.check_core.specs.Statements.{statements}
+use Rattle.names.specs.Known.{Name, Known, with}
+use Rattle.design_core.specs.Statements.{statements}
 use Rattle.check_core.specs.Faults.{earlier, first_of, spot}
 use Rattle.check_core.specs.Names.{is_driven, unless_known}
 

@@ -1,6 +1,6 @@
 -- The first fault that there is.
 use Rattle.std.specs.Prelude.{◌≡◌, ℕ, Bool, true, false, List, [], ◌∷◌, Option, Some, None, Result, Ok, Err}
-use Rattle.check_core.specs.Known.{Name}
+use Rattle.names.specs.Known.{Name}
 use Rattle.check_core.specs.declared.fault.Spot.{Spot}
 use Rattle.check_core.specs.declared.fault.CheckFault.{CheckFault}
 use Rattle.check_core.specs.declared.fault.CheckFault.TheVariants.{UnknownName, DuplicateName, BadWidth, UnknownPort, UnboundInput, WidthMismatch, TwoDrivers, Undriven, Latch, ReadBeforeWrite, NoMemory}

@@ -1,5 +1,3 @@
-pub mod Known
-pub mod Statements
 pub mod Faults
 pub mod Names
 pub mod Ports
@@ -8,4 +6,3 @@ pub mod Drivers
 pub mod Paths
 pub mod Verdict
 pub mod Samples
-pub mod Maps

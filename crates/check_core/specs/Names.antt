@@ -1,5 +1,5 @@
 -- Names that nothing has, and names that two things have.
-use Rattle.std.specs.Prelude.{ℕ, Bool, false, true, ◌||◌, ◌&&◌, bytes_eq, List, [], ◌∷◌, ◌++◌, Option, Some, None, if◌then◌else◌, map, codes}
+use Rattle.std.specs.Prelude.{ℕ, Bool, false, true, ◌||◌, ◌&&◌, bytes_eq, List, [], ◌∷◌, ◌++◌, Option, Some, None, if◌then◌else◌, map}
 use Rattle.std.specs.List.{list_any}
 use Rattle.design_core.specs.declared.variant.Signal.{Signal}
 use Rattle.design_core.specs.declared.variant.Kind.{Kind}
@@ -9,8 +9,9 @@ use Rattle.check_core.specs.declared.fault.CheckFault.{CheckFault}
 use Rattle.check_core.specs.declared.fault.CheckFault.TheVariants.{UnknownName, DuplicateName}
 use Rattle.check_core.specs.declared.kinds.Kinds.{Kinds}
 use Rattle.check_core.specs.declared.kinds.Kinds.TheVariants as kinds
-use Rattle.check_core.specs.Known.{Name, Known, none, with, either}
-use Rattle.check_core.specs.Statements.{statements}
+use Rattle.names.specs.Known.{Name, Known, none, with, either}
+use Rattle.design_core.specs.Dotted.{below}
+use Rattle.design_core.specs.Statements.{statements}
 use Rattle.check_core.specs.Faults.{earlier, first_of, spot}
 
 -- ---- what has a name
@@ -61,10 +62,6 @@ kinds_of kinds.Inputs = is_input
 kinds_of kinds.Driven = is_driven
 kinds_of kinds.Registers = is_register
 kinds_of kinds.ChildOutputs = is_child_output
-
--- the output of a child, as a name of its parent
-abbrev pub below : Name → Name → Name
-below u q = u ++ (codes "." ++ q)
 
 -- ---- a name that nothing has
 

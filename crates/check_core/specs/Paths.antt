@@ -5,7 +5,7 @@ use Rattle.design_core.specs.Design.{Expr, Read, Out, Value, Unary, Binary, Mux,
 use Rattle.design_core.specs.Slots.{lets_of}
 use Rattle.check_core.specs.declared.fault.CheckFault.{CheckFault}
 use Rattle.check_core.specs.declared.fault.CheckFault.TheVariants.{Latch, ReadBeforeWrite}
-use Rattle.check_core.specs.Known.{Known, has}
+use Rattle.names.specs.Known.{Known, has}
 use Rattle.check_core.specs.Faults.{earlier, first_of, spot}
 use Rattle.check_core.specs.Drivers.{Drive, driven_in}
 

@@ -1,18 +1,16 @@
 -- Ports of children that are not there, and inputs without a connection.
-use Rattle.std.specs.Prelude.{ℕ, ◌||◌, not, bytes_eq, List, [], Option, None, option_map, unwrap_or, slice_get}
+use Rattle.std.specs.Prelude.{ℕ, ◌||◌, not, bytes_eq, List, [], Option, None}
 use Rattle.std.specs.List.{list_any}
 use Rattle.design_core.specs.declared.variant.Signal.{Signal}
+use Rattle.design_core.specs.WellFormed.{signals_at}
 use Rattle.design_core.specs.Design.{Expr, Read, Out, Value, Unary, Binary, Mux, Zext, Slice, Stmt, Assign, Let, If, Conn, Child, Block, Variant}
 use Rattle.check_core.specs.declared.fault.CheckFault.{CheckFault}
 use Rattle.check_core.specs.declared.fault.CheckFault.TheVariants.{UnknownPort, UnboundInput}
-use Rattle.check_core.specs.Known.{Name, Known}
-use Rattle.check_core.specs.Statements.{statements}
+use Rattle.names.specs.Known.{Name, Known}
+use Rattle.design_core.specs.Statements.{statements}
 use Rattle.check_core.specs.Faults.{earlier, first_of, spot}
-use Rattle.check_core.specs.Names.{named, is_input, is_child_output, below, unless_known}
-
--- the signals of the variant of this number; none where there is no such variant
-abbrev pub signals_at : List Variant → ℕ → List Signal
-signals_at variants n = unwrap_or (option_map (λ (v : Variant). v.signals) (slice_get variants n)) []
+use Rattle.check_core.specs.Names.{named, is_input, is_child_output, unless_known}
+use Rattle.design_core.specs.Dotted.{below}
 
 -- ---- a port that is not there
 
@@ -38,7 +36,7 @@ unknown_port_in outputs (Let slot line gens x e) = unknown_output outputs line e
 unknown_port_in outputs (If slot line gens c first second) = unknown_output outputs line c
 
 abbrev pub unknown_port_in_child : Known → List Variant → Child → Option CheckFault
-unknown_port_in_child outputs variants c = first_of (unknown_port_at outputs (named is_input (signals_at variants c.variant))) c.conns
+unknown_port_in_child outputs variants c = first_of (unknown_port_at outputs (named is_input (signals_at c.variant variants))) c.conns
 
 abbrev pub unknown_port_in_block : Known → Block → Option CheckFault
 unknown_port_in_block outputs b = first_of (unknown_port_in outputs) (statements b.body)
@@ -60,7 +58,7 @@ abbrev pub unbound_at : ℕ → Name → Known → Signal → Option CheckFault
 unbound_at line u ports s = unless_known (not (is_input s.kind) || ports s.name) (UnboundInput (spot line (below u s.name)))
 
 abbrev pub unbound_in_child : List Variant → Child → Option CheckFault
-unbound_in_child variants c = first_of (unbound_at c.line c.name (connected c.conns)) (signals_at variants c.variant)
+unbound_in_child variants c = first_of (unbound_at c.line c.name (connected c.conns)) (signals_at c.variant variants)
 
 abbrev pub unbound_input : List Variant → Variant → Option CheckFault
 unbound_input variants v = first_of (unbound_in_child variants) v.children

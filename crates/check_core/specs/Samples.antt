@@ -7,7 +7,7 @@ use Rattle.design_core.specs.declared.variant.Kind.TheVariants.{Input, Output, C
 use Rattle.design_core.specs.Design.{Expr, Read, Value, Stmt, Assign, Let, If, Body, Done, Then, NoElse, Conn, Block, Variant, Design}
 use Rattle.check_core.specs.declared.fault.Spot.{Spot}
 use Rattle.check_core.specs.declared.fault.CheckFault.TheVariants.{UnknownName, DuplicateName, BadWidth, UnknownPort, UnboundInput, WidthMismatch, TwoDrivers, Undriven, Latch, ReadBeforeWrite}
-use Rattle.check_core.specs.Known.{Name}
+use Rattle.names.specs.Known.{Name}
 use Rattle.check_core.specs.Verdict.{verdict}
 
 abbrev signal : Name → Kind → ℕ → Signal

@@ -1,5 +1,5 @@
 -- Widths that are no widths, and widths that do not go together.
-use Rattle.std.specs.Prelude.{◌≡◌, ℕ, ◌+◌, ◌-◌, ◌^◌, ℤ, pos, negsuc, int_le, Bool, true, false, ◌&&◌, not, ◌==◌, nat_le, nat_lt, bytes_eq, List, [], ◌∷◌, Option, Some, None, Result, Ok, Err, unwrap_or, if◌then◌else◌, codes}
+use Rattle.std.specs.Prelude.{◌≡◌, ℕ, ◌+◌, ◌-◌, ◌^◌, ℤ, pos, int_le, Bool, true, false, ◌&&◌, not, ◌==◌, nat_le, nat_lt, bytes_eq, List, [], ◌∷◌, Option, Some, None, Result, Ok, Err, unwrap_or, if◌then◌else◌, codes}
 use Rattle.design_core.specs.declared.expr.UnOp.{UnOp}
 use Rattle.design_core.specs.declared.expr.UnOp.TheVariants as one
 use Rattle.design_core.specs.declared.expr.Op.{Op}
@@ -12,22 +12,19 @@ use Rattle.design_core.specs.Design.{Expr, Read, Out, Value, Unary, Binary, Mux,
 use Rattle.check_core.specs.declared.fault.CheckFault.{CheckFault}
 use Rattle.check_core.specs.declared.fault.CheckFault.TheVariants.{BadWidth, WidthMismatch}
 use Rattle.check_core.specs.declared.fault.Clash.{Clash}
-use Rattle.check_core.specs.Known.{Name}
-use Rattle.check_core.specs.Statements.{statements}
+use Rattle.names.specs.Known.{Name}
+use Rattle.design_core.specs.Statements.{statements}
 use Rattle.check_core.specs.Faults.{earlier, first_of, spot, is_fault}
-use Rattle.check_core.specs.Names.{any_kind, is_input, below}
-use Rattle.check_core.specs.Ports.{signals_at}
+use Rattle.check_core.specs.Names.{any_kind, is_input}
+use Rattle.design_core.specs.Dotted.{below}
+use Rattle.design_core.specs.WellFormed.{signals_at}
+use Rattle.design_core.specs.Widths.{bits}
 
 -- ---- widths, literals and slices
 
 -- from 1 to 128
 abbrev pub is_width : ℤ → Bool
 is_width n = int_le (pos 1) n && int_le n (pos 128)
-
--- a number of bits; a negative one is none
-abbrev pub bits : ℤ → ℕ
-bits (pos n) = n
-bits (negsuc n) = 0
 
 -- a value that is not negative and fits its width
 abbrev pub is_literal : Literal → Bool
@@ -232,7 +229,7 @@ mismatch_among widths [] = None
 mismatch_among widths (s ∷ rest) = earlier (stmt_mismatch widths s) (mismatch_among (widths_after widths s) rest)
 
 abbrev pub mismatch_in_child : Widths → List Variant → Child → Option CheckFault
-mismatch_in_child widths variants c = first_of (conn_mismatch widths (widths_of is_input (signals_at variants c.variant))) c.conns
+mismatch_in_child widths variants c = first_of (conn_mismatch widths (widths_of is_input (signals_at c.variant variants))) c.conns
 
 abbrev pub mismatch_in_block : Widths → Block → Option CheckFault
 mismatch_in_block widths b = mismatch_among widths (statements b.body)

@@ -1,9 +1,11 @@
+//! Which signals a check goes over: those of some kinds, by name.
+
 ghost use Rattle.std.specs.Prelude.{◌≡◌, IfOk, OnOk, if◌then◌else◌};
-ghost use Rattle.check_core.specs.Known.{has, with};
+ghost use Rattle.names.specs.Known.{has, with};
 ghost use Rattle.check_core.specs.Names.{kinds_of, named};
 
-use crate::NameSet;
 use design_core::{Kind, Signal};
+use names::NameSet;
 use std::alloc::Global;
 use text_core::NoMemory;
 

@@ -8,15 +8,9 @@
 mod fault;
 mod kinds;
 mod laws;
-mod maps;
-mod name_set;
-mod preorder;
 mod spots;
 
 pub use fault::{CheckFault, Clash, Refusal, Spot};
 pub use kinds::{Kinds, names_of};
 pub use laws::checks_the_samples;
-pub use maps::{LineMap, WidthMap};
-pub use name_set::NameSet;
-pub use preorder::statements;
-pub use spots::{below, spot};
+pub use spots::spot;

@@ -2,16 +2,16 @@
 use Rattle.std.proofs.Common.{◌≡◌, ℕ, Bool, true, false, ◌∷◌, None, refl, sym, ap, ◌∙◌, subst, if◌then◌else◌}
 use Rattle.std.proofs.lemmas.Bool.{or_left, or_right}
 use Rattle.exec_core.specs.Block.{Name, own, key_name}
-use Rattle.exec_core.specs.Lists.{EachOf, IsIn}
+use Rattle.list_core.specs.Lists.{EachOf, IsIn}
 use Rattle.exec_core.specs.Paths as exec
 use Rattle.exec_core.specs.Paths.{HasWidth, BodyWidths, Checked, known_in}
 use Rattle.exec_core.specs.Design.{Process, place, signals_of, width_in}
-use Rattle.exec_core.proofs.Lists.{each_member, each_from}
+use Rattle.list_core.proofs.Lists.{each_member, each_from}
 use Rattle.design_core.specs.declared.design.Instance.{Instance}
 use Rattle.design_core.specs.Design.{Stmt, Assign, Let, If, Body, Done, Then, Else, NoElse, Otherwise, Block, Variant, Design}
-use Rattle.design_exec.specs.Processes.{tree_of, target, stmt_of, body_of, else_of, body_widths, signal_width, signals_at, is_signal_of, process, processes_of}
-use Rattle.check_core.specs.Known.{none}
-use Rattle.check_core.specs.Statements.{inside, statements, else_statements}
+use Rattle.design_exec.specs.Processes.{tree_of, target, stmt_of, body_of, else_of, body_widths, signal_width, instance_signals, is_signal_of, process, processes_of}
+use Rattle.names.specs.Known.{none}
+use Rattle.design_core.specs.Statements.{inside, statements, else_statements}
 use Rattle.check_core.specs.Faults.{first_of}
 use Rattle.check_core.specs.Names.{scope_of, targets, named, any_kind, is_child_output, child_named, taken_in}
 use Rattle.check_core.specs.Widths.{widths_of, bad_signal, bad_in_child, bad_in_block, bad_stmt, signal_mismatch, mismatch_in_child, mismatch_in_block}
@@ -78,7 +78,7 @@ module _ (d : Design) (i : ℕ) (r : Instance) (v : Variant) (b : Block) (stands
       listed : body_widths b.body (signal_width v.signals) x ≡ list_widths (statements b.body) (signal_width v.signals) x
       listed = ap (λ (w : Name → ℕ). w x) (body_listed b.body (signal_width v.signals))
 
-      by_signal : (s : Bool) → is_signal_of d (place i x) ≡ s → (if s then signal_width (signals_at d i) x else body_widths b.body (signal_width v.signals) x) ≡ list_widths (statements b.body) (signal_width v.signals) x
+      by_signal : (s : Bool) → is_signal_of d (place i x) ≡ s → (if s then signal_width (instance_signals d i) x else body_widths b.body (signal_width v.signals) x) ≡ list_widths (statements b.body) (signal_width v.signals) x
       by_signal true e =
           ap (λ l. signal_width l x) (signals_are d i r v stands)
           ∙ sym (stays (taken_in v) (statements b.body) (signal_width v.signals) x (lets_differ v b at c.apart) (or_left (named any_kind v.signals x) (child_named v.children x) (sym (signals_named d i r v stands x) ∙ e)))

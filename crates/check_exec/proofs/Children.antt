@@ -1,18 +1,13 @@
 -- The children of an instance, and their instances.
-use Rattle.std.proofs.Common.{◌≡◌, ℕ, zero, suc, ◌<◌, List, [], ◌∷◌, length, Some, option_map, unwrap_or, refl, sym, ap, ◌∙◌, arith}
+use Rattle.std.proofs.Common.{◌≡◌, ℕ, ◌<◌, [], ◌∷◌, Some, option_map, unwrap_or, sym, ap, ◌∙◌}
 use Rattle.std.specs.Prelude.{slice_get}
+use Rattle.list_core.proofs.Listing.{some_at}
 use Rattle.design_core.specs.declared.design.Instance.{Instance}
 use Rattle.design_core.specs.Design.{Child, Variant, Design}
-use Rattle.design_core.specs.WellFormed.{IsDesign}
+use Rattle.design_core.specs.WellFormed.{IsDesign, signals_at}
 use Rattle.design_exec.specs.Processes.{children_in, child_at}
 use Rattle.design_exec.proofs.Standing.{children_stand}
-use Rattle.check_core.specs.Ports.{signals_at}
 use Rattle.check_exec.proofs.Instances.{Stands}
-
-pub some_at : {A : Type 0} (list : List A) (n : ℕ) → n < length list → (a : A) × (slice_get list n ≡ Some a)
-some_at [] n h = absurd (omega (arith, h))
-some_at (a ∷ list) zero h = (a, refl)
-some_at (a ∷ list) (suc n) h = some_at list n (omega (arith, h))
 
 -- the instance of a child, with its variant
 pub record HasInstance (d : Design) (i : ℕ) (k : ℕ) (c : Child) : Type 0 where
@@ -22,7 +17,7 @@ pub record HasInstance (d : Design) (i : ℕ) (k : ℕ) (c : Child) : Type 0 whe
   pub variant : Variant
   pub stands : Stands d number instance variant
   pub named : slice_get d.variants c.variant ≡ Some variant
-  pub signals : signals_at d.variants c.variant ≡ variant.signals
+  pub signals : signals_at c.variant d.variants ≡ variant.signals
   pub behind : i < number
   pub parent : instance.parent ≡ Some i
 

@@ -6,17 +6,17 @@ use Rattle.std.proofs.lemmas.Bool.{cases_Bool, false_from_ne_true}
 use Rattle.std.proofs.lemmas.Option.{same_Some}
 use Rattle.tree_core.proofs.Same.{both_true}
 use Rattle.exec_core.specs.Block.{Name}
-use Rattle.exec_core.specs.Lists.{EachOf, IsIn}
+use Rattle.list_core.specs.Lists.{EachOf, IsIn}
 use Rattle.exec_core.specs.Design.{place, links_to}
-use Rattle.exec_core.proofs.Lists.{each_member, each_from}
+use Rattle.list_core.proofs.Lists.{each_member, each_from}
 use Rattle.design_core.specs.declared.design.Instance.{Instance}
 use Rattle.design_core.specs.declared.variant.Signal.{Signal}
 use Rattle.design_core.specs.Design.{Conn, Child, Variant, Design}
 use Rattle.design_exec.specs.Processes.{Numbered, Link, children_in, none_or, conn_link, child_links, instances_of}
-use Rattle.check_core.specs.Known.{none}
+use Rattle.names.specs.Known.{none}
 use Rattle.check_core.specs.Faults.{first_of}
 use Rattle.check_core.specs.Names.{named, is_input}
-use Rattle.check_core.specs.Ports as ports
+use Rattle.design_core.specs.WellFormed as formed
 use Rattle.check_core.specs.Ports.{connected, unbound_at, unbound_in_child}
 use Rattle.check_core.specs.Drivers.{Lines, undriven_yet, driven_also, second_drive, conn_drive, connected_twice, twice_in_child}
 use Rattle.check_exec.specs.Premises.{IsSound}
@@ -66,11 +66,11 @@ one_conn before (c ∷ conns) x e a = by_port (cases_Bool (To x c)) (λ more. on
     by_port (inr h) rest = count_skip (To x) c conns h ∙ rest (sym (ap (λ b. b || connected conns x) h) ∙ a)
 
 -- an input of a child is connected once
-pub connected_once : (variants : List Variant) (v : Variant) → IsClean variants v → (c : Child) → IsIn c v.children → (s : Signal) → IsIn s (ports.signals_at variants c.variant) → is_input s.kind ≡ true → count_by (To s.name) c.conns ≡ 1
+pub connected_once : (variants : List Variant) (v : Variant) → IsClean variants v → (c : Child) → IsIn c v.children → (s : Signal) → IsIn s (formed.signals_at c.variant variants) → is_input s.kind ≡ true → count_by (To s.name) c.conns ≡ 1
 connected_once variants v clean c at s here input =
     let bound =
-    each_member (λ t. unbound_at c.line c.name (connected c.conns) t ≡ None) (ports.signals_at variants c.variant)
-    (none_found (unbound_at c.line c.name (connected c.conns)) (ports.signals_at variants c.variant)
+    each_member (λ t. unbound_at c.line c.name (connected c.conns) t ≡ None) (formed.signals_at c.variant variants)
+    (none_found (unbound_at c.line c.name (connected c.conns)) (formed.signals_at c.variant variants)
     (each_member (λ b. unbound_in_child variants b ≡ None) v.children (none_found (unbound_in_child variants) v.children clean.bound) c at)) s here in
     let known = is_known (not (is_input s.kind) || connected c.conns s.name) _ bound in
     one_conn undriven_yet c.conns s.name
@@ -121,7 +121,7 @@ no_input d sound i r v stands s at other = no_conns d sound i s.name none_there
         let conn = conn_passes d.variants w (clean d sound.accepted j q w its) c (in_at w.children k c here) y inside in
         let same : h.variant ≡ v = same_variant d h.number h.instance h.variant i r v h.stands stands number in
         let input : named is_input v.signals s.name ≡ true =
-        subst (λ (z : Variant). named is_input z.signals s.name ≡ true) same (subst (λ l. named is_input l s.name ≡ true) h.signals (subst (λ z. named is_input (ports.signals_at d.variants c.variant) z ≡ true) port conn.port)) in
+        subst (λ (z : Variant). named is_input z.signals s.name ≡ true) same (subst (λ l. named is_input l s.name ≡ true) h.signals (subst (λ z. named is_input (formed.signals_at c.variant d.variants) z ≡ true) port conn.port)) in
         let found = named_in is_input v.signals s.name input in
         let one = one_signal none v.signals (signals_differ v (clean d sound.accepted i r v stands).apart) found.0 s found.1.0 at (sym found.1.1.1) in
         true≢false (sym (subst (λ (t : Signal). is_input t.kind ≡ true) one found.1.1.0) ∙ other)
@@ -145,7 +145,7 @@ module _ (d : Design) (sound : IsSound d) (i : ℕ) (r : Instance) (v : Variant)
       let h = child_stands d sound.kept p.parent p.instance p.variant p.stands k c here in
       elsewhere d sound i s.name p.parent k c h (λ y inside number port. n (once p.parent 0 d.instances k p.place i (h.is ∙ ap (λ m. Some m) number) p.is))
 
-  inside_child : IsIn s (ports.signals_at d.variants p.child.variant)
+  inside_child : IsIn s (formed.signals_at p.child.variant d.variants)
   inside_child =
       let h = child_stands d sound.kept p.parent p.instance p.variant p.stands p.place p.child p.at in
       let number : h.number ≡ i = same_Some h.number i (sym h.is ∙ p.is) in

@@ -4,10 +4,10 @@ use Rattle.std.specs.Prelude.{slice_get, count_by}
 use Rattle.std.specs.List.{enumerate_from, flat_map}
 use Rattle.std.proofs.lemmas.List.Sums.{sum_by-cons, sum_by-append}
 use Rattle.std.proofs.lemmas.Option.{none-some, same_Some}
-use Rattle.exec_core.specs.Lists.{EachOf, IsIn}
-use Rattle.exec_core.proofs.Lists.{each_from}
+use Rattle.list_core.specs.Lists.{EachOf, IsIn}
+use Rattle.list_core.proofs.Lists.{each_from}
 use Rattle.design_core.specs.declared.variant.Signal.{Signal}
-use Rattle.check_core.specs.Known.{Known, with}
+use Rattle.names.specs.Known.{Known, with}
 use Rattle.check_core.specs.Names.{signal_thing}
 use Rattle.check_exec.proofs.Facts.{each_numbered}
 use Rattle.check_exec.proofs.Names.{Differ, differs_behind}

@@ -3,15 +3,15 @@ use Rattle.std.proofs.Common.{◌≡◌, ℕ, ◌+◌, Bool, true, false, true�
 use Rattle.std.specs.Prelude.{count_by}
 use Rattle.std.proofs.lemmas.Bool.{or_cases, cases_Bool, false_from_ne_true}
 use Rattle.exec_core.specs.Block.{Name, own}
-use Rattle.exec_core.specs.Lists.{EachOf, IsIn}
-use Rattle.exec_core.proofs.Lists.{each_member, each_from}
+use Rattle.list_core.specs.Lists.{EachOf, IsIn}
+use Rattle.list_core.proofs.Lists.{each_member, each_from}
 use Rattle.design_core.specs.declared.variant.Signal.{Signal}
 use Rattle.design_core.specs.declared.variant.Kind.{Kind}
 use Rattle.design_core.specs.declared.variant.Kind.TheVariants as kind
 use Rattle.design_core.specs.Design.{Expr, Stmt, Assign, Let, If, Block, Variant}
 use Rattle.design_exec.specs.Processes.{body_of}
-use Rattle.check_core.specs.Known.{none}
-use Rattle.check_core.specs.Statements.{statements}
+use Rattle.names.specs.Known.{none}
+use Rattle.design_core.specs.Statements.{statements}
 use Rattle.check_core.specs.Faults.{earlier, first_of, spot}
 use Rattle.check_core.specs.declared.fault.CheckFault.TheVariants.{TwoDrivers}
 use Rattle.check_core.specs.Names.{scope_of, named, any_kind, is_driven, is_register, targets}

@@ -6,7 +6,7 @@ use Rattle.std.proofs.lemmas.Bool.{or_cases, or_left, or_right}
 use Rattle.std.proofs.lemmas.Option.{none-some, same_Some}
 use Rattle.std.proofs.lemmas.Slice.Eq.{bytes_eq-Decides}
 use Rattle.exec_core.specs.Block.{Name}
-use Rattle.exec_core.specs.Lists.{EachOf, IsIn}
+use Rattle.list_core.specs.Lists.{EachOf, IsIn}
 use Rattle.check_core.specs.Faults.{earlier, first_of}
 
 -- ---- names
@@ -112,8 +112,3 @@ none_found find (x ∷ list) e = (earlier_left (find x) (first_of find list) e, 
 pub map_none : {A B : Type 0} (f : A → B) (o : Option A) → option_map f o ≡ None → o ≡ None
 map_none f (Some a) e = absurd (none-some (f a) (sym e))
 map_none f None e = refl
-
-pub in_parts : {A : Type 0} (x : A) (a b : List A) → IsIn x (a ++ b) → IsIn x a ⊎ IsIn x b
-in_parts x [] b i = inr i
-in_parts x (y ∷ a) b (inl e) = inl (inl e)
-in_parts x (y ∷ a) b (inr i) = elim (in_parts x a b i) [ inl j ↦ inl (inr j) | inr j ↦ inr j ]

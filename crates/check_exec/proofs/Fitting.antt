@@ -13,13 +13,15 @@ use Rattle.design_core.specs.Design.{Expr, Read, Out, Value, Unary, Binary, Mux,
 use Rattle.design_exec.specs.Processes as processes
 use Rattle.design_exec.specs.Processes.{tree_of}
 use Rattle.check_core.specs.declared.fault.Clash.{Clash}
-use Rattle.check_core.specs.Known.{Known}
-use Rattle.check_core.specs.Names.{Scope, unknown_read, below}
+use Rattle.names.specs.Known.{Known}
+use Rattle.check_core.specs.Names.{Scope, unknown_read}
+use Rattle.design_core.specs.Dotted.{below}
 use Rattle.check_core.specs.Ports.{unknown_output}
 use Rattle.check_core.specs.Widths as checked
-use Rattle.check_core.specs.Widths.{Widths, bits, is_width, is_literal, is_slice, is_sized, clash, where_same, unary_width, binary_width, mux_width, zext_width, slice_width, unary_of, binary_of, mux_of, zext_of, slice_of, width_in}
+use Rattle.check_core.specs.Widths.{Widths, is_width, is_slice, is_sized, clash, where_same, unary_width, binary_width, mux_width, zext_width, slice_width, unary_of, binary_of, mux_of, zext_of, slice_of, width_in}
+use Rattle.design_core.specs.Widths.{bits}
 use Rattle.check_exec.proofs.Facts.{earlier_left, earlier_right}
-use Rattle.check_exec.proofs.Widths.{same_bits, width_from, literal_bits, is_known, err_ok, same_ok, if_ok}
+use Rattle.check_exec.proofs.Widths.{width_from, literal_bits, is_known, err_ok, same_ok, if_ok}
 
 -- a tree of this width
 abbrev pub HasTree : (Name → Type 0) → (Name → ℕ) → Expr → ℕ → Type 0
@@ -136,11 +138,11 @@ module _ (scope : Scope) (lets outputs : Known) (W : Widths) (good : Name → Ty
         (
           t.0,
           (
-            subst (λ p. width_of F (tree_of e) ≤ p) (sym (same_bits to)) (subst (λ p. p ≤ bits to) (sym t.1) (leb-true u (bits to) k.0)),
-            subst (λ p. p ≤ 128) (sym (same_bits to)) (width_from to s).1,
+            (subst (λ p. p ≤ bits to) (sym t.1) (leb-true u (bits to) k.0)),
+            (width_from to s).1,
           ),
         ),
-        same_bits to ∙ k.1,
+        k.1,
       )
 
   slice_tree : (e : Expr) (h l : ℤ) (u w : ℕ) → is_slice h l ≡ true → slice_width u (bits h) (bits l) ≡ Ok w → HasTree good F e u → HasTree good F (Slice e h l) w
@@ -149,11 +151,11 @@ module _ (scope : Scope) (lets outputs : Known) (W : Widths) (good : Name → Ty
         (
           t.0,
           (
-            subst (λ p. p ≤ processes.bits h) (sym (same_bits l)) (subst (λ p. bits l ≤ p) (sym (same_bits h)) (k.0).0),
-            subst (λ p. p < width_of F (tree_of e)) (sym (same_bits h)) (subst (λ p. bits h < p) (sym t.1) (k.0).1),
+            ((k.0).0),
+            (subst (λ p. bits h < p) (sym t.1) (k.0).1),
           ),
         ),
-        ap₂ (λ p q. p - q + 1) (same_bits h) (same_bits l) ∙ k.1,
+        k.1,
       )
 
   pub fits_expr : (e : Expr) (w : ℕ) → unknown_read scope lets line e ≡ None → unknown_output outputs n e ≡ None → is_sized e ≡ true → width_in W e ≡ Ok w → HasTree good F e w
@@ -163,7 +165,7 @@ module _ (scope : Scope) (lets outputs : Known) (W : Widths) (good : Name → Ty
   fits_expr (Out u q) w r o s h =
       let known = agree.ports (below u q) (is_known (outputs (below u q)) _ o) in
       (known.0, sym (width_at W F (below u q) known.1) ∙ same_ok (checked.width_of W (below u q)) w h)
-  fits_expr (Value l) w r o s h = (literal_bits l s, same_bits l.width ∙ same_ok (bits l.width) w h)
+  fits_expr (Value l) w r o s h = (literal_bits l s, same_ok (bits l.width) w h)
   fits_expr (Unary p e) w r o s h =
       let k = unary_parts p (width_in W e) w h in
       unary_tree p e k.0 w k.1.1 (fits_expr e k.0 r o s k.1.0)

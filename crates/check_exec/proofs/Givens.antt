@@ -7,10 +7,10 @@ use Rattle.std.proofs.lemmas.Option.{none-some, same_Some, slice_get_within}
 use Rattle.tree_core.specs.Tree.{Origin, Input, Register}
 use Rattle.tree_core.proofs.Same.{both_true}
 use Rattle.exec_core.specs.Block.{Name}
-use Rattle.exec_core.specs.Lists.{EachOf, IsIn, IsNotIn, AreApart}
+use Rattle.list_core.specs.Lists.{EachOf, IsIn, IsNotIn, AreApart}
 use Rattle.exec_core.specs.Design.{place}
 use Rattle.exec_core.specs.Accepted.{GivenFits, OriginsApart}
-use Rattle.exec_core.proofs.Lists.{each_member, each_from}
+use Rattle.list_core.proofs.Lists.{each_member, each_from}
 use Rattle.design_core.specs.declared.design.Instance.{Instance}
 use Rattle.design_core.specs.declared.variant.Signal.{Signal}
 use Rattle.design_core.specs.declared.variant.Kind.{Kind}
@@ -18,23 +18,24 @@ use Rattle.design_core.specs.declared.variant.Kind.TheVariants as kind
 use Rattle.design_core.specs.Design.{Child, Variant, Design}
 use Rattle.design_core.specs.WellFormed.{child_names}
 use Rattle.design_exec.specs.Processes as processes
-use Rattle.design_exec.specs.Processes.{Numbered, Given, is_top, is_signal_of, signals_at, signals_in, signal_width, processes_of, given_by, givens_at, instances_of, value_of}
-use Rattle.check_core.specs.Known.{Known, none, with}
+use Rattle.design_exec.specs.Processes.{Numbered, Given, is_signal_of, instance_signals, signals_in, signal_width, processes_of, given_by, givens_at}
+use Rattle.names.specs.Known.{Known, none, with}
 use Rattle.check_core.specs.Faults.{first_of}
 use Rattle.check_core.specs.Names.{signal_thing, child_thing}
-use Rattle.check_core.specs.Widths.{bits, is_declared, is_width, is_literal, bad_signal, signal_mismatch, start_width}
+use Rattle.check_core.specs.Widths.{is_declared, is_width, is_literal, bad_signal, signal_mismatch, start_width}
+use Rattle.design_core.specs.Widths.{bits}
 use Rattle.check_exec.specs.Premises.{IsSound, GivensFit, GivensAreApart}
 use Rattle.check_exec.proofs.Facts.{each_joined, each_flat, each_numbered, in_any, any_in, in_index, each_index, from_zero, name_same, none_found, earlier_left}
 use Rattle.check_exec.proofs.Instances.{IsClean, Stands, clean, signals_are, each_instance}
 use Rattle.check_exec.proofs.Names.{Differ, none_taken, differs_behind, signals_differ, children_differ}
-use Rattle.check_exec.proofs.Widths.{same_bits, width_from, literal_bits, sized, matches, needed_there, same_ok, width_is}
+use Rattle.check_exec.proofs.Widths.{width_from, literal_bits, sized, matches, needed_there, same_ok, width_is}
 
 -- ---- a signal of an instance
 
 -- it is one, and has its width
 pub record IsSignal (d : Design) (i : ℕ) (s : Signal) : Type 0 where
   pub signal : is_signal_of d (place i s.name) ≡ true
-  pub width : signal_width (signals_at d i) s.name ≡ processes.bits s.width
+  pub width : signal_width (instance_signals d i) s.name ≡ bits s.width
 
 pub signal_of : (d : Design) (i : ℕ) (r : Instance) (v : Variant) → Stands d i r v → IsClean d.variants v → (s : Signal) → IsIn s v.signals → IsSignal d i s
 signal_of d i r v stands c s at = record {
@@ -58,7 +59,7 @@ start_of variants v c s at =
 -- ---- each fits
 
 given_fits : (d : Design) (i : ℕ) (r : Instance) (v : Variant) → Stands d i r v → IsClean d.variants v → (s : Signal) → IsIn s v.signals → (k : Kind) → s.kind ≡ k
-    → EachOf (GivenFits (processes_of d)) (given_by (i, r) s.name (processes.bits s.width) k)
+    → EachOf (GivenFits (processes_of d)) (given_by (i, r) s.name (bits s.width) k)
 given_fits d i r v stands c s at kind.Input e = by_top (i == 0)
   where
     here : IsSignal d i s
@@ -67,11 +68,11 @@ given_fits d i r v stands c s at kind.Input e = by_top (i == 0)
     declared : (1 ≤ bits s.width) × (bits s.width ≤ 128)
     declared = width_from s.width (subst (λ k. is_declared k s.width ≡ true) e (declared_of d.variants v c s at))
 
-    by_top : (b : Bool) → EachOf (GivenFits (processes_of d)) (if b then (place i s.name, Input s.name (processes.bits s.width)) ∷ [] else [])
+    by_top : (b : Bool) → EachOf (GivenFits (processes_of d)) (if b then (place i s.name, Input s.name (bits s.width)) ∷ [] else [])
     by_top true = (
       record {
         signal = here.signal;
-        origin = (subst (λ w. 1 ≤ w) (sym (same_bits s.width)) declared.0, subst (λ w. w ≤ 128) (sym (same_bits s.width)) declared.1);
+        origin = (declared.0, declared.1);
         width = sym here.width;
       },
       tt,
@@ -85,11 +86,11 @@ given_fits d i r v stands c s at (kind.Reg start) e =
     let found = start_of d.variants v c s at in
     let widths : bits start.width ≡ bits s.width =
     same_ok (bits start.width) (bits s.width) (needed_there (bits s.width) (Ok (bits start.width)) found.0 (ap (λ k. start_width k (bits s.width)) (sym e) ∙ found.1)) in
-    (record { signal = here.signal; origin = literal_bits start declared.1; width = same_bits start.width ∙ widths ∙ sym (same_bits s.width) ∙ sym here.width }, tt)
+    (record { signal = here.signal; origin = literal_bits start declared.1; width = widths ∙ sym here.width }, tt)
 given_fits d i r v stands c s at (kind.ChildOut k q) e = tt
 
 abbrev of_signal : Numbered → Signal → List Given
-of_signal q s = given_by q s.name (processes.bits s.width) s.kind
+of_signal q s = given_by q s.name (bits s.width) s.kind
 
 givens_none : (d : Design) (i : ℕ) (r : Instance) → slice_get d.variants r.variant ≡ None → givens_at d (i, r) ≡ []
 givens_none d i r e = ap (λ o. flat_map (of_signal (i, r)) (unwrap_or (option_map (λ (w : Variant). w.signals) o) [])) e
@@ -151,12 +152,12 @@ origins_joined (x ∷ a) b h g n = (each_joined (NotOf x) a b h.0 n.0, origins_j
 own_apart : (q : Numbered) (taken : Known) (signals : List Signal) → Differ taken (map signal_thing signals) → OriginsApart (flat_map (of_signal q) signals)
 own_apart q taken [] d = tt
 own_apart q taken (s ∷ signals) d =
-    origins_joined (of_signal q s) (flat_map (of_signal q) signals) (alone q s.name (processes.bits s.width) s.kind) (own_apart q (with s.name taken) signals d.1)
+    origins_joined (of_signal q s) (flat_map (of_signal q) signals) (alone q s.name (bits s.width) s.kind) (own_apart q (with s.name taken) signals d.1)
     (each_from (λ given. EachOf (NotOf given) (flat_map (of_signal q) signals)) (of_signal q s) (λ given i.
     each_flat (NotOf given) (of_signal q) signals (λ t at.
     each_from (NotOf given) (of_signal q t) (λ other j same.
-    let mine = each_member (HasOrigin q s.name) (of_signal q s) (given_from q s.name (processes.bits s.width) s.kind) given i in
-    let its = each_member (HasOrigin q t.name) (of_signal q t) (given_from q t.name (processes.bits t.width) t.kind) other j in
+    let mine = each_member (HasOrigin q s.name) (of_signal q s) (given_from q s.name (bits s.width) s.kind) given i in
+    let its = each_member (HasOrigin q t.name) (of_signal q t) (given_from q t.name (bits t.width) t.kind) other j in
     differs_behind taken s signals d.1 t at (sym its.1 ∙ ap origin_name same ∙ mine.1)))))
 
 -- those of two instances
@@ -170,7 +171,7 @@ two_apart q r given other tops paths mine its same = by_origin given.1 mine (sub
 at_givens : (d : Design) (q : Numbered) → EachOf (λ given. IsFrom q given.1) (givens_at d q)
 at_givens d q =
     each_flat (λ given. IsFrom q given.1) (of_signal q) (signals_in d q.1.variant) (λ s at.
-    each_from (λ given. IsFrom q given.1) (of_signal q s) (λ given i. (each_member (HasOrigin q s.name) (of_signal q s) (given_from q s.name (processes.bits s.width) s.kind) given i).0))
+    each_from (λ given. IsFrom q given.1) (of_signal q s) (λ given i. (each_member (HasOrigin q s.name) (of_signal q s) (given_from q s.name (bits s.width) s.kind) given i).0))
 
 path_other : (path : Name) (list : List Instance) → IsNotIn path (map (λ (r : Instance). r.path) list) → (j : ℕ) (r : Instance) → slice_get list j ≡ Some r → r.path ≡ path → ⊥
 path_other path [] h j r at e = none-some r at

@@ -2,11 +2,11 @@
 use Rattle.std.proofs.Common.{◌≡◌, ℕ, List, [], map, Option, Some, None, option_map, unwrap_or, refl, sym, ap, ◌∙◌, subst}
 use Rattle.std.specs.Prelude.{slice_get}
 use Rattle.std.specs.List.{flat_map}
-use Rattle.exec_core.specs.Lists.{EachOf, IsIn}
+use Rattle.list_core.specs.Lists.{EachOf, IsIn}
 use Rattle.exec_core.specs.Design.{Process}
 use Rattle.design_core.specs.declared.design.Instance.{Instance}
 use Rattle.design_core.specs.Design.{Variant, Block, Design}
-use Rattle.design_exec.specs.Processes.{Numbered, processes_of, processes_at, process, instances_of, signals_in, signals_at}
+use Rattle.design_exec.specs.Processes.{Numbered, processes_of, processes_at, process, instances_of, signals_in, instance_signals}
 use Rattle.check_core.specs.declared.fault.Refusal.{Refusal}
 use Rattle.check_core.specs.declared.fault.Refusal.TheVariants as refusal
 use Rattle.check_core.specs.Faults.{fault_in}
@@ -16,7 +16,7 @@ use Rattle.check_core.specs.Widths.{bad_width, width_mismatch}
 use Rattle.check_core.specs.Drivers.{two_drivers, undriven}
 use Rattle.check_core.specs.Paths.{latch, read_before_write}
 use Rattle.check_core.specs.Verdict.{refused, refused_variant, refused_at, refused_by, in_order, verdict}
-use Rattle.exec_core.proofs.Lists.{each_member}
+use Rattle.list_core.proofs.Lists.{each_member}
 use Rattle.check_exec.proofs.Facts.{each_at, each_map, each_flat, from_zero, none_found, map_none}
 
 -- a variant that nothing refuses
@@ -62,7 +62,7 @@ clean d e i r v s =
 
 -- ---- what each instance has
 
-pub signals_are : (d : Design) (i : ℕ) (r : Instance) (v : Variant) → Stands d i r v → signals_at d i ≡ v.signals
+pub signals_are : (d : Design) (i : ℕ) (r : Instance) (v : Variant) → Stands d i r v → instance_signals d i ≡ v.signals
 signals_are d i r v s =
     ap (λ o. unwrap_or (option_map (λ (q : Instance). signals_in d q.variant) o) []) s.instance
     ∙ ap (λ o. unwrap_or (option_map (λ (w : Variant). w.signals) o) []) s.variant

@@ -1,16 +1,16 @@
 -- No path of a block leaves a target unassigned.
 use Rattle.std.proofs.Common.{◌≡◌, ℕ, Bool, true, false, true≢false, List, [], ◌∷◌, None, inl, inr, refl, sym, ap, ◌∙◌, subst, if◌then◌else◌}
 use Rattle.exec_core.specs.Block.{Name, Now}
-use Rattle.exec_core.specs.Lists.{IsIn}
+use Rattle.list_core.specs.Lists.{IsIn}
 use Rattle.exec_core.specs.Paths.{BodySkips}
 use Rattle.exec_core.specs.Run.{IsTarget}
-use Rattle.exec_core.proofs.Lists.{each_member, each_from}
-use Rattle.exec_core.proofs.Slots.{none_if}
+use Rattle.list_core.proofs.Lists.{each_member, each_from}
+use Rattle.list_core.proofs.Options.{none_if}
 use Rattle.design_core.specs.declared.design.Instance.{Instance}
 use Rattle.design_core.specs.Design.{Stmt, Assign, Let, If, Block, Variant, Design}
 use Rattle.design_exec.specs.Processes.{process, processes_of, body_of}
 use Rattle.check_core.specs.declared.fault.CheckFault.TheVariants.{Latch}
-use Rattle.check_core.specs.Statements.{statements}
+use Rattle.design_core.specs.Statements.{statements}
 use Rattle.check_core.specs.Faults.{first_of, spot}
 use Rattle.check_core.specs.Names.{named, any_kind}
 use Rattle.check_core.specs.Drivers.{assignments, driven_in}

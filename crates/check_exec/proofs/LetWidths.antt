@@ -3,16 +3,16 @@ use Rattle.std.proofs.Common.{◌≡◌, ℕ, Bool, true, false, ◌||◌, bytes
 use Rattle.std.proofs.lemmas.Bool.{or_left, or_right}
 use Rattle.tree_core.specs.Width.{width_of}
 use Rattle.exec_core.specs.Block.{Name}
-use Rattle.exec_core.specs.Lists.{EachOf}
+use Rattle.list_core.specs.Lists.{EachOf}
 use Rattle.design_core.specs.Design.{Expr, Stmt, Assign, Let, If, Body, Done, Then, Else, NoElse, Otherwise}
 use Rattle.design_exec.specs.Processes as processes
 use Rattle.design_exec.specs.Processes.{tree_of, put, stmt_widths, body_widths, else_widths}
-use Rattle.check_core.specs.Known.{Known, with}
-use Rattle.check_core.specs.Statements.{inside, statements, else_statements}
+use Rattle.names.specs.Known.{Known, with}
+use Rattle.design_core.specs.Statements.{inside, statements, else_statements}
 use Rattle.check_core.specs.Names.{Scope, unknown_read, unknown_in, unknown_among, lets_in}
 use Rattle.check_core.specs.Ports.{unknown_port_in}
 use Rattle.check_core.specs.Widths as checked
-use Rattle.check_core.specs.Widths.{Widths, is_sized, bad_stmt, needed, width_in, stmt_mismatch, mismatch_among, put_let, put_width, widths_after}
+use Rattle.check_core.specs.Widths.{Widths, is_sized, bad_stmt, needed, width_in, stmt_mismatch, mismatch_among, put_let, put_width}
 use Rattle.check_exec.proofs.Facts.{eq_turned, same_name, name_same, earlier_left, earlier_right}
 use Rattle.check_exec.proofs.Names.{Differ}
 use Rattle.check_exec.proofs.Widths.{is_known, sized, matches, needed_there}

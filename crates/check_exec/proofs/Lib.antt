@@ -20,4 +20,6 @@ pub mod Parents
 pub mod Connections
 pub mod Sources
 pub mod Ready
+pub mod Settling
 pub mod Sampled
+pub mod Orders

@@ -5,10 +5,11 @@ use Rattle.std.specs.List.{enumerate_from, flat_map}
 use Rattle.tree_core.specs.Tree.{Leaf}
 use Rattle.tree_core.specs.Width.{width_of}
 use Rattle.exec_core.specs.Block.{Name}
-use Rattle.exec_core.specs.Lists.{EachOf, IsIn}
+use Rattle.list_core.specs.Lists.{EachOf, IsIn}
 use Rattle.exec_core.specs.Design.{place, moved}
 use Rattle.exec_core.specs.Accepted.{LinkFits}
-use Rattle.exec_core.proofs.Lists.{each_member, in_left, in_right}
+use Rattle.list_core.proofs.Lists.{each_member}
+use Rattle.list_core.proofs.Listing.{flat_in, flat_from}
 use Rattle.exec_core.proofs.Moving.{Fits, replace_fits}
 use Rattle.design_core.specs.declared.design.Instance.{Instance}
 use Rattle.design_core.specs.declared.variant.Signal.{Signal}
@@ -18,16 +19,17 @@ use Rattle.design_core.specs.Design.{Conn, Child, Variant, Design}
 use Rattle.design_core.specs.WellFormed as formed
 use Rattle.design_core.specs.WellFormed.{IsDesign, IsVariant, child_outs, if_child_out, outputs_of, output_of}
 use Rattle.design_exec.specs.Processes as processes
-use Rattle.design_exec.specs.Processes.{Link, tree_of, is_signal_of, signals_at, signal_width, child_at, none_or, conn_link, child_links, output_link, links_at, processes_of}
-use Rattle.check_core.specs.Known.{none}
+use Rattle.design_exec.specs.Processes.{Link, tree_of, is_signal_of, instance_signals, signal_width, none_or, conn_link, child_links, output_link, links_at, processes_of}
+use Rattle.names.specs.Known.{none}
 use Rattle.check_core.specs.Faults.{first_of}
 use Rattle.check_core.specs.Names.{scope_of, named, any_kind, is_input, is_child_output, unknown_read, unknown_in_conn, unknown_in_child}
 use Rattle.check_core.specs.Ports as ports
 use Rattle.check_core.specs.Ports.{unknown_output, unknown_port_at, unknown_port_in_child}
 use Rattle.check_core.specs.Widths as checked
-use Rattle.check_core.specs.Widths.{bits, is_sized, bad_signal, bad_conn, bad_in_child, signal_mismatch, conn_mismatch, mismatch_in_child, widths_of, needed, width_in}
+use Rattle.check_core.specs.Widths.{is_sized, bad_signal, bad_conn, bad_in_child, signal_mismatch, conn_mismatch, mismatch_in_child, widths_of, needed, width_in}
+use Rattle.design_core.specs.Widths.{bits}
 use Rattle.check_exec.specs.Premises.{IsSound, LinksFit}
-use Rattle.check_exec.proofs.Facts.{each_at, each_joined, each_map, each_flat, from_zero, in_at, in_parts, none_found, earlier_left, earlier_right}
+use Rattle.check_exec.proofs.Facts.{each_at, each_joined, each_map, each_flat, from_zero, in_at, none_found, earlier_left, earlier_right}
 use Rattle.check_exec.proofs.Instances.{IsClean, Stands, clean, signals_are, each_instance}
 use Rattle.check_exec.proofs.Names.{signals_named, signals_differ}
 use Rattle.check_exec.proofs.Widths.{is_known, sized, matches, needed_there}
@@ -47,9 +49,9 @@ pub record IsConn (variants : List Variant) (v : Variant) (signals : List Signal
   pub sized : is_sized x.value ≡ true
   pub width : width_in (widths_of any_kind v.signals) x.value ≡ Ok (checked.width_of (widths_of is_input signals) x.port)
 
-pub conn_passes : (variants : List Variant) (v : Variant) → IsClean variants v → (c : Child) → IsIn c v.children → (x : Conn) → IsIn x c.conns → IsConn variants v (ports.signals_at variants c.variant) x
+pub conn_passes : (variants : List Variant) (v : Variant) → IsClean variants v → (c : Child) → IsIn c v.children → (x : Conn) → IsIn x c.conns → IsConn variants v (formed.signals_at c.variant variants) x
 conn_passes variants v clean c at x here =
-    let signals = ports.signals_at variants c.variant in
+    let signals = formed.signals_at c.variant variants in
     let outs = named is_child_output v.signals in
     let W = widths_of any_kind v.signals in
     let port =
@@ -83,10 +85,10 @@ conn_passes variants v clean c at x here =
 
 -- an expression over the signals of an instance
 signals_agree : (d : Design) (i : ℕ) (r : Instance) (v : Variant) → Stands d i r v → IsClean d.variants v
-    → Agree (scope_of v) none (named is_child_output v.signals) (widths_of any_kind v.signals) (λ y. is_signal_of d (place i y) ≡ true) (λ y. signal_width (signals_at d i) y)
+    → Agree (scope_of v) none (named is_child_output v.signals) (widths_of any_kind v.signals) (λ y. is_signal_of d (place i y) ≡ true) (λ y. signal_width (instance_signals d i) y)
 signals_agree d i r v s c = record { names = λ y e. both y e; ports = λ y e. both y (named_any is_child_output v.signals y e) }
   where
-    both : (y : Name) → named any_kind v.signals y ≡ true → (is_signal_of d (place i y) ≡ true) × (widths_of any_kind v.signals y ≡ Some (signal_width (signals_at d i) y))
+    both : (y : Name) → named any_kind v.signals y ≡ true → (is_signal_of d (place i y) ≡ true) × (widths_of any_kind v.signals y ≡ Some (signal_width (instance_signals d i) y))
     both y e = (signals_named d i r v s y ∙ e, put_known any_kind v.signals y (signals_differ v c.apart) e ∙ ap (λ l. Some (signal_width l y)) (sym (signals_are d i r v s)))
 
 conn_fits : (d : Design) → IsSound d → (i : ℕ) (r : Instance) (v : Variant) → Stands d i r v → (k : ℕ) (c : Child) → slice_get v.children k ≡ Some c → (h : HasInstance d i k c) → (x : Conn) → IsIn x c.conns
@@ -98,10 +100,10 @@ conn_fits d sound i r v s k c at h x here =
     let its = clean d sound.accepted j h.instance w h.stands in
     let conn : IsConn d.variants v w.signals x = subst (λ signals. IsConn d.variants v signals x) h.signals (conn_passes d.variants v fine c (in_at v.children k c at) x here) in
     let tree =
-    fits_expr (scope_of v) none (named is_child_output v.signals) (widths_of any_kind v.signals) (λ y. is_signal_of d (place i y) ≡ true) (λ y. signal_width (signals_at d i) y) x.line x.line
+    fits_expr (scope_of v) none (named is_child_output v.signals) (widths_of any_kind v.signals) (λ y. is_signal_of d (place i y) ≡ true) (λ y. signal_width (instance_signals d i) y) x.line x.line
     (signals_agree d i r v s fine) x.value (checked.width_of (widths_of is_input w.signals) x.port) conn.reads conn.outputs conn.sized conn.width in
-    let stands : Fits (λ p. is_signal_of d p ≡ true) (λ p. signal_width (signals_at d p.instance) p.name) (width_of (λ y. signal_width (signals_at d i) y) (tree_of x.value)) (moved i (tree_of x.value)) =
-    replace_fits (λ y. is_signal_of d (place i y) ≡ true) (λ y. signal_width (signals_at d i) y) (λ p. is_signal_of d p ≡ true) (λ p. signal_width (signals_at d p.instance) p.name)
+    let stands : Fits (λ p. is_signal_of d p ≡ true) (λ p. signal_width (instance_signals d p.instance) p.name) (width_of (λ y. signal_width (instance_signals d i) y) (tree_of x.value)) (moved i (tree_of x.value)) =
+    replace_fits (λ y. is_signal_of d (place i y) ≡ true) (λ y. signal_width (instance_signals d i) y) (λ p. is_signal_of d p ≡ true) (λ p. signal_width (instance_signals d p.instance) p.name)
     (λ y. Leaf (place i y)) (λ y g. (g, refl)) (tree_of x.value) tree.0 in
     record {
       target = signals_named d j h.instance w h.stands x.port ∙ named_any is_input w.signals x.port conn.port;
@@ -122,15 +124,6 @@ pub record IsOutput (d : Design) (v : Variant) (s : Signal) (k : ℕ) (q : Name)
   pub named : q ≡ signal.name
   pub same : s.width ≡ signal.width
   pub output : signal.kind ≡ kind.Output
-
-flat_in : {A B : Type 0} (f : A → List B) (list : List A) (b : B) → IsIn b (flat_map f list) → (a : A) × (IsIn a list × IsIn b (f a))
-flat_in f [] b i = absurd i
-flat_in f (a ∷ list) b i = elim (in_parts b (f a) (flat_map f list) i) [ inl j ↦ (a, (inl refl, j)) | inr j ↦ let h = flat_in f list b j in (h.0, (inr h.1.0, h.1.1)) ]
-
-in_flat : {A B : Type 0} (f : A → List B) (list : List A) (a : A) (b : B) → IsIn a list → IsIn b (f a) → IsIn b (flat_map f list)
-in_flat f [] a b i j = absurd i
-in_flat f (c ∷ list) a b (inl e) j = in_left b (f c) (flat_map f list) (subst (λ z. IsIn b (f z)) e j)
-in_flat f (c ∷ list) a b (inr i) j = in_right b (f c) (flat_map f list) (in_flat f list a b i j)
 
 -- what an output of a child is as a signal
 record Same (s : Signal) (n : ℕ) (c : Child) (t : Signal) : Type 0 where
@@ -169,9 +162,9 @@ numbers_at list p i = each_member (λ q. slice_get list q.0 ≡ Some q.1) (enume
 pub output_is : (d : Design) → IsDesign d → (i : ℕ) (r : Instance) (v : Variant) → Stands d i r v → (s : Signal) → IsIn s v.signals → (k : ℕ) (q : Name) → s.kind ≡ kind.ChildOut k q → IsOutput d v s k q
 output_is d kept i r v stands s at k q e =
     let is : IsVariant d.variants v = each_at (IsVariant d.variants) d.variants r.variant v stands.variant kept.each in
-    let own : IsIn s (child_outs v.signals) = in_flat (λ t. if_child_out t t.kind) v.signals s s at (subst (λ z. IsIn s (if_child_out s z)) (sym e) (inl refl)) in
-    let child = flat_in (outputs_of d.variants) (enumerate_from 0 v.children) s (subst (IsIn s) is.outputs own) in
-    let signal = flat_in (λ t. output_of child.0.0 child.0.1 t t.kind) (formed.signals_at child.0.1.variant d.variants) s child.1.1 in
+    let own : IsIn s (child_outs v.signals) = flat_in (λ t. if_child_out t t.kind) v.signals s s at (subst (λ z. IsIn s (if_child_out s z)) (sym e) (inl refl)) in
+    let child = flat_from (outputs_of d.variants) (enumerate_from 0 v.children) s (subst (IsIn s) is.outputs own) in
+    let signal = flat_from (λ t. output_of child.0.0 child.0.1 t t.kind) (formed.signals_at child.0.1.variant d.variants) s child.1.1 in
     let one = one_output child.0.0 child.0.1 signal.0 signal.0.kind refl s signal.1.1 in
     let same = same_child k child.0.0 q signal.0.name (sym e ∙ one.is) in
     record {
@@ -199,7 +192,7 @@ output_fits d sound i r v stands s at (kind.ChildOut k q) e =
       record {
         target = mine.signal;
         expression = subst (λ y. is_signal_of d (place h.number y) ≡ true) (sym out.named) its.signal;
-        width = ap (λ y. signal_width (signals_at d h.number) y) out.named ∙ its.width ∙ ap processes.bits (sym out.same) ∙ sym mine.width;
+        width = ap (λ y. signal_width (instance_signals d h.number) y) out.named ∙ its.width ∙ ap bits (sym out.same) ∙ sym mine.width;
       },
       tt,
     )

@@ -3,17 +3,17 @@ use Rattle.std.proofs.Common.{◌≡◌, ℕ, Bool, true, false, true≢false, �
 use Rattle.std.specs.List.{list_any}
 use Rattle.std.proofs.lemmas.Bool.{or_parts}
 use Rattle.exec_core.specs.Block.{Name}
-use Rattle.exec_core.specs.Lists.{EachOf, IsIn}
+use Rattle.list_core.specs.Lists.{EachOf, IsIn}
 use Rattle.exec_core.specs.Design.{place}
-use Rattle.exec_core.proofs.Lists.{each_member}
-use Rattle.exec_core.proofs.Slots.{none_if}
+use Rattle.list_core.proofs.Lists.{each_member}
+use Rattle.list_core.proofs.Options.{none_if}
 use Rattle.design_core.specs.declared.design.Instance.{Instance}
 use Rattle.design_core.specs.declared.variant.Signal.{Signal}
 use Rattle.design_core.specs.Design.{Stmt, Assign, Let, If, Block, Variant, Design}
 use Rattle.design_exec.specs.Processes.{is_signal_of}
 use Rattle.check_core.specs.declared.fault.CheckFault.TheVariants.{DuplicateName}
-use Rattle.check_core.specs.Known.{Known, none, with}
-use Rattle.check_core.specs.Statements.{statements}
+use Rattle.names.specs.Known.{Known, none, with}
+use Rattle.design_core.specs.Statements.{statements}
 use Rattle.check_core.specs.Faults.{spot}
 use Rattle.check_core.specs.Names.{named, any_kind, child_named, taken_twice, signal_thing, child_thing, things, lets_in, duplicate_in_block, taken_in, duplicate_name}
 use Rattle.check_exec.proofs.Facts.{name_same, eq_turned, earlier_left, earlier_right, none_found}

@@ -7,10 +7,11 @@ use Rattle.exec_core.specs.Block.{Name}
 use Rattle.design_core.specs.declared.design.Instance.{Instance}
 use Rattle.design_core.specs.Design.{Child, Variant, Design}
 use Rattle.design_core.specs.WellFormed as formed
-use Rattle.design_core.specs.WellFormed.{IsDesign, AreChildren, HasParent, standing}
+use Rattle.design_core.specs.WellFormed.{IsDesign, AreChildren, standing}
 use Rattle.design_exec.specs.Processes.{stands_in, kept_below, numbers_below, children_in, child_at}
 use Rattle.check_exec.proofs.Instances.{Stands}
-use Rattle.check_exec.proofs.Children.{some_at, children_are}
+use Rattle.check_exec.proofs.Children.{children_are}
+use Rattle.list_core.proofs.Listing.{some_at}
 
 -- ---- numbers of the instances that stand in one
 

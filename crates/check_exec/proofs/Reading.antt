@@ -2,17 +2,18 @@
 use Rattle.std.proofs.Common.{◌≡◌, ℕ, Bool, true, true≢false, ◌&&◌, List, [], ◌∷◌, ◌++◌, None, sym, ◌∙◌}
 use Rattle.std.proofs.lemmas.Bool.{and_from}
 use Rattle.exec_core.specs.Block.{Name, Key, Now}
-use Rattle.exec_core.specs.Lists.{EachOf, IsIn}
+use Rattle.list_core.specs.Lists.{EachOf, IsIn}
 use Rattle.exec_core.specs.Paths.{Skips, Reads, BodyReads, ReadsAssigned, own_key}
-use Rattle.exec_core.proofs.Lists.{each_member}
-use Rattle.exec_core.proofs.Slots.{none_if}
+use Rattle.list_core.proofs.Lists.{each_member}
+use Rattle.list_core.proofs.Options.{none_if}
 use Rattle.design_core.specs.Design.{Expr, Read, Out, Value, Unary, Binary, Mux, Zext, Slice, Stmt, Assign, Let, If, Body, Done, Then, Else, NoElse, Otherwise, Block, Variant}
 use Rattle.design_exec.specs.Processes.{tree_of, stmt_of, body_of, else_of}
 use Rattle.check_core.specs.declared.fault.CheckFault.TheVariants.{ReadBeforeWrite}
-use Rattle.check_core.specs.Known.{Known}
-use Rattle.check_core.specs.Statements.{inside, statements, else_statements}
+use Rattle.names.specs.Known.{Known}
+use Rattle.design_core.specs.Statements.{inside, statements, else_statements}
 use Rattle.check_core.specs.Faults.{first_of, spot}
-use Rattle.check_core.specs.Names.{named, is_child_output, below}
+use Rattle.check_core.specs.Names.{named, is_child_output}
+use Rattle.design_core.specs.Dotted.{below}
 use Rattle.check_core.specs.Ports.{unknown_output, unknown_port_in, unknown_port_in_child, unknown_port_in_block}
 use Rattle.check_core.specs.Paths as paths
 use Rattle.check_core.specs.Paths.{skips, early_read, early, early_in, early_in_else, early_in_block}

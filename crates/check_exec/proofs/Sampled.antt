@@ -7,7 +7,7 @@ use Rattle.std.proofs.lemmas.Bool.{or_parts}
 use Rattle.tree_core.proofs.Same.{both_true}
 use Rattle.gen_token.specs.Spelling.{is_name, IsName}
 use Rattle.gen_token.proofs.ReadName.{name_from_test}
-use Rattle.exec_core.specs.Lists.{IsNotIn, AreApart}
+use Rattle.list_core.specs.Lists.{IsNotIn, AreApart}
 use Rattle.design_core.specs.declared.design.Instance.{Instance}
 use Rattle.design_core.specs.WellFormed.{tree, HasParent, AreChildren, children_at, standing, IsMember, IsVariant, IsDesign}
 use Rattle.design_exec.specs.Sample.{top, child, elaborated}

@@ -2,17 +2,18 @@
 use Rattle.std.proofs.Common.{◌≡◌, ℕ, Bool, true, false, true≢false, bytes_eq, List, [], ◌∷◌, map, Some, inl, inr, refl, sym, ap, ◌∙◌, subst, if◌then◌else◌}
 use Rattle.std.proofs.lemmas.Bool.{or_left, or_right, false_from_ne_true}
 use Rattle.exec_core.specs.Block.{Name}
-use Rattle.exec_core.specs.Lists.{IsIn}
+use Rattle.list_core.specs.Lists.{IsIn}
 use Rattle.design_core.specs.declared.variant.Signal.{Signal}
 use Rattle.design_core.specs.declared.variant.Kind.{Kind}
 use Rattle.design_exec.specs.Processes.{signal_width}
-use Rattle.check_core.specs.Known.{Known, none, with}
+use Rattle.names.specs.Known.{Known, none, with}
 use Rattle.check_core.specs.Names.{named, signal_thing}
-use Rattle.check_core.specs.Widths.{Widths, bits, no_width, put_width, put_signal, put_signals, widths_of}
+use Rattle.check_core.specs.Widths.{Widths, no_width, put_width, put_signal, put_signals, widths_of}
+use Rattle.design_core.specs.Widths.{bits}
 use Rattle.check_exec.proofs.Facts.{same_name, name_same}
 use Rattle.check_exec.proofs.Names.{Differ}
 use Rattle.check_exec.proofs.Targets.{named_in}
-use Rattle.check_exec.proofs.Widths.{same_bits, width_is}
+use Rattle.check_exec.proofs.Widths.{width_is}
 
 -- a taken name differs from one that is not taken
 pub not_taken : (taken : Known) (x y : Name) → taken x ≡ true → taken y ≡ false → bytes_eq x y ≡ false
@@ -46,4 +47,4 @@ pub put_known : (kinds : Kind → Bool) (signals : List Signal) (x : Name) → D
 put_known kinds signals x d e =
     let found = named_in kinds signals x e in
     subst (λ y. widths_of kinds signals y ≡ Some (signal_width signals y)) (sym found.1.1.1)
-    (put_is kinds none signals no_width found.0 d found.1.0 found.1.1.0 ∙ ap (λ w. Some w) (sym (width_is none signals d found.0 found.1.0 ∙ same_bits found.0.width)))
+    (put_is kinds none signals no_width found.0 d found.1.0 found.1.1.0 ∙ ap (λ w. Some w) (sym (width_is none signals d found.0 found.1.0)))

@@ -1,7 +1,7 @@
 -- The slots of an instance differ.
 use Rattle.std.proofs.Common.{List, [], ◌∷◌, length, unwrap_or}
 use Rattle.std.specs.Prelude.{slice_get}
-use Rattle.exec_core.specs.Lists.{EachOf}
+use Rattle.list_core.specs.Lists.{EachOf}
 use Rattle.design_core.specs.Design.{Variant}
 use Rattle.design_core.specs.Slots.{variant_heads, slots_of, AreNumbered}
 use Rattle.design_core.specs.WellFormed.{IsVariant}

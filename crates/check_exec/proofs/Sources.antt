@@ -5,11 +5,11 @@ use Rattle.std.specs.List.{flat_map, list_any}
 use Rattle.std.proofs.lemmas.Bool.{and_left, and_right, false_from_ne_true}
 use Rattle.tree_core.specs.Tree.{Leaf, Input, Register}
 use Rattle.exec_core.specs.Block.{Name, own}
-use Rattle.exec_core.specs.Lists.{IsIn}
+use Rattle.list_core.specs.Lists.{IsIn}
 use Rattle.exec_core.specs.Whole.{Place}
 use Rattle.exec_core.specs.Design.{place, same_place, links_to, assigns_to, gives_to}
 use Rattle.exec_core.specs.Accepted.{source_count}
-use Rattle.exec_core.proofs.Lists.{each_from}
+use Rattle.list_core.proofs.Lists.{each_from}
 use Rattle.exec_core.proofs.Sources.{same_place-refl}
 use Rattle.design_core.specs.declared.design.Instance.{Instance}
 use Rattle.design_core.specs.declared.variant.Signal.{Signal}
@@ -17,8 +17,8 @@ use Rattle.design_core.specs.declared.variant.Kind.{Kind}
 use Rattle.design_core.specs.declared.variant.Kind.TheVariants as kind
 use Rattle.design_core.specs.Design.{Block, Variant, Design}
 use Rattle.design_exec.specs.Processes as processes
-use Rattle.design_exec.specs.Processes.{Numbered, Link, Given, value_of, is_signal_of, signals_in, signals_at, blocks_in, process, processes_at, child_at, none_or, output_link, given_by, givens_at, instances_of, processes_of}
-use Rattle.check_core.specs.Known.{none}
+use Rattle.design_exec.specs.Processes.{Numbered, Link, value_of, is_signal_of, signals_in, blocks_in, process, processes_at, child_at, none_or, output_link, given_by, givens_at, instances_of, processes_of}
+use Rattle.names.specs.Known.{none}
 use Rattle.check_core.specs.Names.{is_input, is_driven}
 use Rattle.check_exec.specs.Premises.{IsSound, OneSource}
 use Rattle.check_exec.proofs.Facts.{any_in, same_name}
@@ -30,6 +30,7 @@ use Rattle.check_exec.proofs.Counting.{count_take, count_none, count_same, count
 use Rattle.check_exec.proofs.Drives.{one_owner, no_owner}
 use Rattle.check_exec.proofs.Parents.{IsBelow, is_below}
 use Rattle.check_exec.proofs.Connections.{conns_at, no_input, no_top, one_input}
+use Rattle.design_core.specs.Widths.{bits}
 
 -- ---- other places
 
@@ -89,15 +90,15 @@ module _ (d : Design) (sound : IsSound d) (i : ℕ) (r : Instance) (v : Variant)
       ∙ signal_only (links_to Here) (λ (t : Signal). output_link d i t.name t.kind) none v.signals s (signals_differ v fine.apart) at
       (λ t inside n. out_none d Here i t.name t.kind (other_name i i t.name s.name n))
 
-  givens_are : count_by (gives_to Here) (flat_map (givens_at d) (instances_of d)) ≡ count_by (gives_to Here) (given_by (i, r) s.name (processes.bits s.width) s.kind)
+  givens_are : count_by (gives_to Here) (flat_map (givens_at d) (instances_of d)) ≡ count_by (gives_to Here) (given_by (i, r) s.name (bits s.width) s.kind)
   givens_are =
       only_at (gives_to Here) (givens_at d) d.instances i r stands.instance (λ j q there n.
-      flat_none (gives_to Here) (λ (t : Signal). given_by (j, q) t.name (processes.bits t.width) t.kind) (signals_in d q.variant)
-      (each_from (λ t. count_by (gives_to Here) (given_by (j, q) t.name (processes.bits t.width) t.kind) ≡ 0) (signals_in d q.variant)
-      (λ t inside. given_none Here (j, q) t.name (processes.bits t.width) t.kind (other_instance j i t.name s.name n))))
-      ∙ ap (λ l. count_by (gives_to Here) (flat_map (λ (t : Signal). given_by (i, r) t.name (processes.bits t.width) t.kind) l)) signals_here
-      ∙ signal_only (gives_to Here) (λ (t : Signal). given_by (i, r) t.name (processes.bits t.width) t.kind) none v.signals s (signals_differ v fine.apart) at
-      (λ t inside n. given_none Here (i, r) t.name (processes.bits t.width) t.kind (other_name i i t.name s.name n))
+      flat_none (gives_to Here) (λ (t : Signal). given_by (j, q) t.name (bits t.width) t.kind) (signals_in d q.variant)
+      (each_from (λ t. count_by (gives_to Here) (given_by (j, q) t.name (bits t.width) t.kind) ≡ 0) (signals_in d q.variant)
+      (λ t inside. given_none Here (j, q) t.name (bits t.width) t.kind (other_instance j i t.name s.name n))))
+      ∙ ap (λ l. count_by (gives_to Here) (flat_map (λ (t : Signal). given_by (i, r) t.name (bits t.width) t.kind) l)) signals_here
+      ∙ signal_only (gives_to Here) (λ (t : Signal). given_by (i, r) t.name (bits t.width) t.kind) none v.signals s (signals_differ v fine.apart) at
+      (λ t inside n. given_none Here (i, r) t.name (bits t.width) t.kind (other_name i i t.name s.name n))
 
   -- blocks: those of the instance
   abbrev Owner : Block → Bool
@@ -123,7 +124,7 @@ module _ (d : Design) (sound : IsSound d) (i : ℕ) (r : Instance) (v : Variant)
   blocks = count_by Owner v.blocks
 
   abbrev givens : Kind → ℕ
-  givens k = count_by (gives_to Here) (given_by (i, r) s.name (processes.bits s.width) k)
+  givens k = count_by (gives_to Here) (given_by (i, r) s.name (bits s.width) k)
 
   all_sources : source_count (processes_of d) Here ≡ conns + outs s.kind + (blocks + givens s.kind)
   all_sources =
@@ -166,8 +167,8 @@ module _ (d : Design) (sound : IsSound d) (i : ℕ) (r : Instance) (v : Variant)
   top_once e top =
       let none_linked : conns ≡ 0 = subst (λ n. count_by (links_to (place n s.name)) (flat_map (conns_at d) (instances_of d)) ≡ 0) (sym top) (no_top d sound s.name) in
       let given : givens kind.Input ≡ 1 =
-      ap (λ b. count_by (gives_to Here) (if b then (Here, Input s.name (processes.bits s.width)) ∷ [] else [])) (eq-eqb i 0 top)
-      ∙ count_take (gives_to Here) (Here, Input s.name (processes.bits s.width)) [] itself in
+      ap (λ b. count_by (gives_to Here) (if b then (Here, Input s.name (bits s.width)) ∷ [] else [])) (eq-eqb i 0 top)
+      ∙ count_take (gives_to Here) (Here, Input s.name (bits s.width)) [] itself in
       one_of kind.Input e (omega (arith, none_linked, no_block kind.Input e refl, given))
 
   input_once : s.kind ≡ kind.Input → (m : ℕ) → i ≡ m + 1 → source_count (processes_of d) Here ≡ 1
@@ -175,7 +176,7 @@ module _ (d : Design) (sound : IsSound d) (i : ℕ) (r : Instance) (v : Variant)
       let parent : IsBelow d i r = subst (λ n. IsBelow d n r) (sym below) (is_below d sound.kept m r (subst (λ n. slice_get d.instances n ≡ Some r) below stands.instance)) in
       let linked : conns ≡ 1 = one_input d sound i r v stands parent s at (ap is_input e) in
       let given : givens kind.Input ≡ 0 =
-      ap (λ b. count_by (gives_to Here) (if b then (Here, Input s.name (processes.bits s.width)) ∷ [] else [])) (ne_eqb i 0 (λ top. absurd (omega (arith, top, below)))) in
+      ap (λ b. count_by (gives_to Here) (if b then (Here, Input s.name (bits s.width)) ∷ [] else [])) (ne_eqb i 0 (λ top. absurd (omega (arith, top, below)))) in
       one_of kind.Input e (omega (arith, linked, no_block kind.Input e refl, given))
 
   zero_or : (n : ℕ) → (n ≡ 0) ⊎ ((m : ℕ) × (n ≡ m + 1))

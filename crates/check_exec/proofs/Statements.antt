@@ -2,14 +2,14 @@
 use Rattle.std.proofs.Common.{◌≡◌, Bool, true, false, true≢false, bytes_eq, List, ◌∷◌, ◌++◌, inl, inr, refl, sym, ap, ◌∙◌, subst}
 use Rattle.std.proofs.lemmas.Bool.{or_cases, or_left, or_right, and_from, not_from_false}
 use Rattle.exec_core.specs.Block.{Name, Now, same_key, assigns, body_assigns}
-use Rattle.exec_core.specs.Lists.{EachOf, IsIn}
+use Rattle.list_core.specs.Lists.{EachOf, IsIn}
 use Rattle.exec_core.specs.Paths.{Skips, BodySkips}
-use Rattle.exec_core.proofs.Lists.{in_left, in_right}
+use Rattle.list_core.proofs.Lists.{in_left, in_right, in_cases}
 use Rattle.design_core.specs.Design.{Stmt, Assign, Let, If, Body, Done, Then, Else, NoElse, Otherwise}
 use Rattle.design_exec.specs.Processes.{target, stmt_of, body_of, else_of}
-use Rattle.check_core.specs.Statements.{inside, statements, else_statements}
+use Rattle.design_core.specs.Statements.{inside, statements, else_statements}
 use Rattle.check_core.specs.Paths.{skips, body_skips, else_skips}
-use Rattle.check_exec.proofs.Facts.{eq_turned, in_parts, same_name, name_same, each_left, each_right}
+use Rattle.check_exec.proofs.Facts.{eq_turned, same_name, name_same, each_left, each_right}
 
 -- ---- what a statement sets, without those inside it
 
@@ -69,7 +69,7 @@ mutual
   sets_stmt clocked x t h (Assign slot line gens y e) (inr i) = absurd i
   sets_stmt clocked x t h (Let slot line gens y e) (inr i) = absurd i
   sets_stmt clocked x t h (If slot line gens c first second) (inr i) =
-      elim (in_parts t (statements first) (else_statements second) i) [
+      elim (in_cases t (statements first) (else_statements second) i) [
         | inl j ↦ or_left (body_assigns (body_of clocked first) (Now x)) (body_assigns (else_of clocked second) (Now x)) (sets clocked x t h first j)
         | inr j ↦ or_right (body_assigns (body_of clocked first) (Now x)) (body_assigns (else_of clocked second) (Now x)) (sets_else clocked x t h second j)
       ]
@@ -77,7 +77,7 @@ mutual
   pub sets : (clocked : Bool) (x : Name) (t : Stmt) → Sets clocked x t → (b : Body) → IsIn t (statements b) → body_assigns (body_of clocked b) (Now x) ≡ true
   sets clocked x t h Done i = absurd i
   sets clocked x t h (Then s rest) i =
-      elim (in_parts t (s ∷ inside s) (statements rest) i) [
+      elim (in_cases t (s ∷ inside s) (statements rest) i) [
         | inl j ↦ or_left (assigns (stmt_of clocked s) (Now x)) (body_assigns (body_of clocked rest) (Now x)) (sets_stmt clocked x t h s j)
         | inr j ↦ or_right (assigns (stmt_of clocked s) (Now x)) (body_assigns (body_of clocked rest) (Now x)) (sets clocked x t h rest j)
       ]

@@ -4,22 +4,22 @@ use Rattle.std.specs.List.{list_any}
 use Rattle.std.proofs.lemmas.Bool.{or_left, or_right, and_from, not_from_false, false_from_ne_true}
 use Rattle.tree_core.proofs.Same.{both_true}
 use Rattle.exec_core.specs.Block as blocks
-use Rattle.exec_core.specs.Block.{Name, Now, assigns, body_assigns}
-use Rattle.exec_core.specs.Lists.{EachOf, IsIn}
-use Rattle.exec_core.proofs.Lists.{each_member, each_from, in_left, in_right}
+use Rattle.exec_core.specs.Block.{Name}
+use Rattle.list_core.specs.Lists.{EachOf, IsIn}
+use Rattle.list_core.proofs.Lists.{each_member, each_from, in_left, in_right, in_cases}
 use Rattle.design_core.specs.declared.variant.Signal.{Signal}
 use Rattle.design_core.specs.declared.variant.Kind.{Kind}
 use Rattle.design_core.specs.declared.variant.Kind.TheVariants as kind
 use Rattle.design_core.specs.Design.{Stmt, Assign, Let, If, Body, Done, Then, Else, NoElse, Otherwise, Block, Variant}
 use Rattle.design_core.specs.Slots.{let_of, lets_of, else_lets}
 use Rattle.design_exec.specs.Processes.{body_of}
-use Rattle.check_core.specs.Known.{Known, none, with, has}
-use Rattle.check_core.specs.Statements.{inside, statements, else_statements}
+use Rattle.names.specs.Known.{Known, none, with, has}
+use Rattle.design_core.specs.Statements.{inside, statements, else_statements}
 use Rattle.check_core.specs.Faults.{first_of}
 use Rattle.check_core.specs.Names.{Scope, scope_of, named, any_kind, is_driven, is_register, is_child_output, targets, signal_thing, unknown_in, unknown_among, unknown_read, unknown_in_block, unknown_in_child}
 use Rattle.check_core.specs.Drivers.{Drive, driven_in}
 use Rattle.check_core.specs.Paths as paths
-use Rattle.check_exec.proofs.Facts.{name_same, same_name, any_in, in_any, in_parts, none_found, earlier_left, earlier_right}
+use Rattle.check_exec.proofs.Facts.{name_same, same_name, any_in, in_any, none_found, earlier_left, earlier_right}
 use Rattle.check_exec.proofs.Instances.{IsClean}
 use Rattle.check_exec.proofs.Names.{Differ, differs_behind, signals_differ, let_no_signal}
 use Rattle.check_exec.proofs.Widths.{is_known}
@@ -35,7 +35,7 @@ mutual
   let_listed_stmt slot line gens x e (Assign n l g y f) (inr i) = absurd i
   let_listed_stmt slot line gens x e (Let n l g y f) (inr i) = absurd i
   let_listed_stmt slot line gens x e (If n l g c first second) (inr i) =
-      elim (in_parts (Let slot line gens x e) (statements first) (else_statements second) i) [
+      elim (in_cases (Let slot line gens x e) (statements first) (else_statements second) i) [
         | inl j ↦ in_left x (lets_of first) (else_lets second) (let_listed slot line gens x e first j)
         | inr j ↦ in_right x (lets_of first) (else_lets second) (let_listed_else slot line gens x e second j)
       ]
@@ -43,7 +43,7 @@ mutual
   pub let_listed : (slot line : ℕ) (gens : _) (x : Name) (e : _) (b : Body) → IsIn (Let slot line gens x e) (statements b) → IsIn x (lets_of b)
   let_listed slot line gens x e Done i = absurd i
   let_listed slot line gens x e (Then s rest) i =
-      elim (in_parts (Let slot line gens x e) (s ∷ inside s) (statements rest) i) [
+      elim (in_cases (Let slot line gens x e) (s ∷ inside s) (statements rest) i) [
         | inl j ↦ in_left x (let_of s) (lets_of rest) (let_listed_stmt slot line gens x e s j)
         | inr j ↦ in_right x (let_of s) (lets_of rest) (let_listed slot line gens x e rest j)
       ]

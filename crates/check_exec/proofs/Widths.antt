@@ -5,22 +5,19 @@ use Rattle.std.proofs.lemmas.Option.{none-some}
 use Rattle.bv_core.specs.Value.{IsBits}
 use Rattle.tree_core.proofs.Same.{both_true}
 use Rattle.exec_core.specs.Block.{Name}
-use Rattle.exec_core.specs.Lists.{IsIn}
+use Rattle.list_core.specs.Lists.{IsIn}
 use Rattle.design_core.specs.declared.expr.Literal.{Literal}
 use Rattle.design_core.specs.declared.variant.Signal.{Signal}
 use Rattle.design_exec.specs.Processes as processes
 use Rattle.design_exec.specs.Processes.{signal_width, value_of}
 use Rattle.check_core.specs.declared.fault.CheckFault.{CheckFault}
 use Rattle.check_core.specs.declared.fault.Clash.{Clash}
-use Rattle.check_core.specs.Known.{Known, with}
+use Rattle.names.specs.Known.{Known, with}
 use Rattle.check_core.specs.Names.{signal_thing, unless_known}
-use Rattle.check_core.specs.Widths.{bits, is_width, is_literal, unless_sized, mismatch, needed}
+use Rattle.check_core.specs.Widths.{is_width, is_literal, unless_sized, mismatch, needed}
+use Rattle.design_core.specs.Widths.{bits}
 use Rattle.check_exec.proofs.Facts.{name_same, eq_turned}
 use Rattle.check_exec.proofs.Names.{Differ, other_behind}
-
-pub same_bits : (n : ℤ) → processes.bits n ≡ bits n
-same_bits (pos n) = refl
-same_bits (negsuc n) = refl
 
 pub width_from : (n : ℤ) → is_width n ≡ true → (1 ≤ bits n) × (bits n ≤ 128)
 width_from (pos n) e = let both = both_true _ _ e in (leb-true 1 n both.0, leb-true n 128 both.1)
@@ -32,9 +29,9 @@ literal_bits l e =
     let fits = both_true (not l.negative) (nat_lt l.value (2 ^ bits l.width)) both.1 in
     let width = width_from l.width both.0 in
     record {
-      some = subst (λ w. 1 ≤ w) (sym (same_bits l.width)) width.0;
-      most = subst (λ w. w ≤ 128) (sym (same_bits l.width)) width.1;
-      fits = subst (λ w. l.value < 2 ^ w) (sym (same_bits l.width)) (ltb-true l.value (2 ^ bits l.width) fits.1);
+      some = width.0;
+      most = width.1;
+      fits = (ltb-true l.value (2 ^ bits l.width) fits.1);
     }
 
 -- ---- what no fault means
@@ -73,13 +70,13 @@ needed_there want (Err found) w e = absurd (err_ok found w e)
 -- ---- the width of a signal
 
 -- the only signal of a name has its width
-pub width_is : (taken : Known) (signals : List Signal) → Differ taken (map signal_thing signals) → (s : Signal) → IsIn s signals → signal_width signals s.name ≡ processes.bits s.width
+pub width_is : (taken : Known) (signals : List Signal) → Differ taken (map signal_thing signals) → (s : Signal) → IsIn s signals → signal_width signals s.name ≡ bits s.width
 width_is taken [] d s i = absurd i
 width_is taken (t ∷ signals) d s (inl e) =
-    ap (λ b. unwrap_or (option_map (λ (q : Signal). processes.bits q.width) (if b then Some t else find (λ (q : Signal). bytes_eq q.name s.name) signals)) 0)
+    ap (λ b. unwrap_or (option_map (λ (q : Signal). bits q.width) (if b then Some t else find (λ (q : Signal). bytes_eq q.name s.name) signals)) 0)
     (name_same t.name s.name (sym (ap (λ (q : Signal). q.name) e)))
-    ∙ ap (λ (q : Signal). processes.bits q.width) (sym e)
+    ∙ ap (λ (q : Signal). bits q.width) (sym e)
 width_is taken (t ∷ signals) d s (inr i) =
-    ap (λ b. unwrap_or (option_map (λ (q : Signal). processes.bits q.width) (if b then Some t else find (λ (q : Signal). bytes_eq q.name s.name) signals)) 0)
+    ap (λ b. unwrap_or (option_map (λ (q : Signal). bits q.width) (if b then Some t else find (λ (q : Signal). bytes_eq q.name s.name) signals)) 0)
     (eq_turned t.name s.name ∙ other_behind taken t signals d.1 s i)
     ∙ width_is (with t.name taken) signals d.1 s i

@@ -1,2 +1,4 @@
 pub mod Premises
+pub mod Settling
 pub mod Sample
+pub mod Orders

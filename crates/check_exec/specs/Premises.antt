@@ -2,7 +2,7 @@
 use Rattle.std.specs.Prelude.{◌≡◌, ℕ, true, List, length, None}
 use Rattle.bv_core.specs.Value.{Bits}
 use Rattle.exec_core.specs.Block.{Name, Now}
-use Rattle.exec_core.specs.Lists.{EachOf, AreApart}
+use Rattle.list_core.specs.Lists.{EachOf, AreApart}
 use Rattle.exec_core.specs.Design.{driver_of, signals_of, width_in}
 use Rattle.exec_core.specs.Paths.{BodySkips, Checked}
 use Rattle.exec_core.specs.Whole.{Place, IsOrder}

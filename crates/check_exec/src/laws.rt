@@ -1,5 +1,9 @@
+//! What the checks accept meets the premises of the theorem on runs.
+
+ghost use Rattle.check_exec.specs.Orders.{OrdersAreAccepted, OthersAreGiven};
 ghost use Rattle.check_exec.specs.Sample.{SampleIsSound};
 ghost use Rattle.check_exec.specs.Premises.{AcceptedIsReady, BlocksAreChecked, GivensAreApart, GivensFit, LinksFit, NoLatchIsLeft, OneSource, RunsOfAcceptedAgree, SlotsAreApart};
+ghost use Rattle.check_exec.specs.Settling.{CyclesOfAcceptedSettle};
 
 /// In a well-formed design no two statements of an instance have one slot. Computes nothing.
 pub fn slots_are_apart()
@@ -52,7 +56,20 @@ pub fn runs_of_accepted_agree()
     ensures { RunsOfAcceptedAgree }
 {}
 
+/// In an accepted design with an order of its driven signals, whatever values of their widths the registers and the inputs of the top
+/// have, exactly one environment of the signals has settled. Computes nothing.
+pub fn cycles_of_accepted_settle()
+    ensures { CyclesOfAcceptedSettle }
+{}
+
 /// A design of two instances with a register, worked by hand, is well formed, and no check refuses it. Computes nothing.
 pub fn sample_is_sound()
     ensures { SampleIsSound }
+{}
+
+/// An order of an accepted design's driven signals meets the premises of the theorem on runs; and the signals that are not driven
+/// are the inputs of the top and the registers. Computes nothing.
+pub fn orders_are_accepted()
+    ensures accepted { OrdersAreAccepted }
+    ensures others { OthersAreGiven }
 {}

@@ -5,6 +5,7 @@
 mod laws;
 
 pub use laws::{
-    accepted_is_ready, blocks_are_checked, givens_are_apart, givens_fit, links_fit,
-    no_latch_is_left, one_source_each, runs_of_accepted_agree, sample_is_sound, slots_are_apart,
+    accepted_is_ready, blocks_are_checked, cycles_of_accepted_settle, givens_are_apart, givens_fit,
+    links_fit, no_latch_is_left, one_source_each, runs_of_accepted_agree, sample_is_sound,
+    slots_are_apart,
 };

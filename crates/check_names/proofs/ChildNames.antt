@@ -4,7 +4,7 @@ use Rattle.std.proofs.lemmas.List.{drop_more}
 use Rattle.std.proofs.Math.ListN.{drop_of_length-le}
 use Rattle.design_core.specs.declared.variant.Child as code_child
 use Rattle.design_core.specs.View.{child_of}
-use Rattle.check_core.specs.Known.{Name, Known, with, either}
+use Rattle.names.specs.Known.{Name, Known, with, either}
 use Rattle.check_core.specs.Names.{child_named}
 
 either_end : (a : Bool) → (a || false) ≡ a

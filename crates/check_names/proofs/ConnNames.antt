@@ -6,9 +6,8 @@ use Rattle.design_core.specs.declared.variant.Conn as code_conn
 use Rattle.design_core.specs.View.{conn_of}
 use Rattle.design_core.specs.declared.variant.Signal.{Signal}
 use Rattle.check_core.specs.Faults.{first_of}
-use Rattle.check_core.specs.Ports.{unbound_at}
-use Rattle.check_core.specs.Known.{Name, Known, with, either}
-use Rattle.check_core.specs.Ports.{connected}
+use Rattle.check_core.specs.Ports.{unbound_at, connected}
+use Rattle.names.specs.Known.{Name, Known, with, either}
 
 either_end : (a : Bool) → (a || false) ≡ a
 either_end true = refl

@@ -1,7 +1,6 @@
 -- Names that are taken, one after another.
-use Rattle.std.proofs.Common.{◌≡◌, ℕ, zero, suc, ◌+◌, ◌<◌, ◌≤◌, Bool, true, false, ◌||◌, bytes_eq, List, [], ◌∷◌, ◌++◌, length, drop, get_or, if◌then◌else◌, Option, Some, None, append_assoc, append-nil, refl, sym, ap, ◌∙◌}
+use Rattle.std.proofs.Common.{◌≡◌, ℕ, zero, suc, ◌+◌, ◌<◌, ◌≤◌, Bool, true, false, ◌||◌, bytes_eq, List, [], ◌∷◌, ◌++◌, length, drop, get_or, if◌then◌else◌, Option, Some, None, append_assoc, append-nil, refl, sym, ap, ◌∙◌, Vec, Global}
 use Rattle.std.specs.Borrow.{Bor}
-use Rattle.std.proofs.Common.{Vec, Global}
 use Rattle.std.proofs.lemmas.List.{drop_more, map-append}
 use Rattle.std.proofs.Math.ListN.{drop_of_length-le}
 use Rattle.design_core.specs.declared.statement.Stmt as code_stmt
@@ -10,9 +9,9 @@ use Rattle.design_core.specs.declared.expr.Expr as code_expr
 use Rattle.design_core.specs.View.{stmt_of}
 use Rattle.design_core.specs.Design.{Gens, Stmt, Assign, Let, If}
 use Rattle.design_core.proofs.Views.{stmt_assign, stmt_let, stmt_if}
-use Rattle.check_core.specs.Statements.{stmt_at, stmts_at}
+use Rattle.design_core.specs.Statements.{stmt_at, stmts_at}
 use Rattle.check_core.specs.declared.fault.CheckFault.TheVariants.{DuplicateName}
-use Rattle.check_core.specs.Known.{Name, Known, with, either}
+use Rattle.names.specs.Known.{Name, Known, with, either}
 use Rattle.check_core.specs.Faults.{spot}
 use Rattle.check_core.specs.Names.{taken_twice, lets_in}
 use Rattle.check_names.specs.Things.{thing_at, things_at}

@@ -4,8 +4,8 @@ use Rattle.std.proofs.lemmas.List.{drop_more}
 use Rattle.std.proofs.Math.ListN.{drop_of_length-le}
 use Rattle.design_core.specs.declared.statement.Stmt as code_stmt
 use Rattle.check_core.specs.declared.fault.CheckFault.{CheckFault}
-use Rattle.check_core.specs.Known.{Known}
-use Rattle.check_core.specs.Statements.{stmt_at, stmts_at}
+use Rattle.names.specs.Known.{Known}
+use Rattle.design_core.specs.Statements.{stmt_at, stmts_at}
 use Rattle.check_core.specs.Faults.{earlier}
 use Rattle.check_core.specs.Names.{Scope, lets_after, unknown_in, unknown_among}
 

@@ -1,6 +1,6 @@
 -- What the code knows of a module's names.
 use Rattle.check_names.specs.declared.scope.Scope as code_scope
-use Rattle.check_core.specs.Known.{has}
+use Rattle.names.specs.Known.{has}
 use Rattle.check_core.specs.Names.{Scope}
 
 abbrev pub scope_in : code_scope.Scope → Scope

@@ -1,7 +1,7 @@
 -- Names with their lines, as the code keeps them.
 use Rattle.std.specs.Prelude.{ℕ, List, map}
 use Rattle.std.specs.Borrow.{Bor}
-use Rattle.check_core.specs.Known.{Name}
+use Rattle.names.specs.Known.{Name}
 
 abbrev pub thing_at : ℕ × Bor (List ℕ) → ℕ × Name
 thing_at p = (p.0, p.1.now)

@@ -1,14 +1,17 @@
+//! Names that two things have: the first in the order of their lines and places is refused.
+
 ghost use Rattle.std.specs.Prelude.{◌≡◌, ◌++◌, [], ◌∷◌, IfOk, OnOk, map};
 ghost use Rattle.design_core.specs.View.{block_of, child_of, stmt_of, variant_of};
-ghost use Rattle.check_core.specs.Known.{either, has, none, with};
+ghost use Rattle.names.specs.Known.{either, has, none, with};
 ghost use Rattle.check_core.specs.Faults.{Tells, first_of};
-ghost use Rattle.check_core.specs.Statements.{stmts_at};
+ghost use Rattle.design_core.specs.Statements.{stmts_at};
 ghost use Rattle.check_core.specs.Names.{child_thing, duplicate_in_block, duplicate_name as the_duplicate_name, lets_in, signal_thing, taken_in, taken_twice, things};
 ghost use Rattle.check_names.specs.Things.{things_at};
 
 use crate::scope::put_children;
-use check_core::{CheckFault, Kinds, NameSet, names_of, spot, statements};
-use design_core::{Block, Child, Signal, Stmt, Variant};
+use check_core::{CheckFault, Kinds, names_of, spot};
+use design_core::{Block, Child, Signal, Stmt, Variant, statements};
+use names::NameSet;
 use std::alloc::Global;
 use text_core::NoMemory;
 

@@ -1,14 +1,19 @@
+//! Reads of and connections to ports that a child has not. An expression is judged before the port to which it goes.
+
 ghost use Rattle.std.specs.Prelude.{◌≡◌, IfOk, map};
 ghost use Rattle.design_core.specs.View.{block_of, child_of, conn_of, expr_of, stmt_of, variant_of};
 ghost use Rattle.check_core.specs.declared.fault.CheckFault.TheVariants.{UnknownPort};
-ghost use Rattle.check_core.specs.Known.{has};
+ghost use Rattle.names.specs.Known.{has};
 ghost use Rattle.check_core.specs.Faults.{Tells, first_of, spot as the_spot};
-ghost use Rattle.check_core.specs.Statements.{stmts_at};
-ghost use Rattle.check_core.specs.Names.{below as the_below, is_input, named, unless_known};
-ghost use Rattle.check_core.specs.Ports.{signals_at, unknown_output, unknown_port as the_unknown_port, unknown_port_among as the_unknown_port_among, unknown_port_at, unknown_port_in, unknown_port_in_block, unknown_port_in_child};
+ghost use Rattle.design_core.specs.Statements.{stmts_at};
+ghost use Rattle.check_core.specs.Names.{is_input, named, unless_known};
+ghost use Rattle.design_core.specs.Dotted.{below as the_below};
+ghost use Rattle.check_core.specs.Ports.{unknown_output, unknown_port as the_unknown_port, unknown_port_among as the_unknown_port_among, unknown_port_at, unknown_port_in, unknown_port_in_block, unknown_port_in_child};
+ghost use Rattle.design_core.specs.WellFormed.{signals_at};
 
-use check_core::{CheckFault, Kinds, NameSet, below, names_of, spot, statements};
-use design_core::{Block, Child, Conn, Expr, Signal, Stmt, Variant};
+use check_core::{CheckFault, Kinds, names_of, spot};
+use design_core::{Block, Child, Conn, Expr, Signal, Stmt, Variant, below, signals_of, statements};
+use names::NameSet;
 use std::alloc::Global;
 use text_core::NoMemory;
 
@@ -160,21 +165,11 @@ fn unknown_port_in_conns(
     Ok(())
 }
 
-/// The signals of the variant of a number; none where there is no such variant.
-pub(crate) fn signals_at(variants: &[Variant], number: u32) -> &[Signal]
-    ensures { result.now ≡ signals_at (map variant_of variants.now) number }
-{
-    match variants.get(number as usize) {
-        Some(variant) => variant.signals.items(),
-        None => &[],
-    }
-}
-
 /// The inputs of the variant of a number, by name: as many steps as it has signals.
 fn inputs_of(alloc: Global, variants: &[Variant], number: u32) -> Result<NameSet, NoMemory>
-    ensures { IfOk result (λ inputs. has inputs ≡ named is_input (signals_at (map variant_of variants.now) number)) }
+    ensures { IfOk result (λ inputs. has inputs ≡ named is_input (signals_at number (map variant_of variants.now))) }
 {
-    names_of(alloc, Kinds::Inputs, signals_at(variants, number))
+    names_of(alloc, Kinds::Inputs, signals_of(variants, number))
 }
 
 /// Refuses the connections of a child.

@@ -1,11 +1,14 @@
+//! What may be read and assigned in a module: signals, children, and what a block may assign by its kind.
+
 ghost use Rattle.std.specs.Prelude.{◌≡◌, IfOk, OnOk, map};
 ghost use Rattle.design_core.specs.View.{child_of, variant_of};
-ghost use Rattle.check_core.specs.Known.{either, has};
+ghost use Rattle.names.specs.Known.{either, has};
 ghost use Rattle.check_core.specs.Names.{child_named, scope_of as the_scope};
 ghost use Rattle.check_names.specs.Scopes.{scope_in};
 
-use check_core::{Kinds, NameSet, names_of};
+use check_core::{Kinds, names_of};
 use design_core::{Child, Variant};
+use names::NameSet;
 use std::alloc::Global;
 use text_core::NoMemory;
 

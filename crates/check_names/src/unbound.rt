@@ -1,12 +1,14 @@
+//! Inputs of children without a connection, in the order of the child's ports.
+
 ghost use Rattle.std.specs.Prelude.{◌≡◌, IfOk, map};
 ghost use Rattle.design_core.specs.View.{child_of, conn_of, variant_of};
-ghost use Rattle.check_core.specs.Known.{has};
+ghost use Rattle.names.specs.Known.{has};
 ghost use Rattle.check_core.specs.Faults.{Tells, first_of};
 ghost use Rattle.check_core.specs.Ports.{connected, unbound_at, unbound_in_child, unbound_input as the_unbound_input};
 
-use crate::ports::signals_at;
-use check_core::{CheckFault, Kinds, NameSet, below, spot};
-use design_core::{Child, Conn, Signal, Variant};
+use check_core::{CheckFault, Kinds, spot};
+use design_core::{Child, Conn, Signal, Variant, below, signals_of};
+use names::NameSet;
 use std::alloc::Global;
 use text_core::NoMemory;
 
@@ -60,7 +62,7 @@ fn unbound_in_child(alloc: Global, variants: &[Variant], child: &Child) -> Resul
     ensures { Tells result (unbound_in_child (map variant_of variants.now) (child_of child.now)) }
 {
     let ports = connected(alloc, &child.conns)?;
-    let signals = signals_at(variants, child.variant);
+    let signals = signals_of(variants, child.variant);
     unbound_among(alloc, child.line, child.name.bytes(), &ports, signals)
 }
 

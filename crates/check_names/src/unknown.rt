@@ -1,15 +1,19 @@
+//! Names that nothing has: an expression is judged from left to right, before the target to which it goes.
+
 ghost use Rattle.std.specs.Prelude.{◌≡◌, OnOk, map};
 ghost use Rattle.design_core.specs.View.{block_of, child_of, conn_of, expr_of, stmt_of, variant_of};
 ghost use Rattle.check_core.specs.declared.fault.CheckFault.TheVariants.{UnknownName};
-ghost use Rattle.check_core.specs.Known.{has, none};
+ghost use Rattle.names.specs.Known.{has, none};
 ghost use Rattle.check_core.specs.Faults.{Tells, first_of, spot as the_spot};
-ghost use Rattle.check_core.specs.Statements.{stmts_at};
-ghost use Rattle.check_core.specs.Names.{below as the_below, lets_after, scope_of as the_scope, targets, unless_known, unknown_among, unknown_in, unknown_in_block, unknown_in_child, unknown_in_conn, unknown_in_scope as the_unknown_in_scope, unknown_name as the_unknown_name, unknown_read as the_unknown_read};
+ghost use Rattle.design_core.specs.Statements.{stmts_at};
+ghost use Rattle.check_core.specs.Names.{lets_after, unless_known, unknown_among, unknown_in, unknown_in_block, unknown_in_child, unknown_in_conn, unknown_in_scope as the_unknown_in_scope, unknown_name as the_unknown_name, unknown_read as the_unknown_read};
+ghost use Rattle.design_core.specs.Dotted.{below as the_below};
 ghost use Rattle.check_names.specs.Scopes.{scope_in};
 
 use crate::scope::{Scope, scope_of};
-use check_core::{CheckFault, NameSet, below, spot, statements};
-use design_core::{Block, Child, Conn, Expr, Stmt, Variant};
+use check_core::{CheckFault, spot};
+use design_core::{Block, Child, Conn, Expr, Stmt, Variant, below, statements};
+use names::NameSet;
 use std::alloc::Global;
 
 /// Refuses a name unless it is known.

@@ -10,10 +10,10 @@ use Rattle.design_core.specs.declared.variant.Conn as code_conn
 use Rattle.design_core.specs.View.{block_of, conn_of}
 use Rattle.design_core.specs.Design.{Stmt, Assign, Let, If}
 use Rattle.check_core.specs.declared.fault.CheckFault.{CheckFault}
-use Rattle.check_core.specs.Known.{Name}
-use Rattle.check_core.specs.Maps.{put_value}
+use Rattle.names.specs.Known.{Name}
+use Rattle.names.specs.Maps.{put_value}
 use Rattle.check_core.specs.Faults.{earlier, first_of, is_fault, Tells}
-use Rattle.check_core.specs.Statements.{stmt_at, stmts_at}
+use Rattle.design_core.specs.Statements.{stmt_at, stmts_at}
 use Rattle.check_paths.specs.Blocks.{twice_in_block}
 use Rattle.check_core.specs.Drivers.{Drive, Lines, all_driven, assignments, conn_drive, connected_twice, driven_also, driven_in, driven_twice, second_drive}
 

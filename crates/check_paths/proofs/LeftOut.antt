@@ -3,7 +3,7 @@ use Rattle.std.proofs.Common.{◌≡◌, Bool, true, false, not, List, if◌then
 use Rattle.design_core.specs.Design.{Block}
 use Rattle.check_core.specs.declared.fault.CheckFault.{CheckFault}
 use Rattle.check_core.specs.declared.fault.CheckFault.TheVariants.{Latch}
-use Rattle.check_core.specs.Known.{Known}
+use Rattle.names.specs.Known.{Known}
 use Rattle.check_core.specs.Faults.{first_of, spot}
 use Rattle.check_core.specs.Names.{unless_known}
 use Rattle.check_core.specs.Drivers.{Drive, driven_in}

@@ -6,8 +6,8 @@ use Rattle.std.proofs.Math.ListN.{drop_of_length-le}
 use Rattle.design_core.specs.declared.statement.Stmt as code_stmt
 use Rattle.design_core.specs.Design.{Stmt, Assign, Let, If, Body, Done, Then, Else, NoElse, Otherwise, Block}
 use Rattle.design_core.specs.Slots.{let_of, lets_of, else_lets}
-use Rattle.check_core.specs.Known.{Name, Known, has, with, none}
-use Rattle.check_core.specs.Statements.{statements, inside, else_statements, stmt_at, stmts_at}
+use Rattle.names.specs.Known.{Name, Known, has, with, none}
+use Rattle.design_core.specs.Statements.{statements, inside, else_statements, stmt_at, stmts_at}
 use Rattle.check_core.specs.Drivers.{assignments, drives}
 use Rattle.check_core.specs.Paths.{own}
 use Rattle.check_paths.specs.Walked.{own_after, own_among, let_names}

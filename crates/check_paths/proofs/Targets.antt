@@ -8,9 +8,9 @@ use Rattle.design_core.specs.declared.variant.Block as code_block
 use Rattle.design_core.specs.declared.variant.Signal.{Signal}
 use Rattle.design_core.specs.View.{block_of}
 use Rattle.design_core.specs.Design.{Stmt, Assign, Let, If}
-use Rattle.check_core.specs.Known.{Known, either}
+use Rattle.names.specs.Known.{Known, either}
 use Rattle.check_core.specs.Faults.{first_of}
-use Rattle.check_core.specs.Statements.{stmt_at, stmts_at}
+use Rattle.design_core.specs.Statements.{stmt_at, stmts_at}
 use Rattle.check_core.specs.Drivers.{assigned_after, assignments, driven_in, drives, is_assigned, undriven_at}
 
 swap : (a b c : Bool) → ((a || b) || c) ≡ (b || (a || c))

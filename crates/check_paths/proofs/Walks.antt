@@ -12,7 +12,7 @@ use Rattle.design_core.specs.Slots.{size, stmt_size}
 use Rattle.design_core.specs.Design.{Gens, Block, Expr, Read, Out, Value, Unary, Binary, Mux, Zext, Slice, Stmt, Assign, Let, If, Body, Done, Then, Else, NoElse, Otherwise}
 use Rattle.design_core.specs.View.{expr_of, stmt_of, body_of, else_of}
 use Rattle.check_core.specs.declared.fault.CheckFault.{CheckFault}
-use Rattle.check_core.specs.Known.{Name, Known, Begins, has, with, either, both, none}
+use Rattle.names.specs.Known.{Name, Known, Begins, has, with, either, both, none}
 use Rattle.check_core.specs.Faults.{earlier}
 use Rattle.check_core.specs.Paths.{skips, body_skips, else_skips, early, early_in, early_in_else, early_read, early_in_block, own}
 use Rattle.check_paths.specs.Walked.{missing, after_stmt, after_body, after_else, after_both, assigned_in}

@@ -3,7 +3,7 @@ use Rattle.std.specs.Prelude.{ℕ, Bool, not, ◌||◌, ◌&&◌, if◌then◌el
 use Rattle.design_core.specs.Design.{Stmt, Assign, Let, If, Body, Else}
 use Rattle.check_core.specs.declared.fault.CheckFault.{CheckFault}
 use Rattle.check_core.specs.declared.fault.CheckFault.TheVariants.{Latch}
-use Rattle.check_core.specs.Known.{Name, Known, with}
+use Rattle.names.specs.Known.{Name, Known, with}
 use Rattle.check_core.specs.Faults.{spot}
 use Rattle.check_core.specs.Names.{unless_known}
 use Rattle.check_core.specs.Drivers.{Drive}

@@ -1,12 +1,15 @@
+//! Wires and outputs that no block assigns.
+
 ghost use Rattle.std.specs.Prelude.{◌≡◌, IfOk, OnOk, map};
 ghost use Rattle.design_core.specs.View.{block_of, stmt_of, variant_of};
-ghost use Rattle.check_core.specs.Known.{either, has};
+ghost use Rattle.names.specs.Known.{either, has};
 ghost use Rattle.check_core.specs.Faults.{Tells, first_of};
-ghost use Rattle.check_core.specs.Statements.{stmts_at};
+ghost use Rattle.design_core.specs.Statements.{stmts_at};
 ghost use Rattle.check_core.specs.Drivers.{assigned_after, assignments, driven_in, drives, is_assigned, undriven as the_undriven, undriven_at};
 
-use check_core::{CheckFault, Kinds, NameSet, spot, statements};
-use design_core::{Block, Signal, Stmt, Variant};
+use check_core::{CheckFault, Kinds, spot};
+use design_core::{Block, Signal, Stmt, Variant, statements};
+use names::NameSet;
 use std::alloc::Global;
 use text_core::NoMemory;
 

@@ -1,14 +1,17 @@
-ghost use Rattle.std.specs.Prelude.{◌≡◌, IfOk, OnOk, map};
+//! Reads of own names of a block that some path has not assigned: the first in the order of the text.
+
+ghost use Rattle.std.specs.Prelude.{◌≡◌, IfOk, OnOk};
 ghost use Rattle.design_core.specs.View.{block_of, stmt_of, variant_of};
-ghost use Rattle.check_core.specs.Known.{has};
+ghost use Rattle.names.specs.Known.{has};
 ghost use Rattle.check_core.specs.Faults.{Tells};
-ghost use Rattle.check_core.specs.Statements.{stmts_at};
+ghost use Rattle.design_core.specs.Statements.{stmts_at};
 ghost use Rattle.check_core.specs.Paths.{early_in_block, own, read_before_write as the_read_before_write};
 ghost use Rattle.check_paths.specs.Walked.{own_after, own_among};
 
 use crate::walk::walk;
-use check_core::{CheckFault, NameSet, statements};
-use design_core::{Block, Stmt, Variant};
+use check_core::CheckFault;
+use design_core::{Block, Stmt, Variant, statements};
+use names::NameSet;
 use std::alloc::Global;
 use text_core::NoMemory;
 

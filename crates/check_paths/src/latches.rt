@@ -1,15 +1,18 @@
-ghost use Rattle.std.specs.Prelude.{◌≡◌, ◌∷◌, [], IfOk, None, map, not};
+//! Targets of a `comb` that some path leaves unassigned, in the order of their first assignments.
+
+ghost use Rattle.std.specs.Prelude.{◌≡◌, ◌∷◌, [], IfOk, None};
 ghost use Rattle.design_core.specs.View.{block_of, body_of, stmt_of, variant_of};
-ghost use Rattle.check_core.specs.Known.{has};
+ghost use Rattle.names.specs.Known.{has};
 ghost use Rattle.check_core.specs.Faults.{Tells, first_of};
-ghost use Rattle.check_core.specs.Statements.{stmts_at};
+ghost use Rattle.design_core.specs.Statements.{stmts_at};
 ghost use Rattle.check_core.specs.Drivers.{assignments};
 ghost use Rattle.check_core.specs.Paths.{latch as the_latch, latch_in};
 ghost use Rattle.check_paths.specs.Walked.{assigned_in as the_assigned_in, left_out};
 
 use crate::walk::walk;
-use check_core::{CheckFault, NameSet, spot, statements};
-use design_core::{Block, Stmt, Variant};
+use check_core::{CheckFault, spot};
+use design_core::{Block, Stmt, Variant, statements};
+use names::NameSet;
 use std::alloc::Global;
 
 /// The names that every path through statements assigns.

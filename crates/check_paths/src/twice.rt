@@ -1,19 +1,22 @@
+//! Inputs and signals that are driven twice: the second drive is refused, on its line.
+
 ghost use Rattle.std.specs.Prelude.{◌≡◌, ◌∷◌, [], OnOk, map};
 ghost use Rattle.design_core.specs.View.{block_of, child_of, conn_of, stmt_of, variant_of};
-ghost use Rattle.check_core.specs.Maps.{value_of};
+ghost use Rattle.names.specs.Maps.{value_of};
 ghost use Rattle.check_core.specs.Faults.{Tells, first_of};
-ghost use Rattle.check_core.specs.Statements.{stmts_at};
+ghost use Rattle.design_core.specs.Statements.{stmts_at};
 ghost use Rattle.check_paths.specs.Blocks.{twice_in_block};
 ghost use Rattle.check_core.specs.Drivers.{all_driven, assignments, conn_drive, connected_twice, driven_also, driven_in, driven_twice, second_drive, twice_in_child, two_drivers as the_two_drivers, undriven_yet};
 
-use check_core::{CheckFault, LineMap, spot, statements};
-use design_core::{Block, Child, Conn, Stmt, Variant};
+use check_core::{CheckFault, spot};
+use design_core::{Block, Child, Conn, Stmt, Variant, statements};
+use names::NameMap;
 use std::alloc::Global;
 use text_core::NoMemory;
 
 /// Keeps the line at which a name is driven, unless it has one.
 #[tactic(auto, using(crate::proofs::Drives::note_steps))]
-fn note(alloc: Global, lines: &mut LineMap, line: u32, name: &[u8]) -> Result<(), NoMemory>
+fn note(alloc: Global, lines: &mut NameMap<u32>, line: u32, name: &[u8]) -> Result<(), NoMemory>
     ensures { OnOk result (value_of lines.new ≡ driven_also (value_of lines.old) (line, name.now)) }
 {
     match lines.get(name) {
@@ -26,7 +29,7 @@ fn note(alloc: Global, lines: &mut LineMap, line: u32, name: &[u8]) -> Result<()
 }
 
 /// Refuses a drive of a name that is driven already.
-fn second(alloc: Global, lines: &LineMap, line: u32, name: &[u8]) -> Result<(), CheckFault>
+fn second(alloc: Global, lines: &NameMap<u32>, line: u32, name: &[u8]) -> Result<(), CheckFault>
     ensures { Tells result (second_drive (value_of lines.now) (line, name.now)) }
 {
     match lines.get(name) {
@@ -39,7 +42,7 @@ fn second(alloc: Global, lines: &LineMap, line: u32, name: &[u8]) -> Result<(), 
 }
 
 /// Refuses a connection to what is connected already, and keeps its line.
-fn conn_once(alloc: Global, lines: &mut LineMap, conn: &Conn) -> Result<(), CheckFault>
+fn conn_once(alloc: Global, lines: &mut NameMap<u32>, conn: &Conn) -> Result<(), CheckFault>
     ensures told { Tells result (second_drive (value_of lines.old) (conn_drive (conn_of conn.now))) }
     ensures lines { OnOk result (value_of lines.new ≡ driven_also (value_of lines.old) (conn_drive (conn_of conn.now))) }
 {
@@ -50,7 +53,11 @@ fn conn_once(alloc: Global, lines: &mut LineMap, conn: &Conn) -> Result<(), Chec
 
 /// Refuses the first of these connections to an input that is connected already, or that one before it has.
 #[tactic(auto, using(crate::proofs::Drives::conn_steps))]
-fn connected_among(alloc: Global, lines: &mut LineMap, conns: &[Conn]) -> Result<(), CheckFault>
+fn connected_among(
+    alloc: Global,
+    lines: &mut NameMap<u32>,
+    conns: &[Conn],
+) -> Result<(), CheckFault>
     ensures { Tells result (connected_twice (value_of lines.old) (map conn_of conns.now)) }
 {
     for conn in conns {
@@ -63,7 +70,7 @@ fn connected_among(alloc: Global, lines: &mut LineMap, conns: &[Conn]) -> Result
 fn connected_once(alloc: Global, conns: &[Conn]) -> Result<(), CheckFault>
     ensures { Tells result (connected_twice undriven_yet (map conn_of conns.now)) }
 {
-    let mut lines = LineMap::new(alloc);
+    let mut lines = NameMap::new(alloc);
     connected_among(alloc, &mut lines, conns)
 }
 
@@ -87,7 +94,7 @@ fn children_once(alloc: Global, children: &[Child]) -> Result<(), CheckFault>
 
 /// Keeps the line of an assignment.
 #[tactic(auto, using(design_core::proofs::Views::design_views))]
-fn note_stmt(alloc: Global, lines: &mut LineMap, stmt: &Stmt) -> Result<(), NoMemory>
+fn note_stmt(alloc: Global, lines: &mut NameMap<u32>, stmt: &Stmt) -> Result<(), NoMemory>
     ensures { OnOk result (value_of lines.new ≡ all_driven (value_of lines.old) (assignments (stmt_of stmt.now ∷ []))) }
 {
     match stmt {
@@ -101,7 +108,7 @@ fn note_stmt(alloc: Global, lines: &mut LineMap, stmt: &Stmt) -> Result<(), NoMe
 }
 
 /// Keeps the lines of assignments in order.
-fn note_stmts(alloc: Global, lines: &mut LineMap, stmts: &[&Stmt]) -> Result<(), NoMemory>
+fn note_stmts(alloc: Global, lines: &mut NameMap<u32>, stmts: &[&Stmt]) -> Result<(), NoMemory>
     ensures { OnOk result (value_of lines.new ≡ all_driven (value_of lines.old) (assignments (stmts_at stmts.now))) }
 {
     for stmt in stmts {
@@ -112,7 +119,7 @@ fn note_stmts(alloc: Global, lines: &mut LineMap, stmts: &[&Stmt]) -> Result<(),
 
 /// Refuses an assignment to what is driven already.
 #[tactic(auto, using(design_core::proofs::Views::design_views))]
-fn second_stmt(alloc: Global, lines: &LineMap, stmt: &Stmt) -> Result<(), CheckFault>
+fn second_stmt(alloc: Global, lines: &NameMap<u32>, stmt: &Stmt) -> Result<(), CheckFault>
     ensures { Tells result (first_of (second_drive (value_of lines.now)) (assignments (stmt_of stmt.now ∷ []))) }
 {
     match stmt {
@@ -126,7 +133,7 @@ fn second_stmt(alloc: Global, lines: &LineMap, stmt: &Stmt) -> Result<(), CheckF
 }
 
 /// Refuses the first of these assignments to what is driven already.
-fn second_stmts(alloc: Global, lines: &LineMap, stmts: &[&Stmt]) -> Result<(), CheckFault>
+fn second_stmts(alloc: Global, lines: &NameMap<u32>, stmts: &[&Stmt]) -> Result<(), CheckFault>
     ensures { Tells result (first_of (second_drive (value_of lines.now)) (assignments (stmts_at stmts.now))) }
 {
     for stmt in stmts {
@@ -137,7 +144,7 @@ fn second_stmts(alloc: Global, lines: &LineMap, stmts: &[&Stmt]) -> Result<(), C
 
 /// Refuses the first assignment in a block to what is driven already, and keeps the lines of all of them.
 #[tactic(auto, unfolding(crate::specs::Blocks::twice_in_block))]
-fn block_once(alloc: Global, lines: &mut LineMap, block: &Block) -> Result<(), CheckFault>
+fn block_once(alloc: Global, lines: &mut NameMap<u32>, block: &Block) -> Result<(), CheckFault>
     ensures told { Tells result (twice_in_block (value_of lines.old) (block_of block.now)) }
     ensures lines { OnOk result (value_of lines.new ≡ all_driven (value_of lines.old) (driven_in (block_of block.now))) }
 {
@@ -149,7 +156,7 @@ fn block_once(alloc: Global, lines: &mut LineMap, block: &Block) -> Result<(), C
 
 /// Refuses the first assignment to what is driven already, or what a block before it assigns.
 #[tactic(auto, using(crate::proofs::Drives::block_steps))]
-fn driven_among(alloc: Global, lines: &mut LineMap, blocks: &[Block]) -> Result<(), CheckFault>
+fn driven_among(alloc: Global, lines: &mut NameMap<u32>, blocks: &[Block]) -> Result<(), CheckFault>
     ensures { Tells result (driven_twice (value_of lines.old) (map block_of blocks.now)) }
 {
     for block in blocks {
@@ -162,7 +169,7 @@ fn driven_among(alloc: Global, lines: &mut LineMap, blocks: &[Block]) -> Result<
 fn driven_once(alloc: Global, blocks: &[Block]) -> Result<(), CheckFault>
     ensures { Tells result (driven_twice undriven_yet (map block_of blocks.now)) }
 {
-    let mut lines = LineMap::new(alloc);
+    let mut lines = NameMap::new(alloc);
     driven_among(alloc, &mut lines, blocks)
 }
 

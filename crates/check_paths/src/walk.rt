@@ -1,13 +1,17 @@
+//! One walk finds what every path assigns and what is read before it. Names that a branch assigned are taken back and put in again
+//! where both branches have them.
+
 ghost use Rattle.std.specs.Prelude.{◌≡◌, OnOk, IfOk};
 ghost use Rattle.design_core.specs.Design.{Read};
 ghost use Rattle.design_core.specs.View.{body_of, else_of, expr_of, stmt_of};
-ghost use Rattle.check_core.specs.Known.{Begins, either, has, with};
+ghost use Rattle.names.specs.Known.{Begins, either, has, with};
 ghost use Rattle.check_core.specs.Faults.{Tells, earlier};
 ghost use Rattle.check_core.specs.Paths.{early, early_in, early_in_else, early_read as the_early_read};
 ghost use Rattle.check_paths.specs.Walked.{after_body, after_both, after_else, after_stmt, missing};
 
-use check_core::{CheckFault, NameSet, spot};
+use check_core::{CheckFault, spot};
 use design_core::{Expr, Stmt};
+use names::NameSet;
 use std::alloc::Global;
 
 /// Refuses a name that is watched, and that is not assigned yet.

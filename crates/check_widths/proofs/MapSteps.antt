@@ -9,11 +9,12 @@ use Rattle.design_core.specs.declared.variant.Kind.{Kind}
 use Rattle.design_core.specs.Design.{Conn}
 use Rattle.check_core.specs.declared.fault.CheckFault.{CheckFault}
 use Rattle.check_core.specs.declared.fault.Clash.{Clash}
-use Rattle.check_core.specs.Known.{Name}
-use Rattle.check_core.specs.Maps.{value_of, put_value, no_value}
+use Rattle.names.specs.Known.{Name}
+use Rattle.names.specs.Maps.{value_of, put_value, no_value}
 use Rattle.check_core.specs.Faults.{earlier, first_of}
-use Rattle.check_core.specs.Statements.{stmt_at, stmts_at}
-use Rattle.check_core.specs.Widths.{Widths, bits, put_width, put_signal, put_signals, no_width, over, put_let, widths_after, stmt_mismatch, mismatch_among, conn_mismatch}
+use Rattle.design_core.specs.Statements.{stmt_at, stmts_at}
+use Rattle.check_core.specs.Widths.{Widths, put_width, put_signal, put_signals, no_width, over, put_let, widths_after, stmt_mismatch, mismatch_among, conn_mismatch}
+use Rattle.design_core.specs.Widths.{bits}
 use Rattle.check_widths.specs.WidthMaps.{widths_at, widths_in}
 
 pub widths_put : (old new : List (Name × ℤ)) (x : Name) (w : ℤ) → value_of new ≡ put_value x w (value_of old) → widths_at new ≡ put_width x (bits w) (widths_at old)

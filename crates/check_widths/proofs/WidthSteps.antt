@@ -4,7 +4,7 @@ use Rattle.design_core.specs.declared.expr.UnOp.{UnOp}
 use Rattle.design_core.specs.declared.expr.Op.{Op}
 use Rattle.check_core.specs.declared.fault.Clash.{Clash}
 use Rattle.check_core.specs.declared.fault.CheckFault.{CheckFault}
-use Rattle.check_core.specs.Known.{Name}
+use Rattle.names.specs.Known.{Name}
 use Rattle.check_core.specs.Widths.{mismatch, unary_width, binary_width, mux_width, zext_width, slice_width, unary_of, binary_of, mux_of, zext_of, slice_of, needed, needed_width}
 
 no_some : {A : Type 0} (a : A) (o : Option A) → o ≡ None → o ≡ Some a → ⊥

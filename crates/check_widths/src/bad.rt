@@ -1,12 +1,14 @@
-ghost use Rattle.std.specs.Prelude.{◌≡◌, map, codes};
+//! Widths, literals and slices that are none, whatever stands around them.
+
+ghost use Rattle.std.specs.Prelude.{◌≡◌, map};
 ghost use Rattle.design_core.specs.View.{block_of, child_of, conn_of, stmt_of, variant_of};
 ghost use Rattle.check_core.specs.Faults.{Tells, first_of};
-ghost use Rattle.check_core.specs.Statements.{stmts_at};
+ghost use Rattle.design_core.specs.Statements.{stmts_at};
 ghost use Rattle.check_core.specs.Widths.{bad_conn, bad_in_block, bad_in_child, bad_signal, bad_stmt, bad_width as the_bad_width, unless_sized};
 
 use crate::sizes::{is_declared, is_sized};
-use check_core::{CheckFault, spot, statements};
-use design_core::{Block, Child, Conn, Signal, Stmt, Variant};
+use check_core::{CheckFault, spot};
+use design_core::{Block, Child, Conn, Signal, Stmt, Variant, statements};
 use std::alloc::Global;
 
 /// Refuses a name unless it is sized.

@@ -1,15 +1,18 @@
+//! Widths that do not go together, in the order in which the parts of a variant are judged.
+
 ghost use Rattle.std.specs.Prelude.{◌≡◌, OnOk, map};
 ghost use Rattle.design_core.specs.View.{block_of, child_of, conn_of, expr_of, stmt_of, variant_of};
 ghost use Rattle.check_core.specs.Faults.{Tells, first_of};
-ghost use Rattle.check_core.specs.Statements.{stmts_at};
+ghost use Rattle.design_core.specs.Statements.{stmts_at};
 ghost use Rattle.check_core.specs.Widths.{conn_mismatch, mismatch, mismatch_among, mismatch_in_block, mismatch_in_child, mismatch_with, needed, put_let, signal_mismatch, stmt_mismatch, width_mismatch as the_width_mismatch, widths_after, width_in as the_width_in};
 ghost use Rattle.check_widths.specs.WidthMaps.{widths_at, widths_in};
 
 use crate::maps::{ports_of, put_bits, widths_of};
 use crate::table::needed_width;
 use crate::widths::{bits, told, width_at, width_in, width_of};
-use check_core::{CheckFault, Kinds, WidthMap, statements};
-use design_core::{Block, Child, Conn, Expr, Kind, Signal, Stmt, Variant};
+use check_core::{CheckFault, Kinds};
+use design_core::{Block, Child, Conn, Expr, Kind, Signal, Stmt, Variant, statements};
+use names::NameMap;
 use std::alloc::Global;
 
 /// Refuses a register whose start value has not its width.
@@ -41,9 +44,9 @@ fn signal_mismatches(alloc: Global, signals: &[Signal]) -> Result<(), CheckFault
 #[tactic(auto, using(crate::proofs::WidthSteps::needed_steps))]
 fn conn_mismatch(
     alloc: Global,
-    lets: &WidthMap,
-    signals: &WidthMap,
-    ports: &WidthMap,
+    lets: &NameMap<i64>,
+    signals: &NameMap<i64>,
+    ports: &NameMap<i64>,
     conn: &Conn,
 ) -> Result<(), CheckFault>
     ensures { Tells result (conn_mismatch (widths_in lets.now signals.now) (widths_at ports.now) (conn_of conn.now)) }
@@ -63,9 +66,9 @@ fn conn_mismatch(
 #[tactic(auto, using(check_core::proofs::Firsts::list_steps))]
 fn conn_mismatches(
     alloc: Global,
-    lets: &WidthMap,
-    signals: &WidthMap,
-    ports: &WidthMap,
+    lets: &NameMap<i64>,
+    signals: &NameMap<i64>,
+    ports: &NameMap<i64>,
     conns: &[Conn],
 ) -> Result<(), CheckFault>
     ensures { Tells result (first_of (conn_mismatch (widths_in lets.now signals.now) (widths_at ports.now)) (map conn_of conns.now)) }
@@ -79,14 +82,14 @@ fn conn_mismatches(
 /// The same of a child.
 fn mismatch_in_child(
     alloc: Global,
-    signals: &WidthMap,
+    signals: &NameMap<i64>,
     variants: &[Variant],
     child: &Child,
 ) -> Result<(), CheckFault>
     ensures { Tells result (mismatch_in_child (widths_at signals.now) (map variant_of variants.now) (child_of child.now)) }
 {
     let ports = ports_of(alloc, variants, child.variant)?;
-    let lets = WidthMap::new(alloc);
+    let lets = NameMap::new(alloc);
     conn_mismatches(alloc, &lets, signals, &ports, &child.conns)
 }
 
@@ -94,7 +97,7 @@ fn mismatch_in_child(
 #[tactic(auto, using(check_core::proofs::Firsts::list_steps))]
 fn mismatch_in_children(
     alloc: Global,
-    signals: &WidthMap,
+    signals: &NameMap<i64>,
     variants: &[Variant],
     children: &[Child],
 ) -> Result<(), CheckFault>
@@ -110,8 +113,8 @@ fn mismatch_in_children(
 #[tactic(auto, using(crate::proofs::WidthSteps::needed_steps))]
 fn test_mismatch(
     alloc: Global,
-    lets: &WidthMap,
-    signals: &WidthMap,
+    lets: &NameMap<i64>,
+    signals: &NameMap<i64>,
     line: u32,
     name: &[u8],
     test: &Expr,
@@ -127,8 +130,8 @@ fn test_mismatch(
 #[tactic(auto, using(crate::proofs::WidthSteps::none_done, crate::proofs::MapSteps::let_put))]
 fn let_mismatch(
     alloc: Global,
-    lets: &mut WidthMap,
-    signals: &WidthMap,
+    lets: &mut NameMap<i64>,
+    signals: &NameMap<i64>,
     line: u32,
     name: &[u8],
     value: &Expr,
@@ -145,8 +148,8 @@ fn let_mismatch(
 #[tactic(auto, using(design_core::proofs::Views::design_views, crate::proofs::WidthSteps::needed_steps))]
 fn stmt_mismatch(
     alloc: Global,
-    lets: &mut WidthMap,
-    signals: &WidthMap,
+    lets: &mut NameMap<i64>,
+    signals: &NameMap<i64>,
     stmt: &Stmt,
 ) -> Result<(), CheckFault>
     ensures told { Tells result (stmt_mismatch (widths_in lets.old signals.now) (stmt_of stmt.now)) }
@@ -187,10 +190,10 @@ fn stmt_mismatch(
 
 /// The same of statements in preorder.
 #[tactic(auto, using(crate::proofs::MapSteps::among_steps))]
-fn mismatch_among(alloc: Global, signals: &WidthMap, stmts: &[&Stmt]) -> Result<(), CheckFault>
+fn mismatch_among(alloc: Global, signals: &NameMap<i64>, stmts: &[&Stmt]) -> Result<(), CheckFault>
     ensures { Tells result (mismatch_among (widths_at signals.now) (stmts_at stmts.now)) }
 {
-    let mut lets = WidthMap::new(alloc);
+    let mut lets = NameMap::new(alloc);
     for stmt in stmts {
         stmt_mismatch(alloc, &mut lets, signals, stmt)?;
     }
@@ -198,7 +201,7 @@ fn mismatch_among(alloc: Global, signals: &WidthMap, stmts: &[&Stmt]) -> Result<
 }
 
 /// The same of a block.
-fn mismatch_in_block(alloc: Global, signals: &WidthMap, block: &Block) -> Result<(), CheckFault>
+fn mismatch_in_block(alloc: Global, signals: &NameMap<i64>, block: &Block) -> Result<(), CheckFault>
     ensures { Tells result (mismatch_in_block (widths_at signals.now) (block_of block.now)) }
 {
     let stmts = statements(alloc, &block.body)?;
@@ -208,7 +211,11 @@ fn mismatch_in_block(alloc: Global, signals: &WidthMap, block: &Block) -> Result
 
 /// The same of blocks in order.
 #[tactic(auto, using(check_core::proofs::Firsts::list_steps))]
-fn mismatch_in_blocks(alloc: Global, signals: &WidthMap, blocks: &[Block]) -> Result<(), CheckFault>
+fn mismatch_in_blocks(
+    alloc: Global,
+    signals: &NameMap<i64>,
+    blocks: &[Block],
+) -> Result<(), CheckFault>
     ensures { Tells result (first_of (mismatch_in_block (widths_at signals.now)) (map block_of blocks.now)) }
 {
     for block in blocks {
@@ -221,7 +228,7 @@ fn mismatch_in_blocks(alloc: Global, signals: &WidthMap, blocks: &[Block]) -> Re
 #[tactic(auto, using(check_core::proofs::Firsts::two_steps))]
 fn mismatch_with(
     alloc: Global,
-    signals: &WidthMap,
+    signals: &NameMap<i64>,
     variants: &[Variant],
     variant: &Variant,
 ) -> Result<(), CheckFault>

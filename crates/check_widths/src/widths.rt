@@ -1,13 +1,15 @@
-ghost use Rattle.std.specs.Prelude.{◌≡◌, ◌<◌, ◌^◌, IfOk, OnOk, Ok, Some, if◌then◌else◌};
+//! The width of an expression: operands are judged from left to right, before their operator.
+
+ghost use Rattle.std.specs.Prelude.{◌≡◌, ◌<◌, ◌^◌, IfOk, Ok, Some, if◌then◌else◌};
 ghost use Rattle.design_core.specs.View.{expr_of};
-ghost use Rattle.check_core.specs.Maps.{put_value, value_of};
-ghost use Rattle.check_core.specs.Names.{below as the_below, kinds_of};
-ghost use Rattle.check_core.specs.Widths.{TellsWidth, bits, put_signal, put_signals, no_width, width_in, width_of, widths_of};
+ghost use Rattle.check_core.specs.Widths.{TellsWidth, width_in, width_of};
+ghost use Rattle.design_core.specs.Widths.{bits};
 ghost use Rattle.check_widths.specs.WidthMaps.{widths_at, widths_in};
 
 use crate::table::{binary_width, mux_width, slice_width, unary_width, zext_width};
-use check_core::{CheckFault, Clash, Kinds, WidthMap, below, spot};
-use design_core::{Expr, Signal};
+use check_core::{CheckFault, Clash, Kinds, spot};
+use design_core::{Expr, Signal, below};
+use names::NameMap;
 use std::alloc::Global;
 use text_core::NoMemory;
 
@@ -20,7 +22,7 @@ pub(crate) fn bits(width: i64) -> u64
 }
 
 /// The width of a name in a map; 0 where nothing has the name.
-pub(crate) fn width_at(widths: &WidthMap, name: &[u8]) -> u64
+pub(crate) fn width_at(widths: &NameMap<i64>, name: &[u8]) -> u64
     ensures width { result ≡ width_of (widths_at widths.now) name.now }
     ensures within { result < 2 ^ 63 }
 {
@@ -31,7 +33,7 @@ pub(crate) fn width_at(widths: &WidthMap, name: &[u8]) -> u64
 }
 
 /// The width of a name that a block sees; 0 where nothing has the name.
-pub(crate) fn width_of(lets: &WidthMap, signals: &WidthMap, name: &[u8]) -> u64
+pub(crate) fn width_of(lets: &NameMap<i64>, signals: &NameMap<i64>, name: &[u8]) -> u64
     ensures width { result ≡ width_of (widths_in lets.now signals.now) name.now }
     ensures within { result < 2 ^ 63 }
 {
@@ -66,8 +68,8 @@ pub(crate) fn told(
 #[tactic(auto, using(crate::proofs::WidthSteps::width_steps))]
 pub(crate) fn width_in(
     alloc: Global,
-    lets: &WidthMap,
-    signals: &WidthMap,
+    lets: &NameMap<i64>,
+    signals: &NameMap<i64>,
     line: u32,
     name: &[u8],
     expr: &Expr,

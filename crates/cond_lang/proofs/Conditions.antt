@@ -1,5 +1,5 @@
 -- What is read as a condition is exactly what is spelled so within the room; a fault is the first place.
-use Rattle.std.proofs.Common.{◌≡◌, ◌≤◌, ◌+◌, ℕ, suc, cond, List, [], ◌∷◌, ◌++◌, length, Result, Ok, Err, refl, sym, ap, subst, ◌∙◌, arith, append-nil, inl, inr}
+use Rattle.std.proofs.Common.{◌≡◌, ◌≤◌, ◌+◌, ℕ, suc, List, [], ◌∷◌, ◌++◌, length, Result, Ok, Err, refl, sym, ap, subst, ◌∙◌, arith, append-nil, inl, inr}
 use Rattle.gen_token.specs.Words.{Tok}
 use Rattle.gen_tree.specs.declared.Mode.TheVariants as mode
 use Rattle.gen_tree.specs.Brackets.{Within}
@@ -11,7 +11,7 @@ use Rattle.gen_text.proofs.Completions.{Halt, halts, Why}
 use Rattle.gen_text.proofs.Depth.{expr_depth}
 use Rattle.gen_text.proofs.ExprsRead.{expr_reads}
 use Rattle.gen_text.proofs.Law.{accepted_within, accepted_if_within}
-use Rattle.gen_text.proofs.Machine.{Symbol, an_expr, settle, run, at_end, End, accepted, stopped}
+use Rattle.gen_text.proofs.Machine.{an_expr, settle, run, at_end, End, accepted, stopped}
 use Rattle.gen_text.proofs.Moves.{Reads}
 use Rattle.gen_text.proofs.OnlyExprs.{Follows, expr_only}
 use Rattle.cond_lang.specs.Reading.{IsCondition}

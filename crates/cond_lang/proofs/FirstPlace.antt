@@ -1,10 +1,10 @@
 -- The place that is told is the least of those that there are.
-use Rattle.std.proofs.Common.{◌≡◌, ◌≤◌, ◌<◌, ◌-◌, ◌+◌, ℕ, zero, suc, Bool, true, false, List, [], ◌∷◌, ◌++◌, length, get_or, drop_at, length-append, Option, Some, None, IsSomeAnd, Result, Ok, Err, IfOk, IfErr, refl, sym, ap, subst, ◌∙◌, arith, ◌⊎◌, inl, inr, if◌then◌else◌, nat_eq, ◌==◌, ◌&&◌, ◌||◌, append-nil, not, is_none}
+use Rattle.std.proofs.Common.{◌≡◌, ◌≤◌, ◌<◌, ◌-◌, ◌+◌, ℕ, Bool, true, false, List, [], ◌∷◌, ◌++◌, length, get_or, length-append, Option, Some, None, Ok, Err, refl, sym, ap, subst, ◌∙◌, arith, ◌⊎◌, inl, inr, if◌then◌else◌, nat_eq, ◌==◌, ◌&&◌, ◌||◌, append-nil, not, is_none}
 use Rattle.std.specs.Prelude.{take, min, position}
 use Rattle.std.proofs.lemmas.Bool.{cases_lt}
 use Rattle.gen_token.specs.Bytes.{is_text_byte, is_blank, begins}
 use Rattle.gen_token.specs.Spelling.{IsTokenOf}
-use Rattle.gen_token.specs.Tokens.{skip, token_at, TokensFrom, AreTokens}
+use Rattle.gen_token.specs.Tokens.{skip, token_at, TokensFrom}
 use Rattle.gen_token.specs.Words.{Word, Tok}
 use Rattle.gen_token.proofs.OneList.{same}
 use Rattle.gen_token.proofs.ReadToken.{exact}
@@ -20,7 +20,7 @@ use Rattle.cond_lang.specs.declared.fault.CondFault.TheVariants as cond_faults
 use Rattle.cond_lang.specs.Faults.{IsCause, IsFormCause, or_other}
 use Rattle.cond_lang.specs.Laws.{HasOneAnswer}
 use Rattle.cond_lang.specs.Reader.{cond_at}
-use Rattle.cond_lang.specs.Reading.{start, rest_of, next, behind, offset_behind, offsets_from, offset_of, IsCondition, Reads, ReadsForm, IsOtherByte, IsBadToken, IsBadForm, IsPlace, other_byte, bad_token, bad_form, IsFirstPlace, IsFirstForm, AreTaken}
+use Rattle.cond_lang.specs.Reading.{start, rest_of, next, behind, offset_behind, offsets_from, offset_of, IsCondition, Reads, ReadsForm, IsBadToken, IsBadForm, IsPlace, other_byte, bad_token, bad_form, IsFirstPlace, IsFirstForm, AreTaken}
 use Rattle.cond_lang.proofs.Conditions.{one_tree, read_found, read_fault}
 use Rattle.cond_lang.proofs.Offsets.{behind_more}
 

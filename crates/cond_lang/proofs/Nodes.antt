@@ -1,5 +1,5 @@
 -- What holds of each node that a condition may have.
-use Rattle.std.proofs.Common.{ℕ, List}
+use Rattle.std.proofs.Common.{ℕ}
 use Rattle.bv_core.specs.declared.NodeId.{NodeId}
 use Rattle.bv_core.specs.declared.Ref.{Ref}
 use Rattle.bv_core.specs.declared.Ref.TheVariants as ref

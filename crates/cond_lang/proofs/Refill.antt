@@ -1,6 +1,6 @@
 -- A condition that is bound part by part over the places of its names is its tree with those places for leaves, of the width that is
 -- judged; and names that are found one after another are all found, or the first is refused.
-use Rattle.std.proofs.Common.{◌≡◌, ℕ, Bool, true, false, List, [], ◌∷◌, ◌++◌, Option, Some, None, Result, Ok, Err, refl, sym, ap, ◌∙◌, append_assoc, append-nil}
+use Rattle.std.proofs.Common.{◌≡◌, ℕ, Bool, true, false, List, [], ◌∷◌, ◌++◌, Option, Some, None, Ok, Err, refl, sym, ap, ◌∙◌, append_assoc, append-nil}
 use Rattle.std.specs.Prelude.{map, drop, option_map}
 use Rattle.std.proofs.lemmas.List.{map-append}
 use Rattle.bv_core.specs.Operators.{width1_of, width2_of}
@@ -10,14 +10,14 @@ use Rattle.bv_core.specs.declared.Op2.{Op2}
 use Rattle.bv_core.specs.declared.Ref.{Ref}
 use Rattle.bv_core.specs.declared.Binding.{Binding}
 use Rattle.bv_core.specs.declared.Binding.TheVariants as binding
-use Rattle.tree_core.specs.Tree.{Tree, Const, Leaf, One, Two, Mux}
+use Rattle.tree_core.specs.Tree.{Tree, Const, One, Two, Mux}
 use Rattle.gen_tree.specs.Tree.{Expr, read, out, value, unary, binary, mux, zext, slice}
 use Rattle.cond_lang.specs.Names.{Name, number}
 use Rattle.cond_lang.specs.Meaning.{literal, unary_of, binary_of, tree_of, leaves}
 use Rattle.cond_lang.specs.declared.fault.BindEnd.{BindEnd}
 use Rattle.cond_lang.specs.declared.fault.BindEnd.TheVariants as ends
 use Rattle.cond_lang.specs.Faults.{Refuses, MisfitAt}
-use Rattle.cond_lang.specs.Judged.{Refusal, not_in_scope, was_removed, is_unset, misfit, Judged, ◌>>=◌, fits_one, fits_two, fits_choice, fits_literal, first, fitting, tokens_before, width_in, refused_name, or_else, first_refused, status_width, width_or_misfit, unless_refused, judged}
+use Rattle.cond_lang.specs.Judged.{Refusal, not_in_scope, was_removed, is_unset, misfit, Judged, ◌>>=◌, fits_one, fits_two, fits_choice, fits_literal, fitting, tokens_before, width_in, refused_name, or_else, first_refused, status_width, width_or_misfit, unless_refused, judged}
 use Rattle.cond_lang.specs.Bound.{ref_width, status_of, scope_of, ref_or_nought, mapped, bound_by}
 use Rattle.cond_lang.specs.Parts.{Part, wide, fit, fit_one, fit_two, fit_choice, part_in}
 use Rattle.cond_lang.specs.Found.{name_ref, and_then, found_after}

@@ -1,6 +1,6 @@
 -- How a condition is bound part by part, from left to right. Each name takes the next of the places that were found for the names
 -- in the order of the text, and each token the next of the offsets.
-use Rattle.std.specs.Prelude.{ℕ, ◌+◌, Bool, true, false, List, [], ◌∷◌, drop, Option, Some, None, Result, Ok, Err}
+use Rattle.std.specs.Prelude.{ℕ, ◌+◌, Bool, true, false, List, [], ◌∷◌, drop, Result, Ok, Err}
 use Rattle.bv_core.specs.Value.{Bits}
 use Rattle.bv_core.specs.declared.Op1.{Op1}
 use Rattle.bv_core.specs.declared.Op1.TheVariants as op1

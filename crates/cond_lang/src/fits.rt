@@ -1,8 +1,8 @@
 //! Which widths the operators take, and the widths of their results, by the tests of the operators themselves.
 
-ghost use Rattle.std.specs.Prelude.{◌≡◌, IsTrue, ◌-◌, get_or, drop};
+ghost use Rattle.std.specs.Prelude.{◌≡◌, ◌-◌};
 ghost use Rattle.bv_core.specs.Operators.{Fits1, Fits2, width1_of, width2_of};
-ghost use Rattle.cond_lang.specs.Judged.{fits_one, fits_two, fits_choice, first};
+ghost use Rattle.cond_lang.specs.Judged.{fits_one, fits_two, fits_choice};
 
 use bv_core::{Op1, Op2, fits_mux, fits1, fits2};
 

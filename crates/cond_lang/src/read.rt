@@ -1,14 +1,14 @@
 //! How a text is read as a condition, by the reader of sources in its mode for conditions. Of all the places at which a text stops being
 //! one the least is told, so the tokens before a bad one are read too.
 
-ghost use Rattle.std.specs.Prelude.{◌≡◌, ◌<◌, ◌≤◌, ◌^◌, IfOk, IfErr, length, position, not, true};
+ghost use Rattle.std.specs.Prelude.{◌≡◌, ◌<◌, ◌≤◌, ◌^◌, IfOk, IfErr, length};
 ghost use Rattle.gen_token.specs.Words.{placed};
 ghost use Rattle.gen_tree.specs.View.{expr_of};
 ghost use Rattle.gen_text.specs.Faults.{Gives};
 ghost use Rattle.cond_lang.specs.Faults.{IsCause, IsFormCause, or_other};
 ghost use Rattle.cond_lang.specs.declared.fault.CondFault.TheVariants as cond_faults;
 ghost use Rattle.cond_lang.specs.Reader.{cond_at, whole_expr};
-ghost use Rattle.cond_lang.specs.Reading.{AreTaken, Reads, ReadsForm, offset_of};
+ghost use Rattle.cond_lang.specs.Reading.{Reads, ReadsForm, offset_of};
 ghost use Rattle.cond_lang.specs.TextShown.{text_expr, text_offsets};
 
 use crate::fault::CondFault;

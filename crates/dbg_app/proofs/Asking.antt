@@ -13,7 +13,8 @@ use Rattle.exec_core.specs.Block.{Name}
 use Rattle.design_core.specs.declared.Ports.{Ports}
 use Rattle.design_core.specs.Design.{Design}
 use Rattle.design_core.specs.DesignView.{design_of}
-use Rattle.dep_order.specs.Results.{TellsOrder, TellsLoop}
+use Rattle.dep_order.specs.Results.{TellsLoop}
+use Rattle.place_core.specs.Orders.{TellsOrder}
 use Rattle.dep_order.proofs.Exclusive.{orders_have_no_loop}
 use Rattle.stim_text.specs.Rows.{rows_after_header, rows_of}
 use Rattle.stim_text.specs.declared.StimFault.{StimFault}
@@ -23,7 +24,7 @@ use Rattle.world_core.specs.Source.{source_world}
 use Rattle.world_core.specs.declared.mode.Mode.{Mode}
 use Rattle.trim_laws.specs.Runs.{RunsOver}
 use Rattle.verilog_out.specs.Printed.{printed}
-use Rattle.verilog_net.specs.KeptNet.{kept_net}
+use Rattle.trim_core.specs.KeptNet.{kept_net}
 use Rattle.verilog_net.proofs.Alike.{one_text}
 use Rattle.trim_laws.proofs.Orders.{one_length}
 use Rattle.dbg_app.specs.Command.{Top, TrailOver, Verilog, Row}

@@ -11,7 +11,7 @@ use Rattle.trim_laws.proofs.Orders.{one_length}
 use Rattle.dbg_app.specs.Command.{Row}
 use Rattle.design_core.specs.declared.Ports.{Ports}
 use Rattle.verilog_out.specs.Printed.{printed}
-use Rattle.verilog_net.specs.KeptNet.{kept_net}
+use Rattle.trim_core.specs.KeptNet.{kept_net}
 use Rattle.dbg_app.specs.Answers.{Contents, Asks, NoDesign, NoStimulus, Trail, Compiled, usage_fault, design_fault, stimulus_fault, IfAsked}
 use Rattle.dbg_app.specs.Judged.{JudgesRow, HasRows, HasTrail, HoldsBoth, HoldsDesign, TakesText, TakesTextFront, judged_status}
 use Rattle.dbg_app.specs.Outcome.{is_status, TakesDesignLine, TakesStimulusLine, TakesSome, EndsAsAsked, Completes}

@@ -1,8 +1,8 @@
 -- The inputs and outputs of the top of an accepted design have widths from 1 to 128.
 use Rattle.std.proofs.Common.{◌≡◌, true, ◌&&◌, List, [], ◌∷◌, Option, Some, None, option_map, unwrap_or, refl, ap, ap₂, ◌∙◌}
 use Rattle.std.specs.Prelude.{slice_get}
-use Rattle.exec_core.specs.Lists.{EachOf}
-use Rattle.exec_core.proofs.Lists.{each_from}
+use Rattle.list_core.specs.Lists.{EachOf}
+use Rattle.list_core.proofs.Lists.{each_from}
 use Rattle.design_core.specs.declared.variant.Signal.{Signal}
 use Rattle.design_core.specs.declared.variant.Kind.{Kind}
 use Rattle.design_core.specs.declared.variant.Kind.TheVariants.{Input, Output, Wire, Reg, ChildOut}

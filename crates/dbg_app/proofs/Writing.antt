@@ -8,7 +8,7 @@ use Rattle.world_core.specs.declared.mode.Mode.{Mode}
 use Rattle.design_core.specs.declared.Ports.{Ports}
 use Rattle.trail_net.specs.Taken.{TakesTrail}
 use Rattle.verilog_out.specs.Printed.{printed}
-use Rattle.verilog_net.specs.KeptNet.{kept_net}
+use Rattle.trim_core.specs.KeptNet.{kept_net}
 use Rattle.dbg_app.specs.Answers.{usage_fault}
 use Rattle.dbg_app.specs.Judged.{TakesText, TakesTextFront}
 use Rattle.dbg_app.specs.declared.accepted.Accepted.{Accepted}

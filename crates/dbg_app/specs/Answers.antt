@@ -14,7 +14,8 @@ use Rattle.design_core.specs.declared.Ports.{Ports}
 use Rattle.design_core.specs.Design.{Design}
 use Rattle.design_core.specs.Ports.{ports_in, top_signals}
 use Rattle.design_core.specs.WellFormed.{registers}
-use Rattle.dep_order.specs.Results.{Pair, TellsOrder, TellsLoop}
+use Rattle.dep_order.specs.Results.{TellsLoop}
+use Rattle.place_core.specs.Orders.{Pair, TellsOrder}
 use Rattle.stim_text.specs.Rows.{rows_of}
 use Rattle.stim_text.specs.declared.StimFault.{StimFault}
 use Rattle.stim_text.specs.declared.StimFault.TheVariants.{HeaderMismatch, BadRow, DoesNotFit, TooLong, NoMemory}
@@ -26,7 +27,7 @@ use Rattle.dbg_app.specs.declared.design_fault.DesignFault.TheVariants.{Text, El
 use Rattle.dbg_app.specs.Loops.{signal_paths, loop_fault}
 use Rattle.dbg_app.specs.Refusals.{elab_fault, check_fault, refusal_of}
 use Rattle.verilog_out.specs.Printed.{printed}
-use Rattle.verilog_net.specs.KeptNet.{kept_net}
+use Rattle.trim_core.specs.KeptNet.{kept_net}
 use Rattle.dbg_app.specs.Command.{Top, TrailOver, Verilog, Row}
 
 -- a status, and the text that goes with it

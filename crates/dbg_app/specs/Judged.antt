@@ -11,7 +11,8 @@ use Rattle.exec_core.specs.Whole.{Place}
 use Rattle.design_core.specs.declared.Ports.{Ports}
 use Rattle.design_core.specs.Design.{Design}
 use Rattle.design_core.specs.DesignView.{design_of}
-use Rattle.dep_order.specs.Results.{Pair, TellsOrder, TellsLoop}
+use Rattle.dep_order.specs.Results.{TellsLoop}
+use Rattle.place_core.specs.Orders.{Pair, TellsOrder}
 use Rattle.stim_text.specs.Rows.{rows_of}
 use Rattle.stim_text.specs.Stimulus.{Stimulus, IsStimulus}
 use Rattle.stim_text.specs.declared.StimFault.{StimFault}
@@ -21,7 +22,7 @@ use Rattle.world_core.specs.Source.{source_world}
 use Rattle.world_core.specs.declared.mode.Mode.{Mode}
 use Rattle.trim_laws.specs.Runs.{HasInputs, RunsOver}
 use Rattle.verilog_out.specs.Printed.{printed}
-use Rattle.verilog_net.specs.KeptNet.{kept_net}
+use Rattle.trim_core.specs.KeptNet.{kept_net}
 use Rattle.dbg_app.specs.Command.{Top, TrailOver, Verilog, Row}
 use Rattle.dbg_app.specs.Loops.{signal_paths}
 use Rattle.dbg_app.specs.Refusals.{is_no_memory}

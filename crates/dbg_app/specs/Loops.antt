@@ -5,8 +5,8 @@ use Rattle.exec_core.specs.Block.{Name}
 use Rattle.design_core.specs.declared.design.Instance.{Instance}
 use Rattle.design_core.specs.declared.variant.Signal.{Signal}
 use Rattle.design_core.specs.Design.{Design}
-use Rattle.design_exec.specs.Processes.{signals_at}
-use Rattle.dep_order.specs.Results.{Pair}
+use Rattle.design_exec.specs.Processes.{instance_signals}
+use Rattle.place_core.specs.Orders.{Pair}
 
 -- the path of an instance; no byte where there is no such instance
 abbrev pub instance_path : Design → ℕ → Name
@@ -14,7 +14,7 @@ instance_path d i = unwrap_or (option_map (λ (r : Instance). r.path) (slice_get
 
 -- the name of a signal, which is told by the number of its instance and its place there; no byte where there is no such signal
 abbrev pub signal_name : Design → Pair → Name
-signal_name d pair = unwrap_or (option_map (λ (s : Signal). s.name) (slice_get (signals_at d pair.0) pair.1)) []
+signal_name d pair = unwrap_or (option_map (λ (s : Signal). s.name) (slice_get (instance_signals d pair.0) pair.1)) []
 
 -- the path of a signal: that of its instance, a dot, and its name
 abbrev pub signal_path : Design → Pair → Name

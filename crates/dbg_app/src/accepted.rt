@@ -1,10 +1,12 @@
+//! A design that was accepted, with the order of its driven signals: what a command works on.
+
 ghost use Rattle.std.specs.Prelude.{IfOk};
 ghost use Rattle.design_core.specs.DesignView.{design_of};
 ghost use Rattle.dbg_app.specs.Answers.{ArePortsOf};
 ghost use Rattle.dbg_app.specs.Judged.{IsOrdered};
 
-use dep_order::Order;
 use design_core::{Design, Ports, ports_of};
+use place_core::Order;
 use std::alloc::Global;
 use text_core::NoMemory;
 

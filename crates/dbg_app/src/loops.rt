@@ -2,7 +2,7 @@
 
 ghost use Rattle.std.specs.Prelude.{◌≡◌, IfOk};
 ghost use Rattle.design_core.specs.DesignView.{design_of};
-ghost use Rattle.design_exec.specs.Processes.{signals_at as the_signals_at, signals_in as the_signals_in};
+ghost use Rattle.design_exec.specs.Processes.{instance_signals as the_signals_at, signals_in as the_signals_in};
 ghost use Rattle.dbg_app.specs.Loops.{instance_path as the_instance_path, signal_name as the_signal_name, signal_path as the_signal_path, signal_paths as the_signal_paths};
 
 use design_core::{Design, Signal};
@@ -20,7 +20,7 @@ fn signals_in(design: &Design, variant: u32) -> &[Signal]
 }
 
 /// The signals of an instance, by its number; none where there is no such instance.
-fn signals_at(design: &Design, instance: u32) -> &[Signal]
+fn instance_signals(design: &Design, instance: u32) -> &[Signal]
     ensures { result.now ≡ the_signals_at (design_of design.now) instance }
 {
     match design.instances.items().get(instance as usize) {
@@ -43,7 +43,7 @@ fn instance_path(design: &Design, instance: u32) -> &[u8]
 fn signal_name(design: &Design, signal: (u32, u32)) -> &[u8]
     ensures { result.now ≡ the_signal_name (design_of design.now) signal }
 {
-    match signals_at(design, signal.0).get(signal.1 as usize) {
+    match instance_signals(design, signal.0).get(signal.1 as usize) {
         Some(signal) => signal.name.bytes(),
         None => &[],
     }

@@ -1,54 +1,36 @@
 -- Orders and cycles of numbers, as those of the signals of a design.
-use Rattle.std.proofs.Common.{◌≡◌, ◌≢◌, ℕ, zero, suc, ◌<◌, ◌≤◌, Bool, true, false, true≢false, List, [], ◌∷◌, ◌++◌, map, cond, length, Option, Some, None, is_some, inl, inr, refl, sym, subst, ap, ap₂, ◌∙◌, get_or, ◌||◌, bytes_eq}
-use Rattle.std.specs.Prelude.{slice_get, option_map, option_and_then, unwrap_or, find, filter}
-use Rattle.std.specs.List.{list_any}
+use Rattle.std.proofs.Common.{◌≡◌, ◌≢◌, ℕ, ◌<◌, ◌≤◌, Bool, true, false, true≢false, List, [], ◌∷◌, ◌++◌, map, cond, length, Option, Some, None, is_some, inl, inr, refl, sym, subst, ap, ap₂, ◌∙◌, get_or, ◌||◌}
+use Rattle.std.specs.Prelude.{option_map, option_and_then, unwrap_or, find, filter}
 use Rattle.std.proofs.lemmas.Bool.{cases_Bool}
-use Rattle.std.proofs.lemmas.Option.{slice_get-get_or, none-some}
-use Rattle.std.proofs.lemmas.Slice.Eq.{bytes_eq-Decides}
-use Rattle.exec_core.specs.Lists as lists
+use Rattle.std.proofs.lemmas.Option.{slice_get-get_or}
 use Rattle.exec_core.specs.Whole.{Place, Drivers}
 use Rattle.exec_core.specs.Design.{Process, place, driver_of, links_to, assigns_to, process_tree, or_else}
-use Rattle.exec_core.proofs.Slots.{some_same}
-use Rattle.design_core.specs.declared.variant.Signal.{Signal}
+use Rattle.list_core.proofs.Options.{some_same}
+use Rattle.place_core.proofs.Signals.{is_signal}
 use Rattle.design_core.specs.Design as design
-use Rattle.design_exec.specs.Processes.{processes_of, signals_at, is_signal_of}
-use Rattle.graph_order.specs.Lists.{EachOf, IsIn, AreApart}
-use Rattle.graph_order.proofs.Lists.{in_left, in_last}
+use Rattle.design_exec.specs.Processes.{processes_of, is_signal_of}
+use Rattle.list_core.specs.Lists.{EachOf, IsIn, AreApart}
+use Rattle.list_core.proofs.Lists.{in_left, in_last, none_in, not_in}
 use Rattle.graph_order.specs.Graphs.{Graph}
 use Rattle.dep_order.specs.Reaching.{SignalsAfter}
-use Rattle.dep_order.specs.Wiring.{Link, driver_in, is_met}
+use Rattle.dep_order.specs.Wiring.{driver_in, is_met}
+use Rattle.place_core.specs.Linking.{Link}
 use Rattle.dep_order.specs.Joined.{IsJoined, with_drivers}
-use Rattle.dep_order.specs.Results.{Pair, signal_at, StandsFirst}
-use Rattle.dep_order.specs.Numbering.{AllCounted, number_in, place_at, IsNumbering}
-use Rattle.dep_order.specs.Ordering.{is_met_in, DriversAreTrees, pair_of, pairs_of, marked_in, IsWiredDesign, AreCounted, OrdersAnswer, CyclesAnswer}
+use Rattle.place_core.specs.Orders.{Pair, signal_at, StandsFirst}
+use Rattle.place_core.specs.Numbering.{AllCounted, number_in, place_at, IsNumbering, AreCounted}
+use Rattle.dep_order.specs.Ordering.{is_met_in, DriversAreTrees, pair_of, pairs_of, marked_in, IsWiredDesign, OrdersAnswer, CyclesAnswer}
 use Rattle.dep_order.proofs.Joining.{apart_places, cycles_join, orders_join}
-use Rattle.dep_order.proofs.Numbers.{at_within, numbered}
+use Rattle.place_core.proofs.Numbers.{at_within, numbered}
 
 -- ---- places
 
 -- the place of a number
-place_of : design.Design → List Pair → ℕ → Place
+pub place_of : design.Design → List Pair → ℕ → Place
 place_of d pairs n = unwrap_or (place_at d pairs n) (place 0 [])
 
-place_is : (d : design.Design) (pairs : List Pair) (n : ℕ) (p : Place) → place_at d pairs n ≡ Some p → place_of d pairs n ≡ p
+pub place_is : (d : design.Design) (pairs : List Pair) (n : ℕ) (p : Place) → place_at d pairs n ≡ Some p → place_of d pairs n ≡ p
 unfolding place_of
 place_is d pairs n p e = ap (λ (o : Option Place). unwrap_or o (place 0 [])) e
-
-named_here : (signals : List Signal) (k : ℕ) (s : Signal) → slice_get signals k ≡ Some s → list_any (λ (y : Signal). bytes_eq y.name s.name) signals ≡ true
-named_here [] k s e = absurd (none-some s e)
-named_here (y ∷ ys) zero s e = ap (λ (b : Bool). b || list_any (λ (y : Signal). bytes_eq y.name s.name) ys) ((bytes_eq-Decides y.name s.name).1 (ap (λ (z : Signal). z.name) (some_same y s e)))
-named_here (y ∷ ys) (suc k) s e = ap (λ (b : Bool). bytes_eq y.name s.name || b) (named_here ys k s e) ∙ or_true (bytes_eq y.name s.name)
-  where
-    or_true : (b : Bool) → (b || true) ≡ true
-    or_true true = refl
-    or_true false = refl
-
-pub is_signal : (d : design.Design) (q : Pair) (p : Place) → signal_at d q ≡ Some p → is_signal_of d p ≡ true
-is_signal d q p e = go (slice_get (signals_at d q.0) q.1) refl e
-  where
-    go : (o : Option Signal) → slice_get (signals_at d q.0) q.1 ≡ o → option_map (λ (s : Signal). place q.0 s.name) o ≡ Some p → is_signal_of d p ≡ true
-    go None f g = absurd (none-some p g)
-    go (Some s) f g = subst (λ (r : Place). is_signal_of d r ≡ true) (some_same (place q.0 s.name) p g) (named_here (signals_at d q.0) q.1 s f)
 
 -- ---- drivers
 
@@ -105,7 +87,7 @@ after_apart : (signals : ℕ) (g : Graph) (before vs : List ℕ) → SignalsAfte
 after_apart signals g before [] s = ((λ v h k. k), tt)
 after_apart signals g before (v ∷ vs) s =
     let rest = after_apart signals g (before ++ v ∷ []) vs s.2 in
-    ((λ w h k. elim k [ inl e ↦ s.0 (subst (λ (u : ℕ). IsIn u before) e h) | inr m ↦ rest.0 w (in_left w before (v ∷ []) h) m ]), ((λ k. rest.0 v (in_last v before) k), rest.1))
+    ((λ w h k. elim k [ inl e ↦ s.0 (subst (λ (u : ℕ). IsIn u before) e h) | inr m ↦ rest.0 w (in_left w before (v ∷ []) h) m ]), (none_in v vs (λ k. rest.0 v (in_last v before) k), rest.1))
 
 filter_kept : (P : ℕ → Type 0) (test : ℕ → Bool) (vs : List ℕ) → EachOf P vs → EachOf P (filter test vs)
 filter_kept P test [] e = tt
@@ -128,19 +110,19 @@ filter_apart test [] a = tt
 filter_apart test (v ∷ vs) a = by_test (test v) (filter_apart test vs a.1)
   where
     by_test : (b : Bool) → AreApart (filter test vs) → AreApart (cond b (v ∷ filter test vs) (filter test vs))
-    by_test true k = ((λ m. a.0 (filter_in test v vs m)), k)
+    by_test true k = (none_in v (filter test vs) (λ m. not_in v vs a.0 (filter_in test v vs m)), k)
     by_test false k = k
 
 same_filter : (P : ℕ → Type 0) (f h : ℕ → Bool) (vs : List ℕ) → ((v : ℕ) → P v → f v ≡ h v) → EachOf P vs → filter f vs ≡ filter h vs
 same_filter P f h [] e all = refl
 same_filter P f h (v ∷ vs) e all = ap₂ (λ (b : Bool) (us : List ℕ). cond b (v ∷ us) us) (e v all.0) (same_filter P f h vs e all.1)
 
-each_driven : (at : ℕ → Place) (d : Drivers) (vs : List ℕ) → lists.EachOf (λ p. d p ≢ None) (map at (with_drivers at d vs))
+each_driven : (at : ℕ → Place) (d : Drivers) (vs : List ℕ) → EachOf (λ p. d p ≢ None) (map at (with_drivers at d vs))
 each_driven at d [] = tt
 each_driven at d (v ∷ vs) = by_test (is_some (d (at v))) refl (each_driven at d vs)
   where
-    by_test : (b : Bool) → is_some (d (at v)) ≡ b → lists.EachOf (λ p. d p ≢ None) (map at (with_drivers at d vs)) →
-        lists.EachOf (λ p. d p ≢ None) (map at (cond b (v ∷ with_drivers at d vs) (with_drivers at d vs)))
+    by_test : (b : Bool) → is_some (d (at v)) ≡ b → EachOf (λ p. d p ≢ None) (map at (with_drivers at d vs)) →
+        EachOf (λ p. d p ≢ None) (map at (cond b (v ∷ with_drivers at d vs) (with_drivers at d vs)))
     by_test true e k = ((λ f. absurd (true≢false (sym e ∙ ap is_some f))), k)
     by_test false e k = k
 
@@ -168,7 +150,7 @@ orders_answer d all g driven order counted wired trees o =
 
 -- ---- cycles
 
-first_of : (d : design.Design) (all : AllCounted) (v : ℕ) (vs : List ℕ) → IsNumbering d (number_in all.0) all.1 → v < length all.1 → EachOf (λ w. w < length all.1) vs → EachOf (λ w. v ≤ w) vs → lists.EachOf (StandsFirst (pair_of all.1 v)) (pairs_of all.1 vs)
+first_of : (d : design.Design) (all : AllCounted) (v : ℕ) (vs : List ℕ) → IsNumbering d (number_in all.0) all.1 → v < length all.1 → EachOf (λ w. w < length all.1) vs → EachOf (λ w. v ≤ w) vs → EachOf (StandsFirst (pair_of all.1 v)) (pairs_of all.1 vs)
 first_of d all v [] w low below least = tt
 first_of d all v (x ∷ xs) w low below least =
     (w.sorted v x (pair_of all.1 v) (pair_of all.1 x) least.0 (slice_get-get_or all.1 v (0, 0) low) (slice_get-get_or all.1 x (0, 0) below.0), first_of d all v xs w low below.1 least.1)

@@ -9,10 +9,11 @@ use Rattle.exec_core.specs.Exec.{start}
 use Rattle.design_core.specs.Design as design
 use Rattle.design_exec.specs.Processes as processes
 use Rattle.graph_order.specs.Graphs.{Graph, IsGraph}
-use Rattle.check_core.specs.Known.{Known, either, has, none, with}
-use Rattle.dep_order.specs.Names.{names_at}
-use Rattle.dep_order.specs.Standing.{Numbers, Stand, AllStand, AreVertices}
-use Rattle.dep_order.specs.Blocks.{Versions, single, listed, readings, no_versions, IsReady, Followed, AreSignals, assigned_in, step_in, owns, end_trees, EndVertices, EndsStand}
+use Rattle.names.specs.Known.{Known, either, has, none, with}
+use Rattle.place_core.specs.Assigned.{names_at, assigned_in}
+use Rattle.dep_order.specs.Standing.{Stand, AllStand, AreVertices}
+use Rattle.place_core.specs.Numbering.{Numbers}
+use Rattle.dep_order.specs.Blocks.{Versions, single, listed, readings, no_versions, IsReady, Followed, AreSignals, step_in, owns, end_trees, EndVertices, EndsStand}
 use Rattle.dep_order.proofs.Versions.{stand_signal, stand_unknown}
 
 -- ---- own names

@@ -6,10 +6,10 @@ use Rattle.std.proofs.lemmas.Bool.{cases_Bool}
 use Rattle.std.proofs.lemmas.Slice.Eq.{bytes_eq-Decides}
 use Rattle.exec_core.specs.Block.{Name}
 use Rattle.graph_order.specs.Graphs.{Graph}
-use Rattle.check_core.specs.Known.{has}
-use Rattle.dep_order.specs.Names.{names_at}
+use Rattle.names.specs.Known.{has}
+use Rattle.place_core.specs.Assigned.{names_at}
 use Rattle.dep_order.specs.Blocks.{Versions, three, put_version, put_all, Grown, MadeVersion, Merged}
-use Rattle.dep_order.proofs.Targets.{has_push}
+use Rattle.place_core.proofs.Targets.{has_push}
 use Rattle.dep_order.proofs.Growing.{made_kept, made_later}
 
 -- ---- versions put back

@@ -4,11 +4,11 @@ use Rattle.std.proofs.lemmas.Bool.{cases_lt}
 use Rattle.std.proofs.lemmas.Bool.Decides.{nat_tests}
 use Rattle.std.proofs.lemmas.List.Elements.{filter-append}
 use Rattle.std.proofs.lemmas.List.{append-nil}
-use Rattle.graph_order.specs.Lists.{EachOf, IsIn, AreApart}
-use Rattle.graph_order.specs.Graphs.{Graph, next_of, HasEdge}
+use Rattle.list_core.specs.Lists.{EachOf, IsIn, AreApart}
+use Rattle.graph_order.specs.Graphs.{Graph, edges_of, HasEdge}
 use Rattle.graph_order.specs.Orders.{StandsAfter, IsOrder}
 use Rattle.graph_order.specs.Cycles.{Leads, IsCycle}
-use Rattle.graph_order.proofs.Lists.{each_at}
+use Rattle.list_core.proofs.Lists.{each_member, none_in, not_in}
 use Rattle.graph_order.proofs.Standing.{IsClosed, stays, closed_push, none_closed}
 use Rattle.dep_order.specs.Reaching.{ReachedFrom, IsLayered, SignalsAfter, SignalsLead}
 use Rattle.dep_order.specs.Signals.{signals_in, IsSignalOrder, IsSignalCycle}
@@ -57,16 +57,16 @@ pub signals_apart : (signals : ℕ) (vs : List ℕ) → AreApart vs → AreApart
 signals_apart signals [] a = tt
 signals_apart signals (v ∷ vs) a =
     elim (cases_lt v signals) [
-      | inl low ↦ subst AreApart (sym (kept_here signals v vs low)) ((λ i. a.0 (from_signals signals v vs i).0), signals_apart signals vs a.1)
+      | inl low ↦ subst AreApart (sym (kept_here signals v vs low)) (none_in v _ (λ i. not_in v vs a.0 (from_signals signals v vs i).0), signals_apart signals vs a.1)
       | inr high ↦ subst AreApart (sym (left_here signals v vs high)) (signals_apart signals vs a.1)
     ]
 
 -- ---- orders
 
 -- from a closed list nothing else is reached
-closed_reached : (signals : ℕ) (g : Graph) (before : List ℕ) (v w : ℕ) → IsClosed g before → EachOf (λ u. IsIn u before) (next_of g v) → ReachedFrom signals g (next_of g v) w → IsIn w before
+closed_reached : (signals : ℕ) (g : Graph) (before : List ℕ) (v w : ℕ) → IsClosed g before → EachOf (λ u. IsIn u before) (edges_of g v) → ReachedFrom signals g (edges_of g v) w → IsIn w before
 closed_reached signals g before v w c e r =
-    let here : IsIn r.start before = each_at (λ u. IsIn u before) r.start (next_of g v) e r.one_of in
+    let here : IsIn r.start before = each_member (λ u. IsIn u before) (edges_of g v) e r.start r.one_of in
     elim r.reaches.way [
       | inl same ↦ subst (λ (u : ℕ). IsIn u before) same here
       | inr t ↦ stays g before r.start t.1.between w c (c r.start here) t.1.walk
@@ -88,7 +88,7 @@ order_contracted signals g before (v ∷ vs) s c =
 
 -- ---- cycles
 
-through_version : (signals : ℕ) (g : Graph) (v x w : ℕ) → signals ≤ x → HasEdge g v x → ReachedFrom signals g (next_of g x) w → ReachedFrom signals g (next_of g v) w
+through_version : (signals : ℕ) (g : Graph) (v x w : ℕ) → signals ≤ x → HasEdge g v x → ReachedFrom signals g (edges_of g x) w → ReachedFrom signals g (edges_of g v) w
 through_version signals g v x w h e r = record { start = x; one_of = e; reaches = to_version signals g x w h r }
 
 skipped : (signals : ℕ) (g : Graph) (v x : ℕ) (ys : List ℕ) (w : ℕ) → signals ≤ x → HasEdge g v x → SignalsLead signals g x ys w → SignalsLead signals g v ys w
@@ -106,8 +106,8 @@ walk_contracted signals g v (x ∷ xs) w h l =
 
 -- the least vertex of a cycle is a signal, since versions read what was there before them
 pub cycle_begins : (signals : ℕ) (g : Graph) (v : ℕ) (vs : List ℕ) → IsLayered signals g → IsCycle g (v ∷ vs) → v < signals
-cycle_begins signals g v [] is c = elim (cases_lt v signals) [ inl low ↦ low | inr high ↦ absurd (omega (arith, each_at (λ w. w < v) v (next_of g v) (is v high) c.0)) ]
-cycle_begins signals g v (x ∷ xs) is c = elim (cases_lt v signals) [ inl low ↦ low | inr high ↦ absurd (omega (arith, each_at (λ w. w < v) x (next_of g v) (is v high) c.0.0, c.2.0)) ]
+cycle_begins signals g v [] is c = elim (cases_lt v signals) [ inl low ↦ low | inr high ↦ absurd (omega (arith, each_member (λ w. w < v) (edges_of g v) (is v high) v c.0)) ]
+cycle_begins signals g v (x ∷ xs) is c = elim (cases_lt v signals) [ inl low ↦ low | inr high ↦ absurd (omega (arith, each_member (λ w. w < v) (edges_of g v) (is v high) x c.0.0, c.2.0)) ]
 
 -- ---- whole orders, and whole cycles
 

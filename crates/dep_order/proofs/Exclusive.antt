@@ -2,14 +2,15 @@
 use Rattle.std.proofs.Common.{◌≡◌, Bool, true, List, [], ◌∷◌, map, Option, Some, ◌⊎◌, inl, inr, refl, sym, subst, ap, ◌∙◌}
 use Rattle.std.proofs.lemmas.Option.{none-some}
 use Rattle.tree_core.specs.Tree.{Tree, Const, Leaf, One, Two, Mux}
-use Rattle.exec_core.specs.Lists.{IsIn}
+use Rattle.list_core.specs.Lists.{IsIn}
 use Rattle.exec_core.specs.Leaves.{EachLeaf}
 use Rattle.exec_core.specs.Whole.{Place, Drivers, IsGiven, IsOrder, StandsInOrder, or_itself}
 use Rattle.exec_core.specs.Design.{driver_of}
 use Rattle.design_exec.specs.Processes.{processes_of, is_signal_of}
 use Rattle.dep_order.specs.Standing.{SomeLeaf}
-use Rattle.dep_order.specs.Results.{Pair, signal_at, DependsOn, Depend, IsLoop, OrdersHaveNoLoop}
-use Rattle.dep_order.proofs.Answered.{is_signal}
+use Rattle.dep_order.specs.Results.{DependsOn, Depend, IsLoop, OrdersHaveNoLoop}
+use Rattle.place_core.specs.Orders.{Pair, signal_at}
+use Rattle.place_core.proofs.Signals.{is_signal}
 
 -- a leaf with both facts
 leaf_of : {A : Type 0} (P Q : A → Type 0) (t : Tree A) → EachLeaf P t → SomeLeaf Q t → (x : A) × (P x × Q x)

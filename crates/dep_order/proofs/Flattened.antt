@@ -1,7 +1,7 @@
 -- Versions of names in a map.
 use Rattle.std.proofs.Common.{◌≡◌, ℕ, Bool, true, false, bytes_eq, List, Option, Some, if◌then◌else◌, refl, ap, ◌∙◌}
 use Rattle.exec_core.specs.Block.{Name}
-use Rattle.check_core.specs.Maps.{value_of, put_value}
+use Rattle.names.specs.Maps.{value_of, put_value}
 use Rattle.dep_order.specs.Blocks.{flat, version_of, put_version}
 
 flat_if : (b : Bool) (v : Option ℕ) (o : Option (Option ℕ)) → flat (if b then Some v else o) ≡ (if b then v else flat o)

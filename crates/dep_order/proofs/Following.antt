@@ -14,13 +14,15 @@ use Rattle.design_core.specs.declared.statement.Stmt.TheVariants as code_stmts
 use Rattle.design_core.proofs.Views.{stmt_assign, stmt_let, stmt_if}
 use Rattle.design_core.specs.Slots.{size, stmt_size, else_size}
 use Rattle.design_core.specs.View.{stmt_of, body_of, else_of, expr_of}
-use Rattle.graph_order.specs.Lists.{EachOf, IsIn}
+use Rattle.list_core.specs.Lists.{EachOf, IsIn}
 use Rattle.design_core.specs.Design as design
 use Rattle.design_exec.specs.Processes as processes
 use Rattle.graph_order.specs.Graphs.{Graph, IsGraph}
-use Rattle.check_core.specs.Known.{Known, either, has}
-use Rattle.dep_order.specs.Standing.{Numbers, Stand, AllStand, AllVertices, AreVertices, read_by}
-use Rattle.dep_order.specs.Blocks.{Versions, single, listed, readings, three, put_version, Grown, MadeVersion, IsReady, Followed, Merged, sets, step_set, branches, assigned_by, assigned_in, assigned_else, step_by, step_in, step_else}
+use Rattle.names.specs.Known.{Known, either, has}
+use Rattle.dep_order.specs.Standing.{Stand, AllStand, AllVertices, AreVertices, read_by}
+use Rattle.place_core.specs.Numbering.{Numbers}
+use Rattle.dep_order.specs.Blocks.{Versions, single, listed, readings, three, put_version, Grown, MadeVersion, IsReady, Followed, Merged, sets, step_set, branches, step_by, step_in, step_else}
+use Rattle.place_core.specs.Assigned.{assigned_by, assigned_in, assigned_else}
 use Rattle.dep_order.proofs.Versions.{mux_stands, reads_stand, reads_vertices, stand_kept, three_vertices}
 use Rattle.dep_order.proofs.Growing.{grown_same, grown_after, grown_graph, grown_keeps, vertices_more, all_vertices_more, all_kept, made_vertices, made_stands}
 use Rattle.dep_order.proofs.Branches.{put_here, put_elsewhere}

@@ -5,11 +5,12 @@ use Rattle.std.proofs.lemmas.List.{get_or_append_left, get_or_push, get_or_past}
 use Rattle.tree_core.specs.Tree.{Tree}
 use Rattle.exec_core.specs.Block.{Name, Now}
 use Rattle.exec_core.specs.Exec.{Env}
-use Rattle.graph_order.specs.Lists.{EachOf}
-use Rattle.graph_order.specs.Graphs.{Graph, next_of, IsGraph}
-use Rattle.graph_order.proofs.Lists.{each_map}
+use Rattle.list_core.specs.Lists.{EachOf}
+use Rattle.graph_order.specs.Graphs.{Graph, edges_of, IsGraph}
+use Rattle.list_core.proofs.Lists.{each_map}
 use Rattle.dep_order.specs.Reaching.{KeepsVersions}
-use Rattle.dep_order.specs.Standing.{Numbers, Readings, Stand, AllStand, AreVertices, AllVertices}
+use Rattle.dep_order.specs.Standing.{Readings, Stand, AllStand, AreVertices, AllVertices}
+use Rattle.place_core.specs.Numbering.{Numbers}
 use Rattle.dep_order.specs.Blocks.{single, Reads, Grown, AddedFor, MadeVersion}
 use Rattle.dep_order.proofs.Versions.{stand_kept, version_stands}
 
@@ -33,9 +34,9 @@ grown_after g h k a b = record {
 pub grown_graph : (g h : Graph) → IsGraph g → Grown g h → IsGraph h
 grown_graph g h is a v =
     elim (cases_lt v (length g)) [
-      | inl low ↦ subst (EachOf (λ w. w < length h)) (sym (a.kept v low)) (each_map (λ w. w < length g) (λ w. w < length h) (next_of g v) (λ w i. omega (arith, a.longer)) (is v))
+      | inl low ↦ subst (EachOf (λ w. w < length h)) (sym (a.kept v low)) (each_map (λ w. w < length g) (λ w. w < length h) (edges_of g v) (λ w i. omega (arith, a.longer)) (is v))
       | inr high ↦ elim (cases_lt v (length h)) [
-        | inl low ↦ each_map (λ w. w < v) (λ w. w < length h) (next_of h v) (λ w i. omega arith) (a.lower v high)
+        | inl low ↦ each_map (λ w. w < v) (λ w. w < length h) (edges_of h v) (λ w i. omega arith) (a.lower v high)
         | inr past ↦ subst (EachOf (λ w. w < length h)) (sym (get_or_past h v [] past)) tt
       ]
     ]
@@ -60,7 +61,7 @@ pub push_made : (g h : Graph) (v : ℕ) (vs : List ℕ) → h ≡ g ++ vs ∷ []
 push_made g h v vs is at = record {
   added = omega arith;
   within = omega (arith, ap length is, length-append g (vs ∷ []));
-  next = ap (λ (k : Graph). next_of k v) is ∙ get_or_push g vs [] v (sym at);
+  next = ap (λ (k : Graph). edges_of k v) is ∙ get_or_push g vs [] v (sym at);
 }
 
 -- ---- what stands for a tree

@@ -3,13 +3,13 @@ use Rattle.std.proofs.Common.{◌≡◌, ◌≢◌, ℕ, ◌<◌, ◌≤◌, Lis
 use Rattle.std.specs.Prelude.{slice_get}
 use Rattle.std.proofs.lemmas.Bool.{cases_lt}
 use Rattle.exec_core.specs.Block.{Name}
-use Rattle.graph_order.specs.Lists.{EachOf}
-use Rattle.graph_order.specs.Graphs.{Graph, next_of}
-use Rattle.dep_order.specs.Standing.{Numbers}
+use Rattle.list_core.specs.Lists.{EachOf}
+use Rattle.graph_order.specs.Graphs.{Graph, edges_of}
+use Rattle.place_core.specs.Numbering.{Numbers}
 use Rattle.dep_order.specs.Blocks.{AreSignals, Grown}
 use Rattle.dep_order.specs.Wiring.{KeepsOthers, StaysLayered}
 use Rattle.dep_order.specs.Linking.{AllLayered}
-use Rattle.dep_order.proofs.Numbers.{each_get}
+use Rattle.place_core.proofs.Numbers.{each_get}
 
 pub layered_same : (g : Graph) (numbers : Numbers) → StaysLayered g g numbers
 layered_same g numbers signals are low l = l
@@ -17,7 +17,7 @@ layered_same g numbers signals are low l = l
 pub layered_both : (g h k : Graph) (numbers : Numbers) → length g ≤ length h → StaysLayered g h numbers → StaysLayered h k numbers → StaysLayered g k numbers
 layered_both g h k numbers more first second signals are low l = second signals are (omega (arith, low, more)) (first signals are low l)
 
-pub layered_set : (g h : Graph) (numbers : Numbers) (x : Name) (n : ℕ) → numbers x ≡ Some n → ((v : ℕ) → v ≢ n → next_of h v ≡ next_of g v) → StaysLayered g h numbers
+pub layered_set : (g h : Graph) (numbers : Numbers) (x : Name) (n : ℕ) → numbers x ≡ Some n → ((v : ℕ) → v ≢ n → edges_of h v ≡ edges_of g v) → StaysLayered g h numbers
 layered_set g h numbers x n e same signals are low l v high =
     let below : n < signals = are x n e in
     subst (EachOf (λ w. w < v)) (sym (same v (λ f. absurd (omega (arith, f, below, high))))) (l v high)

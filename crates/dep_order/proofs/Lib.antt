@@ -2,7 +2,6 @@ mod Walks
 mod Versions
 mod Flattened
 mod Growing
-mod Targets
 mod Branches
 mod Following
 mod Blocks
@@ -14,12 +13,10 @@ mod Outputs
 mod Joining
 mod Sampled
 mod Contracted
-pub mod Counted
-pub mod Numbers
 pub mod Linked
 pub mod Layers
 pub mod Answered
 pub mod Started
 pub mod Sound
 pub mod Exclusive
-pub mod Ready
+pub mod Found

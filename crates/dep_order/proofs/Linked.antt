@@ -1,9 +1,9 @@
 -- Links and processes of all instances, one after another.
-use Rattle.std.proofs.Common.{◌≡◌, ℕ, zero, suc, ◌+◌, ◌<◌, ◌≤◌, Bool, true, false, List, [], ◌∷◌, ◌++◌, length, map, take, drop, get_or, Some, ◌⊎◌, inl, inr, refl, sym, subst, ap, ◌∙◌, arith, append_assoc, if◌then◌else◌}
+use Rattle.std.proofs.Common.{◌≡◌, ℕ, zero, suc, ◌+◌, ◌<◌, ◌≤◌, Bool, true, false, List, [], ◌∷◌, ◌++◌, length, map, take, get_or, Some, ◌⊎◌, inl, inr, refl, sym, subst, ap, ◌∙◌, arith, append_assoc, if◌then◌else◌}
 use Rattle.tree_core.specs.Tree.{Leaf}
 use Rattle.std.specs.Prelude.{slice_get, option_map, option_and_then}
 use Rattle.std.specs.List.{enumerate_from, flat_map}
-use Rattle.std.proofs.lemmas.List.{take_more, map_push, append-nil, drop_more, drop_all}
+use Rattle.std.proofs.lemmas.List.{take_more, map_push, append-nil}
 use Rattle.std.proofs.lemmas.Grind.{flat_map-append}
 use Rattle.std.proofs.lemmas.Option.{slice_get_read, slice_get-map}
 use Rattle.exec_core.specs.Block.{Name}
@@ -18,16 +18,16 @@ use Rattle.design_core.specs.View.{child_of}
 use Rattle.design_core.specs.Design as design
 use Rattle.design_exec.specs.Processes as processes
 use Rattle.design_exec.specs.Processes.{conn_link, kept_below, links_at, numbers_below, output_link, stands_in}
-use Rattle.check_core.specs.Maps.{value_of}
-use Rattle.graph_order.specs.Lists.{EachOf}
-use Rattle.graph_order.proofs.Lists.{each_append, each_map}
+use Rattle.names.specs.Maps.{value_of}
+use Rattle.list_core.specs.Lists.{EachOf}
+use Rattle.list_core.proofs.Lists.{each_append, each_map}
 use Rattle.graph_order.specs.Graphs.{Graph}
-use Rattle.dep_order.specs.Standing.{Numbers}
+use Rattle.place_core.specs.Numbering.{Numbers, numbers_of, number_in}
 use Rattle.dep_order.specs.Blocks.{AreSignals}
-use Rattle.dep_order.specs.Wiring.{Link, driver_in, is_met, AreOf, IsWired, DrivesBlocks, DrivesConns, DrivesOutput}
-use Rattle.dep_order.specs.Numbering.{numbers_of, number_in}
-use Rattle.dep_order.specs.Linking.{AreBelow, DrivesLinks, DrivesProcesses, links_of_child, link_of_output}
-use Rattle.dep_order.proofs.Numbers.{each_get}
+use Rattle.dep_order.specs.Wiring.{driver_in, is_met, AreOf, IsWired, DrivesBlocks, DrivesConns, DrivesOutput}
+use Rattle.place_core.specs.Linking.{Link, links_of_child, link_of_output}
+use Rattle.dep_order.specs.Linking.{AreBelow, DrivesLinks, DrivesProcesses}
+use Rattle.place_core.proofs.Numbers.{each_get}
 
 -- ---- numbers
 
@@ -103,17 +103,6 @@ pub signals_more : {B : Type 0} (f : Signal → List B) (xs : List Signal) (i : 
 signals_more f xs i x h e = ap (flat_map f) (take_more xs i x h ∙ ap (λ y. take i xs ++ y ∷ []) (sym e)) ∙ flat_push f (take i xs) x
 
 -- ---- the numbers below
-
-pub next_below : (i n : ℕ) (list : List Instance) (r : Instance) (below after : List ℕ) → n < length list → r ≡ get_or list n r → after ≡ below ++ kept_below i (n, r) →
-    after ++ flat_map (kept_below i) (enumerate_from (n + 1) (drop (n + 1) list)) ≡ below ++ flat_map (kept_below i) (enumerate_from n (drop n list))
-next_below i n list r below after h e is =
-    ap (λ (ks : List ℕ). ks ++ flat_map (kept_below i) (enumerate_from (n + 1) (drop (n + 1) list))) is
-    ∙ append_assoc below (kept_below i (n, r)) (flat_map (kept_below i) (enumerate_from (n + 1) (drop (n + 1) list)))
-    ∙ ap (λ (z : Instance). below ++ flat_map (kept_below i) (enumerate_from n (z ∷ drop (n + 1) list))) e
-    ∙ sym (ap (λ (l : List Instance). below ++ flat_map (kept_below i) (enumerate_from n l)) (drop_more list n r h))
-
-pub last_below : (i n : ℕ) (list : List Instance) (below : List ℕ) → length list ≤ n → below ++ flat_map (kept_below i) (enumerate_from n (drop n list)) ≡ below
-last_below i n list below past = ap (λ (l : List Instance). below ++ flat_map (kept_below i) (enumerate_from n l)) (drop_all n list past) ∙ append-nil below
 
 below_from : (i n : ℕ) (list : List Instance) → EachOf (λ j. j < n + length list) (flat_map (kept_below i) (enumerate_from n list))
 below_from i n [] = tt

@@ -9,14 +9,16 @@ use Rattle.exec_core.specs.Whole.{Place}
 use Rattle.exec_core.specs.Design.{Process, place, moved, links_to, assigns_to, process_tree, or_else}
 use Rattle.design_core.specs.Design as design
 use Rattle.design_exec.specs.Processes as processes
-use Rattle.graph_order.specs.Graphs.{Graph, next_of, IsGraph}
-use Rattle.check_core.specs.Known.{Known, has}
-use Rattle.dep_order.specs.Names.{names_at}
+use Rattle.graph_order.specs.Graphs.{Graph, edges_of, IsGraph}
+use Rattle.names.specs.Known.{Known, has}
+use Rattle.place_core.specs.Assigned.{names_at}
 use Rattle.dep_order.specs.Reaching.{KeepsVersions}
-use Rattle.dep_order.specs.Standing.{Numbers, Stand, StandFor, AreVertices}
+use Rattle.dep_order.specs.Standing.{Stand, StandFor, AreVertices}
+use Rattle.place_core.specs.Numbering.{Numbers, PlaceNumbers}
 use Rattle.dep_order.specs.Blocks.{Versions, single, owns, end_trees, Grown, EndsStand}
-use Rattle.dep_order.specs.Wiring.{PlaceNumbers, AreNumbers, AreOf, Link, DriverStands, IsWired, met_with, driver_with, Drives, DrivesBlock, DrivesName, DrivesNames, KeepsOthers, met_named, driver_named, BlockIsProcess, LinkIsMet}
-use Rattle.dep_order.proofs.Targets.{has_push}
+use Rattle.dep_order.specs.Wiring.{AreNumbers, AreOf, DriverStands, IsWired, met_with, driver_with, Drives, DrivesBlock, DrivesName, DrivesNames, KeepsOthers, met_named, driver_named, BlockIsProcess, LinkIsMet}
+use Rattle.place_core.specs.Linking.{Link}
+use Rattle.place_core.proofs.Targets.{has_push}
 use Rattle.dep_order.proofs.Versions.{stand_kept}
 use Rattle.dep_order.proofs.Growing.{grown_keeps}
 use Rattle.dep_order.proofs.Wires.{moved_stands, driver_kept, wired_as, pick_other, not_same, find_push, link_drives, link_meets}
@@ -133,7 +135,7 @@ pub wired_grown : (signals : ℕ) (number : PlaceNumbers) (g h : Graph) (driven 
 wired_grown signals number g h driven met driver is a low are w p n e = record {
   marked = (w p n e).marked;
   stands = subst (λ (vs : List ℕ). DriverStands signals h number vs (driver p)) (sym (a.kept n (omega (arith, are.below p n e))))
-      (driver_kept signals g h number (next_of g n) (driver p) is (grown_keeps signals g h a) (is n) (w p n e).stands);
+      (driver_kept signals g h number (edges_of g n) (driver p) is (grown_keeps signals g h a) (is n) (w p n e).stands);
 }
 
 -- ---- processes

@@ -4,7 +4,8 @@ use Rattle.tree_core.specs.Tree.{Leaf}
 use Rattle.exec_core.specs.Block.{Name}
 use Rattle.exec_core.specs.Design.{place}
 use Rattle.graph_order.specs.Graphs.{Graph}
-use Rattle.dep_order.specs.Standing.{Numbers, StandFor}
+use Rattle.dep_order.specs.Standing.{StandFor}
+use Rattle.place_core.specs.Numbering.{Numbers}
 use Rattle.dep_order.specs.Blocks.{listed}
 use Rattle.dep_order.specs.Wiring.{driver_in, is_met, Drives, DrivesOutput}
 use Rattle.dep_order.proofs.Blocks.{signal_stands}

@@ -5,10 +5,11 @@ use Rattle.exec_core.specs.Block.{Name, Expr, key_name}
 use Rattle.exec_core.specs.Exec.{Env, on_one, on_two, on_three}
 use Rattle.exec_core.specs.Trees.{tree_in}
 use Rattle.exec_core.specs.Design.{place, moved}
-use Rattle.graph_order.specs.Lists.{EachOf}
+use Rattle.list_core.specs.Lists.{EachOf}
 use Rattle.graph_order.specs.Graphs.{Graph}
-use Rattle.check_core.specs.Known.{Known, none}
-use Rattle.dep_order.specs.Standing.{Numbers, Stand, StandFor, AllStand, read_by, AreVertices}
+use Rattle.names.specs.Known.{Known, none}
+use Rattle.dep_order.specs.Standing.{Stand, StandFor, AllStand, read_by, AreVertices}
+use Rattle.place_core.specs.Numbering.{Numbers}
 use Rattle.dep_order.specs.Blocks.{Versions, readings, no_versions, Reads, AreSignals}
 use Rattle.dep_order.specs.Wiring.{Drives, DrivesBy}
 use Rattle.dep_order.proofs.Versions.{reads_stand, reads_vertices}

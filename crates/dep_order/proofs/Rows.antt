@@ -9,9 +9,10 @@ use Rattle.design_core.specs.View.{block_of, conn_of}
 use Rattle.design_core.specs.Design as design
 use Rattle.design_exec.specs.Processes as processes
 use Rattle.graph_order.specs.Graphs.{Graph}
-use Rattle.dep_order.specs.Standing.{Numbers}
+use Rattle.place_core.specs.Numbering.{Numbers}
 use Rattle.dep_order.specs.Blocks.{owns, end_trees}
-use Rattle.dep_order.specs.Wiring.{Link, driver_in, is_met, IsWired, met_named, driver_named, DrivesBlock, DrivesBlocks, DrivesBy, DrivesConn, DrivesConns}
+use Rattle.dep_order.specs.Wiring.{driver_in, is_met, IsWired, met_named, driver_named, DrivesBlock, DrivesBlocks, DrivesBy, DrivesConn, DrivesConns}
+use Rattle.place_core.specs.Linking.{Link}
 use Rattle.dep_order.proofs.Wires.{wired_as, pick_other, not_same}
 use Rattle.dep_order.proofs.Names.{block_is_process, link_is_met}
 

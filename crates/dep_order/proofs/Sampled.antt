@@ -13,7 +13,7 @@ reaches = record {
 pub is_a_cycle : ring_is_a_cycle
 is_a_cycle = (
   (reaches, record { start = 0; one_of = inl refl; reaches = record { signal = omega arith; way = inl refl } }),
-  ((λ h. elim h [ inl e ↦ absurd (omega (arith, e)) | inr k ↦ absurd k ]), ((λ k. k), tt)),
+  (((λ e. omega (arith, e)), tt), (tt, tt)),
   (omega arith, tt),
   (omega arith, (omega arith, tt)),
 )

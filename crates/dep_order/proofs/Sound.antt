@@ -5,7 +5,7 @@ use Rattle.std.proofs.lemmas.Option.{none-some}
 use Rattle.tree_core.specs.Tree.{Tree}
 use Rattle.tree_core.specs.Width.{WellFormed}
 use Rattle.tree_core.proofs.Same.{both_true}
-use Rattle.exec_core.specs.Lists.{AreApart, IsIn}
+use Rattle.list_core.specs.Lists.{AreApart, IsIn}
 use Rattle.exec_core.specs.Block.{Name, Now, own, body_slots}
 use Rattle.exec_core.specs.Trees.{block_trees}
 use Rattle.exec_core.specs.Paths.{BodySkips, Checked, TreeFits, TreesChecked}
@@ -14,9 +14,9 @@ use Rattle.exec_core.specs.Design.{Process, place, moved, signals_of, width_in, 
 use Rattle.exec_core.specs.Run as run
 use Rattle.exec_core.specs.Accepted.{LinkFits}
 use Rattle.exec_core.proofs.Checking.{trees_checked}
-use Rattle.exec_core.proofs.Lists.{each_member, filter_member, find_member, flat_map_apart}
+use Rattle.list_core.proofs.Lists.{each_member, filter_member, find_member, flat_map_apart}
 use Rattle.exec_core.proofs.Moving.{moved_fits, good_leaves}
-use Rattle.exec_core.proofs.Slots.{some_same}
+use Rattle.list_core.proofs.Options.{some_same}
 use Rattle.design_core.specs.Design as design
 use Rattle.design_exec.specs.Processes.{processes_of, is_signal_of}
 use Rattle.check_exec.specs.Premises.{IsSound}
@@ -24,7 +24,7 @@ use Rattle.check_exec.proofs.Checks.{blocks_are_checked}
 use Rattle.check_exec.proofs.Latches.{no_latch_is_left}
 use Rattle.check_exec.proofs.Links.{links_fit}
 use Rattle.check_exec.proofs.Slots.{slots_are_apart}
-use Rattle.dep_order.specs.Wiring.{Link}
+use Rattle.place_core.specs.Linking.{Link}
 use Rattle.dep_order.specs.Ordering.{is_met_in, AcceptedAreTrees}
 
 module _ (d : design.Design) (sound : IsSound d) where

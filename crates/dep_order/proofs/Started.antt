@@ -3,18 +3,16 @@ use Rattle.std.proofs.Common.{◌≡◌, ℕ, suc, ◌<◌, Bool, false, List, [
 use Rattle.std.specs.Prelude.{slice_get, option_and_then}
 use Rattle.exec_core.specs.Block.{Name}
 use Rattle.exec_core.specs.Design.{place}
-use Rattle.exec_core.proofs.Slots.{some_same}
+use Rattle.list_core.proofs.Options.{some_same}
 use Rattle.design_core.specs.Design as design
-use Rattle.graph_order.specs.Lists.{EachOf}
-use Rattle.graph_order.specs.Graphs.{Graph, next_of}
+use Rattle.list_core.specs.Lists.{EachOf}
+use Rattle.graph_order.specs.Graphs.{Graph, edges_of}
 use Rattle.dep_order.specs.Reaching.{IsLayered}
-use Rattle.dep_order.specs.Standing.{Numbers}
+use Rattle.place_core.specs.Numbering.{Numbers, PlaceNumbers, AllCounted, number_in, numbers_of, AreCounted}
 use Rattle.dep_order.specs.Blocks.{AreSignals}
-use Rattle.dep_order.specs.Wiring.{PlaceNumbers, AreNumbers, driver_in, is_met, IsWired}
-use Rattle.dep_order.specs.Numbering.{AllCounted, number_in, numbers_of}
+use Rattle.dep_order.specs.Wiring.{AreNumbers, driver_in, is_met, IsWired}
 use Rattle.dep_order.specs.Linking.{AreBelow}
-use Rattle.dep_order.specs.Ordering.{AreCounted}
-use Rattle.dep_order.proofs.Numbers.{at_within, numbered}
+use Rattle.place_core.proofs.Numbers.{at_within, numbered}
 
 each_from_get : {A : Type 0} (P : A → Type 0) (xs : List A) → ((i : ℕ) (x : A) → slice_get xs i ≡ Some x → P x) → EachOf P xs
 each_from_get P [] f = tt
@@ -39,8 +37,8 @@ maps_count d maps all counted e = sym (mapped maps) ∙ sym (ap length e) ∙ (n
     mapped [] = refl
     mapped (m ∷ ms) = ap (λ n. suc n) (mapped ms)
 
-pub start_wired : (signals : ℕ) (number : PlaceNumbers) (g : Graph) (driven : List Bool) → ((v : ℕ) → next_of g v ≡ []) → ((v : ℕ) → get_or driven v false ≡ false) → IsWired signals number g driven (is_met [] []) (driver_in [] [])
+pub start_wired : (signals : ℕ) (number : PlaceNumbers) (g : Graph) (driven : List Bool) → ((v : ℕ) → edges_of g v ≡ []) → ((v : ℕ) → get_or driven v false ≡ false) → IsWired signals number g driven (is_met [] []) (driver_in [] [])
 start_wired signals number g driven none unmarked p n e = record { marked = unmarked n; stands = none n }
 
-pub start_layered : (signals : ℕ) (g : Graph) → ((v : ℕ) → next_of g v ≡ []) → IsLayered signals g
+pub start_layered : (signals : ℕ) (g : Graph) → ((v : ℕ) → edges_of g v ≡ []) → IsLayered signals g
 start_layered signals g none v high = subst (EachOf (λ w. w < v)) (sym (none v)) tt

@@ -8,12 +8,13 @@ use Rattle.exec_core.specs.Block.{Name, Expr}
 use Rattle.exec_core.specs.Exec.{Env, on_one, on_two, on_three}
 use Rattle.exec_core.specs.Trees.{tree_in}
 use Rattle.exec_core.specs.Leaves.{EachLeaf}
-use Rattle.exec_core.proofs.Slots.{some_same}
+use Rattle.list_core.proofs.Options.{some_same}
 use Rattle.exec_core.proofs.Wholes.{each_leaf}
-use Rattle.graph_order.specs.Graphs.{Graph, next_of, IsGraph}
-use Rattle.graph_order.proofs.Lists.{each_at, each_append}
+use Rattle.graph_order.specs.Graphs.{Graph, edges_of, IsGraph}
+use Rattle.list_core.proofs.Lists.{each_member, each_append}
 use Rattle.dep_order.specs.Reaching.{Reaches, ReachedFrom, KeepsVersions}
-use Rattle.dep_order.specs.Standing.{Numbers, Readings, StandFor, Stand, AllStand, read_by, AreVertices, AllVertices}
+use Rattle.dep_order.specs.Standing.{Readings, StandFor, Stand, AllStand, read_by, AreVertices, AllVertices}
+use Rattle.place_core.specs.Numbering.{Numbers}
 use Rattle.dep_order.proofs.Walks.{itself, signal_alone, from_version, to_version, reaches_kept, reaches_back, from_left, from_right, from_cases}
 
 -- ---- from leaves up
@@ -117,7 +118,7 @@ stand_kept signals g h number None (Some t) is k w s = s
 stand_kept signals g h number (Some vs) None is k w s = s
 stand_kept signals g h number (Some vs) (Some t) is k w s = record {
   leaves = each_leaf (λ x f n e. let r = f n e in record { start = r.start; one_of = r.one_of; reaches = reaches_kept signals g h r.start n k r.reaches }) t s.leaves;
-  nothing_else = λ n r. s.nothing_else n (record { start = r.start; one_of = r.one_of; reaches = reaches_back signals g h r.start n is k (each_at (λ v. v < length g) r.start vs w r.one_of) r.reaches });
+  nothing_else = λ n r. s.nothing_else n (record { start = r.start; one_of = r.one_of; reaches = reaches_back signals g h r.start n is k (each_member (λ v. v < length g) vs w r.start r.one_of) r.reaches });
 }
 
 -- a version of what a list reads, in place of the list
@@ -126,12 +127,12 @@ one_version v None = None
 one_version v (Some vs) = Some (v ∷ [])
 
 pub version_stands : (signals : ℕ) (h : Graph) (number : Numbers) (v : ℕ) (o : Option (List ℕ)) (t : Option (Tree Name)) → signals ≤ v →
-    ((vs : List ℕ) → o ≡ Some vs → next_of h v ≡ vs) → Stand signals h number o t → Stand signals h number (one_version v o) t
+    ((vs : List ℕ) → o ≡ Some vs → edges_of h v ≡ vs) → Stand signals h number o t → Stand signals h number (one_version v o) t
 version_stands signals h number v None None high next s = tt
 version_stands signals h number v None (Some t) high next s = s
 version_stands signals h number v (Some vs) None high next s = s
 version_stands signals h number v (Some vs) (Some t) high next s =
-    let is : next_of h v ≡ vs = next vs refl in
+    let is : edges_of h v ≡ vs = next vs refl in
     record {
       leaves = each_leaf (λ x f n e. record { start = v; one_of = inl refl; reaches = to_version signals h v n high (subst (λ (us : List ℕ). ReachedFrom signals h us n) (sym is) (f n e)) }) t s.leaves;
       nothing_else = λ n r. elim r.one_of [

@@ -1,9 +1,9 @@
 -- What is reached through versions alone.
 use Rattle.std.proofs.Common.{◌≡◌, ℕ, ◌<◌, ◌≤◌, List, [], ◌∷◌, ◌++◌, ◌⊎◌, inl, inr, length, refl, sym, subst, arith}
-use Rattle.graph_order.specs.Lists.{EachOf, IsIn}
-use Rattle.graph_order.specs.Graphs.{Graph, next_of, HasEdge, IsGraph}
+use Rattle.list_core.specs.Lists.{EachOf, IsIn}
+use Rattle.graph_order.specs.Graphs.{Graph, edges_of, HasEdge, IsGraph}
 use Rattle.graph_order.specs.Cycles.{Leads}
-use Rattle.graph_order.proofs.Lists.{each_at, in_left, in_right, in_cases}
+use Rattle.list_core.proofs.Lists.{each_member, in_left, in_right, in_cases}
 use Rattle.graph_order.proofs.Standing.{edge_within}
 use Rattle.dep_order.specs.Reaching.{Reaches, ReachedFrom, KeepsVersions}
 
@@ -27,18 +27,18 @@ one_step signals g v x w h e r = record {
   );
 }
 
-walk_from : (signals : ℕ) (g : Graph) (v : ℕ) (xs : List ℕ) (w : ℕ) → w < signals → EachOf (λ x. signals ≤ x) xs → Leads g v xs w → ReachedFrom signals g (next_of g v) w
+walk_from : (signals : ℕ) (g : Graph) (v : ℕ) (xs : List ℕ) (w : ℕ) → w < signals → EachOf (λ x. signals ≤ x) xs → Leads g v xs w → ReachedFrom signals g (edges_of g v) w
 walk_from signals g v [] w h e l = record { start = w; one_of = l; reaches = itself signals g w h }
 walk_from signals g v (x ∷ xs) w h e l = record { start = x; one_of = l.0; reaches = record { signal = h; way = inr (e.0, record { between = xs; versions = e.1; walk = l.1 }) } }
 
-pub from_version : (signals : ℕ) (g : Graph) (v w : ℕ) → signals ≤ v → Reaches signals g v w → ReachedFrom signals g (next_of g v) w
+pub from_version : (signals : ℕ) (g : Graph) (v w : ℕ) → signals ≤ v → Reaches signals g v w → ReachedFrom signals g (edges_of g v) w
 from_version signals g v w h r =
     elim r.way [
       | inl same ↦ absurd (omega (arith, r.signal, same))
       | inr t ↦ walk_from signals g v t.1.between w r.signal t.1.versions t.1.walk
     ]
 
-pub to_version : (signals : ℕ) (g : Graph) (v w : ℕ) → signals ≤ v → ReachedFrom signals g (next_of g v) w → Reaches signals g v w
+pub to_version : (signals : ℕ) (g : Graph) (v w : ℕ) → signals ≤ v → ReachedFrom signals g (edges_of g v) w → Reaches signals g v w
 to_version signals g v w h r = one_step signals g v r.start w h r.one_of r.reaches
 
 -- more graph, with the same versions
@@ -60,7 +60,7 @@ walk_back : (signals : ℕ) (g h : Graph) (v : ℕ) (xs : List ℕ) (w : ℕ) �
 walk_back signals g h v [] w is k m n e l = subst (IsIn w) (k v n m) l
 walk_back signals g h v (x ∷ xs) w is k m n e l =
     let here : HasEdge g v x = subst (IsIn x) (k v n m) l.0 in
-    (here, walk_back signals g h x xs w is k (each_at (λ u. u < length g) x (next_of g v) (is v) here) e.0 e.1 l.1)
+    (here, walk_back signals g h x xs w is k (each_member (λ u. u < length g) (edges_of g v) (is v) x here) e.0 e.1 l.1)
 
 pub reaches_back : (signals : ℕ) (g h : Graph) (v w : ℕ) → IsGraph g → KeepsVersions signals g h → v < length g → Reaches signals h v w → Reaches signals g v w
 reaches_back signals g h v w is k m r = record {

@@ -6,15 +6,17 @@ use Rattle.exec_core.specs.Block.{Name}
 use Rattle.exec_core.specs.Whole.{Place}
 use Rattle.exec_core.specs.Leaves.{EachLeaf}
 use Rattle.exec_core.specs.Design.{place, moved, same_place, links_to, or_else}
-use Rattle.exec_core.proofs.Slots.{some_same}
+use Rattle.list_core.proofs.Options.{some_same}
 use Rattle.exec_core.proofs.Sources.{same_place-sound, same_place-refl}
 use Rattle.exec_core.proofs.Wholes.{each_leaf}
-use Rattle.graph_order.specs.Lists.{EachOf}
-use Rattle.graph_order.specs.Graphs.{Graph, next_of, IsGraph}
-use Rattle.graph_order.proofs.Lists.{each_at}
+use Rattle.list_core.specs.Lists.{EachOf}
+use Rattle.graph_order.specs.Graphs.{Graph, edges_of, IsGraph}
+use Rattle.list_core.proofs.Lists.{each_member}
 use Rattle.dep_order.specs.Reaching.{ReachedFrom, KeepsVersions}
 use Rattle.dep_order.specs.Standing.{SomeLeaf, StandFor}
-use Rattle.dep_order.specs.Wiring.{PlaceNumbers, Link, driver_in, is_met, DriverStands, IsWiredAt, met_with, driver_with, Drives}
+use Rattle.dep_order.specs.Wiring.{driver_in, is_met, DriverStands, IsWiredAt, met_with, driver_with, Drives}
+use Rattle.place_core.specs.Linking.{Link}
+use Rattle.place_core.specs.Numbering.{PlaceNumbers}
 use Rattle.dep_order.proofs.Walks.{reaches_kept, reaches_back}
 
 -- ---- trees of an instance as trees of places
@@ -45,7 +47,7 @@ moved_stands signals g number i vs t s = record {
 pub stands_kept : {A : Type 0} (signals : ℕ) (g h : Graph) (number : A → Option ℕ) (vs : List ℕ) (t : Tree A) → IsGraph g → KeepsVersions signals g h → EachOf (λ v. v < length g) vs → StandFor signals g number vs t → StandFor signals h number vs t
 stands_kept signals g h number vs t is k w s = record {
   leaves = each_leaf (λ x f n e. let r = f n e in record { start = r.start; one_of = r.one_of; reaches = reaches_kept signals g h r.start n k r.reaches }) t s.leaves;
-  nothing_else = λ n r. s.nothing_else n (record { start = r.start; one_of = r.one_of; reaches = reaches_back signals g h r.start n is k (each_at (λ v. v < length g) r.start vs w r.one_of) r.reaches });
+  nothing_else = λ n r. s.nothing_else n (record { start = r.start; one_of = r.one_of; reaches = reaches_back signals g h r.start n is k (each_member (λ v. v < length g) vs w r.start r.one_of) r.reaches });
 }
 
 pub driver_kept : (signals : ℕ) (g h : Graph) (number : PlaceNumbers) (vs : List ℕ) (o : Option (Tree Place)) → IsGraph g → KeepsVersions signals g h → EachOf (λ v. v < length g) vs → DriverStands signals g number vs o → DriverStands signals h number vs o
@@ -124,7 +126,7 @@ drives_new g driven n edges graph low in_marks within off signals number met dri
           wired_as signals number (set g n edges) (set driven n true) (met p) (met_with q met p) (driver p) (driver_with q new met driver p) m picks.0 picks.1 (record {
             marked = get_or-set_other driven n m true false apart ∙ (w p m e).marked;
             stands = subst (λ (vs : List ℕ). DriverStands signals (set g n edges) number vs (driver p)) (sym (get_or-set_other g n m edges [] apart))
-                (driver_kept signals g (set g n edges) number (next_of g m) (driver p) graph (set_keeps signals g n edges (are.below q n is)) (graph m) (w p m e).stands);
+                (driver_kept signals g (set g n edges) number (edges_of g m) (driver p) graph (set_keeps signals g n edges (are.below q n is)) (graph m) (w p m e).stands);
           })
     ]
 

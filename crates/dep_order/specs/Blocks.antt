@@ -7,11 +7,13 @@ use Rattle.exec_core.specs.Exec.{Env, put, on_three}
 use Rattle.exec_core.specs.Trees.{trees_after, body_trees_after, block_trees, tree_in, merged}
 use Rattle.design_core.specs.Design as design
 use Rattle.design_exec.specs.Processes as processes
-use Rattle.graph_order.specs.Lists.{EachOf}
-use Rattle.graph_order.specs.Graphs.{Graph, next_of, IsGraph}
-use Rattle.check_core.specs.Known.{Known, has}
-use Rattle.check_core.specs.Maps.{value_of}
-use Rattle.dep_order.specs.Standing.{Numbers, Readings, Stand, AllStand, AreVertices, AllVertices}
+use Rattle.list_core.specs.Lists.{EachOf}
+use Rattle.graph_order.specs.Graphs.{Graph, edges_of, IsGraph}
+use Rattle.names.specs.Known.{Known, has}
+use Rattle.names.specs.Maps.{value_of}
+use Rattle.dep_order.specs.Standing.{Readings, Stand, AllStand, AreVertices, AllVertices}
+use Rattle.place_core.specs.Numbering.{Numbers}
+use Rattle.place_core.specs.Assigned.{assigned_in}
 
 -- the version of each own name, if it has one by now
 abbrev pub Versions : Type 0
@@ -50,8 +52,8 @@ Reads (Some vs) before after told = (told ≡ true) × (after ≡ before ++ vs)
 -- vertices that were added behind those of g, each with edges to vertices before it
 pub record Grown (g h : Graph) : Type 0 where
   pub longer : length g ≤ length h
-  pub kept : (v : ℕ) → v < length g → next_of h v ≡ next_of g v
-  pub lower : (v : ℕ) → length g ≤ v → EachOf (λ w. w < v) (next_of h v)
+  pub kept : (v : ℕ) → v < length g → edges_of h v ≡ edges_of g v
+  pub lower : (v : ℕ) → length g ≤ v → EachOf (λ w. w < v) (edges_of h v)
 
 -- what has a number has one below that of any version
 abbrev pub AreSignals : ℕ → Numbers → Type 0
@@ -61,7 +63,7 @@ AreSignals signals number = (x : Name) (n : ℕ) → number x ≡ Some n → n <
 pub record AddedFor (g h : Graph) (v : ℕ) (vs : List ℕ) : Type 0 where
   pub added : length g ≤ v
   pub within : v < length h
-  pub next : next_of h v ≡ vs
+  pub next : edges_of h v ≡ vs
 
 abbrev pub MadeVersion : Graph → Graph → Option ℕ → Option (List ℕ) → Type 0
 MadeVersion g h None None = Unit {0}
@@ -84,16 +86,6 @@ pub record Followed (own : Known) (number : Numbers) (g : Graph) (before : Versi
   pub ready : IsReady own number h after
   pub same : (x : Name) → assigned x ≡ false → after x ≡ before x
   pub stand : (signals : ℕ) (trees : Env (Tree Name)) → signals ≤ length g → AllStand signals g number (readings own number before) trees → AllStand signals h number (readings own number after) (step trees)
-
--- whether a name is assigned by `=` or `let`
-abbrev pub assigned_by : Bool → design.Stmt → Name → Bool
-assigned_by clocked s x = blocks.assigns (processes.stmt_of clocked s) (Now x)
-
-abbrev pub assigned_in : Bool → design.Body → Name → Bool
-assigned_in clocked b x = blocks.body_assigns (processes.body_of clocked b) (Now x)
-
-abbrev pub assigned_else : Bool → design.Else → Name → Bool
-assigned_else clocked e x = blocks.body_assigns (processes.else_of clocked e) (Now x)
 
 -- what a block's trees are afterwards
 abbrev pub step_by : Bool → design.Stmt → Env (Tree Name) → Env (Tree Name)

@@ -4,7 +4,8 @@ use Rattle.tree_core.specs.Tree.{Tree}
 use Rattle.exec_core.specs.Whole.{Place, Drivers, IsOrder, OverSignals}
 use Rattle.graph_order.specs.Graphs.{Graph}
 use Rattle.dep_order.specs.Signals.{IsSignalOrder, IsSignalCycle}
-use Rattle.dep_order.specs.Wiring.{PlaceNumbers, AreNumbers, IsWired}
+use Rattle.dep_order.specs.Wiring.{AreNumbers, IsWired}
+use Rattle.place_core.specs.Numbering.{PlaceNumbers}
 use Rattle.dep_order.specs.Results.{IsLoop}
 
 -- a graph whose signals are those of a design, each wired to its driver; `at` tells the place of a vertex

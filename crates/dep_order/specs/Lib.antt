@@ -1,12 +1,11 @@
 pub mod Reaching
 pub mod Standing
 pub mod Blocks
-pub mod Names
 pub mod Signals
 pub mod Wiring
 pub mod Results
 pub mod Joined
-pub mod Numbering
 pub mod Linking
 pub mod Ordering
 pub mod Samples
+pub mod Either

@@ -1,8 +1,6 @@
 -- From signals as numbers to signals as pairs of an instance and a place.
-use Rattle.std.specs.Prelude.{◌↔◌, None, ◌≡◌, ℕ, ◌≤◌, Bool, true, false, List, [], map, filter, length, is_some, slice_index_or, Some}
-use Rattle.tree_core.specs.Tree.{Tree, Origin}
-use Rattle.exec_core.specs.Lists.{IsIn}
-use Rattle.exec_core.specs.Accepted.{Accepted}
+use Rattle.std.specs.Prelude.{◌↔◌, ◌≡◌, ℕ, ◌≤◌, Bool, true, false, List, [], map, filter, length, is_some, slice_index_or, Some}
+use Rattle.tree_core.specs.Tree.{Tree}
 use Rattle.exec_core.specs.Whole.{Place, OverSignals}
 use Rattle.exec_core.specs.Design.{driver_of}
 use Rattle.design_core.specs.Design as design
@@ -11,11 +9,11 @@ use Rattle.graph_order.specs.Graphs.{Graph}
 use Rattle.check_exec.specs.Premises.{IsSound}
 use Rattle.dep_order.specs.declared.answer.OrderFault.{OrderFault}
 use Rattle.dep_order.specs.declared.answer.OrderFault.TheVariants.{CombLoop, NoMemory}
-use Rattle.dep_order.specs.Standing.{Numbers}
+use Rattle.place_core.specs.Numbering.{Numbers, AllCounted, number_in, AreCounted}
 use Rattle.dep_order.specs.Signals.{IsSignalOrder, IsSignalCycle}
 use Rattle.dep_order.specs.Wiring.{AreNumbers, driver_in, is_met, IsWired}
-use Rattle.dep_order.specs.Results.{Pair, TellsOrder, TellsLoop}
-use Rattle.dep_order.specs.Numbering.{AllCounted, count_instances, number_in}
+use Rattle.dep_order.specs.Results.{TellsLoop}
+use Rattle.place_core.specs.Orders.{Pair, TellsOrder}
 
 -- whether a link goes to a place, or a process assigns it
 abbrev pub is_met_in : design.Design → Place → Bool
@@ -48,10 +46,6 @@ DrivesDesign g driven h marked all d =
     IsWired signals (number_in all) g driven (is_met [] []) (driver_in [] []) →
     IsWired signals (number_in all) h marked (is_met_in d) (driver_of (processes_of d))
 
--- the numbers and pairs of a design's signals
-abbrev pub AreCounted : design.Design → AllCounted → Type 0
-AreCounted d all = all ≡ count_instances d 0 d.instances ([], [])
-
 -- the marked ones in an order of all signals' numbers are an order of the driven signals; and a cycle is a loop
 abbrev pub OrdersAnswer : Type 0
 OrdersAnswer =
@@ -71,13 +65,3 @@ TellsFault d NoMemory = Unit {0}
 -- in a design that the checks accept
 abbrev pub AcceptedAreTrees : Type 0
 AcceptedAreTrees = (d : design.Design) → IsSound d → DriversAreTrees d
-
--- an order that is told of an accepted design meets the premises of the theorem on runs
-abbrev pub OrdersAreAccepted : Type 0
-OrdersAreAccepted = (d : design.Design) (pairs : List Pair) → IsSound d → (told : TellsOrder d pairs) → Accepted (processes_of d) told.order
-
--- and the signals that are not driven are those that are given: the inputs of the top, and the registers
-abbrev pub OthersAreGiven : Type 0
-OthersAreGiven =
-    (d : design.Design) (pairs : List Pair) → IsSound d → TellsOrder d pairs → (p : Place) → is_signal_of d p ≡ true →
-    (driver_of (processes_of d) p ≡ None) ↔ ((given : Place × Origin) × IsIn given (processes_of d).givens × (given.0 ≡ p))

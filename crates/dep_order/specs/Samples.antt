@@ -3,11 +3,12 @@ use Rattle.std.specs.Prelude.{◌≡◌, [], ◌∷◌, Some, None, codes, if◌
 use Rattle.tree_core.specs.Tree.{Const, Leaf, Mux}
 use Rattle.exec_core.specs.Whole.{Place, Drivers}
 use Rattle.exec_core.specs.Design.{place, same_place}
-use Rattle.graph_order.specs.Graphs.{Graph, next_of}
+use Rattle.graph_order.specs.Graphs.{Graph, edges_of}
 use Rattle.dep_order.specs.Reaching.{ReachedFrom}
 use Rattle.dep_order.specs.Signals.{IsSignalCycle}
-use Rattle.dep_order.specs.Results.{DependsOn, IsLoop, signal_at}
-use Rattle.dep_order.specs.Numbering.{count_instances}
+use Rattle.dep_order.specs.Results.{DependsOn, IsLoop}
+use Rattle.place_core.specs.Orders.{signal_at}
+use Rattle.place_core.specs.Numbering.{count_instances}
 use Rattle.design_exec.specs.Sample.{elaborated}
 
 -- the signals 0 and 1, and the versions 2 and 3: 0 reads 3, which reads 2 and 0, and 2 reads 1; 1 reads 0
@@ -15,7 +16,7 @@ abbrev pub ring : Graph
 ring = (3 ∷ []) ∷ (0 ∷ []) ∷ (1 ∷ []) ∷ (2 ∷ 0 ∷ []) ∷ []
 
 abbrev pub reaches_through_two_versions : Type 0
-reaches_through_two_versions = ReachedFrom 2 ring (next_of ring 0) 1
+reaches_through_two_versions = ReachedFrom 2 ring (edges_of ring 0) 1
 
 abbrev pub ring_is_a_cycle : Type 0
 ring_is_a_cycle = IsSignalCycle 2 ring (0 ∷ 1 ∷ [])

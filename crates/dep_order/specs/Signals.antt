@@ -1,6 +1,6 @@
 -- Signals among vertices.
 use Rattle.std.specs.Prelude.{ℕ, ◌<◌, ◌≤◌, List, [], ◌∷◌, nat_lt, filter}
-use Rattle.graph_order.specs.Lists.{EachOf, IsIn, AreApart}
+use Rattle.list_core.specs.Lists.{EachOf, IsIn, AreApart}
 use Rattle.graph_order.specs.Graphs.{Graph}
 use Rattle.graph_order.specs.declared.fault.GraphFault.{GraphFault}
 use Rattle.graph_order.specs.declared.fault.GraphFault.TheVariants.{Cycle, NoMemory}

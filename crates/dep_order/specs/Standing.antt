@@ -4,9 +4,10 @@ use Rattle.tree_core.specs.Tree.{Tree, Const, Leaf, One, Two, Mux}
 use Rattle.exec_core.specs.Block.{Name, Expr, Now}
 use Rattle.exec_core.specs.Exec.{Env, on_two, on_three}
 use Rattle.exec_core.specs.Leaves.{EachLeaf}
-use Rattle.graph_order.specs.Lists.{EachOf}
+use Rattle.list_core.specs.Lists.{EachOf}
 use Rattle.graph_order.specs.Graphs.{Graph}
 use Rattle.dep_order.specs.Reaching.{ReachedFrom}
+use Rattle.place_core.specs.Numbering.{Numbers}
 
 -- a fact of some leaf
 abbrev pub SomeLeaf : {A : Type 0} → (A → Type 0) → Tree A → Type 0
@@ -15,10 +16,6 @@ SomeLeaf P (Leaf x) = P x
 SomeLeaf P (One op a) = SomeLeaf P a
 SomeLeaf P (Two op a b) = SomeLeaf P a ⊎ SomeLeaf P b
 SomeLeaf P (Mux c a b) = SomeLeaf P c ⊎ (SomeLeaf P a ⊎ SomeLeaf P b)
-
--- the number of each name that is a signal
-abbrev pub Numbers : Type 0
-Numbers = Name → Option ℕ
 
 -- vertices of a graph stand for a tree: from them its leaves are reached through versions alone, those that have a number, and nothing else
 pub record StandFor {A : Type 0} (signals : ℕ) (g : Graph) (number : A → Option ℕ) (vs : List ℕ) (t : Tree A) : Type 0 where

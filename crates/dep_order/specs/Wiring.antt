@@ -4,26 +4,21 @@ use Rattle.tree_core.specs.Tree.{Tree, Leaf}
 use Rattle.exec_core.specs.Block.{Name, Now}
 use Rattle.exec_core.specs.Whole.{Place}
 use Rattle.exec_core.specs.Design.{Process, place, moved, same_place, links_to, assigns_to, process_tree, or_else}
-use Rattle.graph_order.specs.Graphs.{Graph, next_of, IsGraph}
-use Rattle.check_core.specs.Known.{Known}
+use Rattle.graph_order.specs.Graphs.{Graph, edges_of, IsGraph}
+use Rattle.names.specs.Known.{Known}
 use Rattle.design_core.specs.declared.variant.Signal.{Signal}
 use Rattle.design_core.specs.Design as design
 use Rattle.design_exec.specs.Processes as processes
 use Rattle.dep_order.specs.Reaching.{IsLayered}
-use Rattle.dep_order.specs.Standing.{Numbers, Stand, StandFor}
+use Rattle.dep_order.specs.Standing.{Stand, StandFor}
+use Rattle.place_core.specs.Numbering.{Numbers, PlaceNumbers}
 use Rattle.dep_order.specs.Blocks.{AreSignals, Versions, single, owns, end_trees}
-
--- the vertex of each place that is a signal
-abbrev pub PlaceNumbers : Type 0
-PlaceNumbers = Place → Option ℕ
+use Rattle.place_core.specs.Linking.{Link}
 
 -- no two places have one vertex, and all vertices of places are below that of any version
 pub record AreNumbers (signals : ℕ) (number : PlaceNumbers) : Type 0 where
   pub below : (p : Place) (n : ℕ) → number p ≡ Some n → n < signals
   pub apart : (p q : Place) (n : ℕ) → number p ≡ Some n → number q ≡ Some n → p ≡ q
-
-abbrev pub Link : Type 0
-Link = Place × Tree Place
 
 -- the tree that drives a place, by these links and processes: the first link to it, or the first process that assigns it
 abbrev pub driver_in : List Link → List Process → Place → Option (Tree Place)
@@ -42,7 +37,7 @@ DriverStands signals g number vs (Some t) = StandFor signals g number vs t
 -- a vertex whose signal has met a link or a process, or none, with the tree that drives it
 pub record IsWiredAt (signals : ℕ) (number : PlaceNumbers) (g : Graph) (driven : List Bool) (met : Bool) (driver : Option (Tree Place)) (n : ℕ) : Type 0 where
   pub marked : slice_index_or driven n false ≡ met
-  pub stands : DriverStands signals g number (next_of g n) driver
+  pub stands : DriverStands signals g number (edges_of g n) driver
 
 -- each signal
 abbrev pub IsWired : ℕ → PlaceNumbers → Graph → List Bool → (Place → Bool) → (Place → Option (Tree Place)) → Type 0
@@ -77,7 +72,7 @@ DrivesBy g driven h marked n numbers t =
 pub record KeepsOthers (g h : Graph) (numbers : Numbers) : Type 0 where
   pub count : length h ≡ length g
   pub graph : IsGraph h
-  pub kept : (v : ℕ) → ((x : Name) → numbers x ≡ Some v → ⊥) → next_of h v ≡ next_of g v
+  pub kept : (v : ℕ) → ((x : Name) → numbers x ≡ Some v → ⊥) → edges_of h v ≡ edges_of g v
 
 -- what a call does that drives the signal of a name of an instance by a version, unless it is driven; a name without a number is no signal
 abbrev pub DrivesName : Graph → List Bool → Graph → List Bool → Numbers → Name → Option ℕ → Type 0

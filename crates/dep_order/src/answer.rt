@@ -1,32 +1,10 @@
+//! Why a design has no order: a loop of signals, or want of memory.
+
 ghost use Rattle.std.specs.Prelude.{◌≡◌};
 ghost use Rattle.dep_order.specs.declared.answer.OrderFault.TheVariants.{NoMemory as OutOfMemory};
 
 use std::alloc::{AllocError, AllocFailed};
-use std::marker::Model;
 use text_core::NoMemory;
-
-/// The driven signals of a design in an order. Contracts see the list.
-#[derive(Drop)]
-pub struct Order {
-    pub(crate) pairs: Vec<(u32, u32)>,
-}
-
-impl Model for Order {
-    ghost use Rattle.std.specs.Prelude.{List, ℕ};
-
-    ghost Value = { List (ℕ × ℕ) };
-
-    ghost view = { λ o. o.pairs.items };
-}
-
-impl Order {
-    /// The driven signals, each as the number of its instance and its place among the signals of the instance.
-    pub fn list(&self) -> &[(u32, u32)]
-        ensures { result.now ≡ self.now }
-    {
-        &self.pairs
-    }
-}
 
 /// Why a design has no order.
 #[derive(Drop)]

@@ -1,19 +1,22 @@
+//! A block followed statement by statement: which signals each of its own names was made of. Each assignment makes a new vertex, a
+//! version, so what was read before it keeps what it read.
+
 ghost use Rattle.std.specs.Prelude.{◌≡◌, length, IfOk, OnOk, true};
 ghost use Rattle.exec_core.specs.Block.{Name};
 ghost use Rattle.graph_order.specs.Graphs.{IsGraph};
 ghost use Rattle.design_core.specs.View.{block_of, body_of, else_of, expr_of, stmt_of};
-ghost use Rattle.check_core.specs.Known.{either, has};
-ghost use Rattle.check_core.specs.Maps.{value_of};
-ghost use Rattle.dep_order.specs.Names.{names_at};
-ghost use Rattle.dep_order.specs.Blocks.{AreSignals, EndVertices, EndsStand, Followed, Grown, IsReady, assigned_by, assigned_else, assigned_in, branches, no_versions, owns, step_by, step_else, step_in, step_set, sets, version_of};
+ghost use Rattle.names.specs.Known.{either, has};
+ghost use Rattle.names.specs.Maps.{value_of};
+ghost use Rattle.place_core.specs.Assigned.{names_at, assigned_by, assigned_else, assigned_in};
+ghost use Rattle.dep_order.specs.Blocks.{AreSignals, EndVertices, EndsStand, Followed, Grown, IsReady, branches, no_versions, owns, step_by, step_else, step_in, step_set, sets, version_of};
 
-use crate::assigned::{assigned_in, assigned_in_either};
 use crate::branch::{merge, put_all, versions_of};
-use crate::maps::{NumberMap, VersionMap};
+use crate::maps::VersionMap;
 use crate::version::version;
-use check_core::NameSet;
 use design_core::{Block, Expr, Stmt};
 use graph_order::Graph;
+use names::{NameMap, NameSet};
+use place_core::{assigned_in, assigned_in_either};
 use std::alloc::Global;
 use text_core::NoMemory;
 
@@ -22,7 +25,7 @@ fn set_name(
     alloc: Global,
     graph: &mut Graph,
     own: &NameSet,
-    numbers: &NumberMap,
+    numbers: &NameMap<u32>,
     versions: &mut VersionMap,
     name: &[u8],
     value: &Expr,
@@ -44,7 +47,7 @@ fn follow_stmt(
     graph: &mut Graph,
     clocked: bool,
     own: &NameSet,
-    numbers: &NumberMap,
+    numbers: &NameMap<u32>,
     versions: &mut VersionMap,
     stmt: &Stmt,
 ) -> Result<(), NoMemory>
@@ -77,7 +80,7 @@ fn follow_if(
     graph: &mut Graph,
     clocked: bool,
     own: &NameSet,
-    numbers: &NumberMap,
+    numbers: &NameMap<u32>,
     versions: &mut VersionMap,
     test: &Expr,
     yes: &[Stmt],
@@ -107,7 +110,7 @@ fn follow_body(
     graph: &mut Graph,
     clocked: bool,
     own: &NameSet,
-    numbers: &NumberMap,
+    numbers: &NameMap<u32>,
     versions: &mut VersionMap,
     body: &[Stmt],
 ) -> Result<(), NoMemory>
@@ -128,7 +131,7 @@ fn follow_else(
     graph: &mut Graph,
     clocked: bool,
     own: &NameSet,
-    numbers: &NumberMap,
+    numbers: &NameMap<u32>,
     versions: &mut VersionMap,
     no: &Option<Vec<Stmt>>,
 ) -> Result<(), NoMemory>
@@ -150,7 +153,7 @@ fn follow_own(
     alloc: Global,
     graph: &mut Graph,
     own: &NameSet,
-    numbers: &NumberMap,
+    numbers: &NameMap<u32>,
     versions: &mut VersionMap,
     block: &Block,
 ) -> Result<(), NoMemory>
@@ -199,7 +202,7 @@ fn put_names(alloc: Global, own: &mut NameSet, names: &[&[u8]]) -> Result<(), No
 pub(crate) fn follow_block(
     alloc: Global,
     graph: &mut Graph,
-    numbers: &NumberMap,
+    numbers: &NameMap<u32>,
     block: &Block,
 ) -> Result<VersionMap, NoMemory>
     requires graph { IsGraph graph.old }

@@ -1,6 +1,8 @@
-ghost use Rattle.std.specs.Prelude.{◌≡◌, ◌<◌, List, length, map, Option, option_map, IfOk, OnOk};
-ghost use Rattle.graph_order.specs.Lists.{EachOf};
-ghost use Rattle.dep_order.specs.Names.{names_at};
+//! Where the branches of an `if` meet: a name that either assigned gets a version that reads the test and what both left it.
+
+ghost use Rattle.std.specs.Prelude.{◌≡◌, ◌<◌, length, map, Option, option_map, IfOk, OnOk};
+ghost use Rattle.list_core.specs.Lists.{EachOf};
+ghost use Rattle.place_core.specs.Assigned.{names_at};
 ghost use Rattle.dep_order.specs.Standing.{AreVertices};
 ghost use Rattle.dep_order.specs.Blocks.{Grown, Merged, Versions, put_all, single, version_of};
 

@@ -1,27 +1,29 @@
+//! The whole: signals numbered, wired to their drivers, ordered; the order tells of the driven ones alone.
+
 ghost use Rattle.std.specs.Prelude.{◌≡◌, ◌≤◌, ℕ, None, false, [], length, slice_index_or, IfOk, IfErr, OnOk};
 ghost use Rattle.dep_order.specs.Reaching.{IsLayered};
-ghost use Rattle.graph_order.specs.Graphs.{IsGraph, next_of};
+ghost use Rattle.graph_order.specs.Graphs.{IsGraph, edges_of};
 ghost use Rattle.design_core.specs.DesignView.{design_of};
 ghost use Rattle.check_core.specs.Verdict.{verdict};
-ghost use Rattle.dep_order.specs.Numbering.{numbers_of};
+ghost use Rattle.place_core.specs.Numbering.{numbers_of, AreCounted};
 ghost use Rattle.dep_order.specs.Linking.{AllLayered, AreBelow};
-ghost use Rattle.dep_order.specs.Ordering.{AreCounted, DriversAreTrees, DrivesDesign, IsWiredDesign, TellsFault, marked_in, pairs_of};
-ghost use Rattle.dep_order.specs.Results.{TellsOrder};
+ghost use Rattle.dep_order.specs.Ordering.{DriversAreTrees, DrivesDesign, IsWiredDesign, TellsFault, marked_in, pairs_of};
+ghost use Rattle.place_core.specs.Orders.{TellsOrder};
 
-use crate::answer::{Order, OrderFault};
+use crate::answer::OrderFault;
 use crate::instances::{drive_links, drive_processes};
-use crate::maps::NumberMap;
-use crate::numbering::{in_32_bits, number_signals};
 use crate::signals::order_signals;
-use design_core::Design;
+use design_core::{Design, in_32_bits};
 use graph_order::{Graph, GraphFault};
+use names::NameMap;
+use place_core::{Order, number_signals};
 use std::alloc::{AllocError, Global};
 use text_core::NoMemory;
 
 /// So many vertices without edges.
 fn vertices(alloc: Global, count: usize) -> Result<Graph, NoMemory>
     ensures count { IfOk result (λ graph. length graph ≡ count) }
-    ensures none { IfOk result (λ graph. (v : ℕ) → next_of graph v ≡ []) }
+    ensures none { IfOk result (λ graph. (v : ℕ) → edges_of graph v ≡ []) }
 {
     let mut graph = Graph::new(alloc);
     for _ in 0..count {
@@ -61,7 +63,7 @@ fn wire(
     graph: &mut Graph,
     driven: &mut [bool],
     design: &Design,
-    maps: &[NumberMap],
+    maps: &[NameMap<u32>],
 ) -> Result<(), NoMemory>
     requires graph { IsGraph graph.old }
     requires below { AreBelow (length graph.old) (numbers_of maps.now) }
@@ -82,7 +84,7 @@ fn order_wired(
     graph: &Graph,
     driven: &[bool],
     design: &Design,
-    maps: &[NumberMap],
+    maps: &[NameMap<u32>],
     pairs: &[(u32, u32)],
 ) -> Result<Order, OrderFault>
     requires counted { AreCounted (design_of design.now) (numbers_of maps.now, pairs.now) }
@@ -98,7 +100,7 @@ fn order_wired(
         Ok(all) => {
             let marked = marked_in(alloc, driven, &all)?;
             let pairs = pairs_of(alloc, pairs, &marked)?;
-            Ok(Order { pairs })
+            Ok(Order::new(pairs))
         }
         Err(GraphFault::Cycle(cycle)) => {
             let cycle = pairs_of(alloc, pairs, &cycle)?;
@@ -114,12 +116,12 @@ fn wire_and_order(
     graph: &mut Graph,
     driven: &mut [bool],
     design: &Design,
-    maps: &[NumberMap],
+    maps: &[NameMap<u32>],
     pairs: &[(u32, u32)],
 ) -> Result<Order, OrderFault>
     requires counted { AreCounted (design_of design.now) (numbers_of maps.now, pairs.now) }
     requires count { length graph.old ≡ length pairs.now }
-    requires none { (v : ℕ) → next_of graph.old v ≡ [] }
+    requires none { (v : ℕ) → edges_of graph.old v ≡ [] }
     requires marks { length driven.old ≡ length pairs.now }
     requires unmarked { (v : ℕ) → slice_index_or driven.old v false ≡ false }
     requires trees { DriversAreTrees (design_of design.now) }
@@ -134,7 +136,7 @@ fn wire_and_order(
 fn order_counted(
     alloc: Global,
     design: &Design,
-    maps: &[NumberMap],
+    maps: &[NameMap<u32>],
     pairs: &[(u32, u32)],
 ) -> Result<Order, OrderFault>
     requires counted { AreCounted (design_of design.now) (numbers_of maps.now, pairs.now) }

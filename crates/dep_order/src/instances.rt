@@ -1,68 +1,29 @@
-ghost use Rattle.std.specs.Prelude.{◌≡◌, ◌<◌, ◌≤◌, ℕ, [], ◌∷◌, length, map, Some, slice_get, IfOk, OnOk};
+//! The links and blocks of all instances, instance by instance. The first that drives a signal counts.
+
+ghost use Rattle.std.specs.Prelude.{◌≡◌, ◌<◌, ◌≤◌, ℕ, [], ◌∷◌, length, map, Some, slice_get, OnOk};
 ghost use Rattle.std.specs.List.{enumerate_from, flat_map};
 ghost use Rattle.tree_core.specs.Tree.{Leaf};
 ghost use Rattle.exec_core.specs.Design.{place};
 ghost use Rattle.graph_order.specs.Graphs.{IsGraph};
-ghost use Rattle.graph_order.specs.Lists.{EachOf};
+ghost use Rattle.list_core.specs.Lists.{EachOf};
 ghost use Rattle.design_core.specs.declared.variant.Signal.{Signal};
-ghost use Rattle.design_core.specs.View.{block_of, child_of, variant_of};
+ghost use Rattle.design_core.specs.View.{child_of};
 ghost use Rattle.design_core.specs.DesignView.{design_of};
-ghost use Rattle.design_core.specs.WellFormed.{children_at};
-ghost use Rattle.design_exec.specs.Processes.{conn_link, instances_of, links_at, none_or, numbers_below, processes_at, stands_in};
-ghost use Rattle.dep_order.specs.Numbering.{numbers_of};
-ghost use Rattle.dep_order.specs.Linking.{AllLayered, AreBelow, blocks_at, DrivesLinks, DrivesProcesses, links_of_child, link_of_output};
+ghost use Rattle.design_exec.specs.Processes.{conn_link, instances_of, links_at, none_or, processes_at};
+ghost use Rattle.place_core.specs.Numbering.{numbers_of};
+ghost use Rattle.dep_order.specs.Linking.{AllLayered, AreBelow, DrivesLinks, DrivesProcesses};
+ghost use Rattle.place_core.specs.Linking.{links_of_child, link_of_output};
 
-use crate::maps::NumberMap;
-use crate::numbering::{in_32_bits, signals_of};
 use crate::wiring::{drive_blocks, drive_conns, drive_output};
-use design_core::{Block, Child, Design, Instance, Kind, Signal, Variant};
+use design_core::{
+    Block, Child, Design, Instance, Kind, Signal, Variant, blocks_of, children_of, in_32_bits,
+    signals_of,
+};
 use graph_order::Graph;
+use names::NameMap;
+use place_core::numbers_below;
 use std::alloc::Global;
 use text_core::NoMemory;
-
-/// The children of a variant, by its number; none where there is no such variant.
-pub fn children_of(variants: &[Variant], variant: u32) -> &[Child]
-    ensures { map child_of result.now ≡ children_at variant (map variant_of variants.now) }
-{
-    match variants.get(variant as usize) {
-        Some(variant) => &variant.children,
-        None => &[],
-    }
-}
-
-/// The blocks of a variant, by its number; none where there is no such variant.
-pub fn blocks_of(variants: &[Variant], variant: u32) -> &[Block]
-    ensures { map block_of result.now ≡ blocks_at variant (map variant_of variants.now) }
-{
-    match variants.get(variant as usize) {
-        Some(variant) => &variant.blocks,
-        None => &[],
-    }
-}
-
-/// Whether what stands in this parent stands in the instance of this number.
-fn stands_in(parent: Option<u32>, instance: u32) -> bool
-    ensures { result ≡ stands_in instance parent }
-{
-    match parent {
-        Some(parent) => parent == instance,
-        None => false,
-    }
-}
-
-/// The numbers of the instances that stand in an instance, in order.
-#[tactic(auto, using(crate::proofs::Linked::next_below, crate::proofs::Linked::last_below))]
-pub fn numbers_below(alloc: Global, design: &Design, instance: u32) -> Result<Vec<u32>, NoMemory>
-    ensures { IfOk result (λ below. below.items ≡ numbers_below (design_of design.now) instance) }
-{
-    let mut below = Vec::new(alloc);
-    for (number, other) in design.instances.items().iter().enumerate() {
-        if stands_in(other.parent, instance) {
-            below.push(in_32_bits(number)?)?;
-        }
-    }
-    Ok(below)
-}
 
 /// The number at a place, if there is one.
 fn number_at(below: &[u32], place: usize) -> Option<u32>
@@ -77,7 +38,7 @@ fn drive_child(
     alloc: Global,
     graph: &mut Graph,
     driven: &mut [bool],
-    maps: &[NumberMap],
+    maps: &[NameMap<u32>],
     instance: u32,
     number: Option<u32>,
     child: &Child,
@@ -111,7 +72,7 @@ fn drive_children(
     alloc: Global,
     graph: &mut Graph,
     driven: &mut [bool],
-    maps: &[NumberMap],
+    maps: &[NameMap<u32>],
     instance: u32,
     below: &[u32],
     children: &[Child],
@@ -138,7 +99,7 @@ fn drive_children(
 fn drive_child_output(
     graph: &mut Graph,
     driven: &mut [bool],
-    maps: &[NumberMap],
+    maps: &[NameMap<u32>],
     instance: u32,
     number: Option<u32>,
     name: &[u8],
@@ -172,7 +133,7 @@ fn drive_child_output(
 fn drive_child_out(
     graph: &mut Graph,
     driven: &mut [bool],
-    maps: &[NumberMap],
+    maps: &[NameMap<u32>],
     instance: u32,
     below: &[u32],
     signal: &Signal,
@@ -205,7 +166,7 @@ fn drive_child_out(
 fn drive_child_outs(
     graph: &mut Graph,
     driven: &mut [bool],
-    maps: &[NumberMap],
+    maps: &[NameMap<u32>],
     instance: u32,
     below: &[u32],
     signals: &[Signal],
@@ -233,7 +194,7 @@ fn drive_instance(
     graph: &mut Graph,
     driven: &mut [bool],
     design: &Design,
-    maps: &[NumberMap],
+    maps: &[NameMap<u32>],
     number: u32,
     instance: &Instance,
 ) -> Result<(), NoMemory>
@@ -261,7 +222,7 @@ pub(crate) fn drive_links(
     graph: &mut Graph,
     driven: &mut [bool],
     design: &Design,
-    maps: &[NumberMap],
+    maps: &[NameMap<u32>],
 ) -> Result<(), NoMemory>
     requires graph { IsGraph graph.old }
     requires below { AreBelow (length graph.old) (numbers_of maps.now) }
@@ -285,7 +246,7 @@ pub(crate) fn drive_processes(
     graph: &mut Graph,
     driven: &mut [bool],
     design: &Design,
-    maps: &[NumberMap],
+    maps: &[NameMap<u32>],
 ) -> Result<(), NoMemory>
     requires graph { IsGraph graph.old }
     requires below { AreBelow (length graph.old) (numbers_of maps.now) }

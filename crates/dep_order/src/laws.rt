@@ -1,6 +1,8 @@
+//! What the graph of a design's signals tells of the design: an order or a loop, and never both.
+
+ghost use Rattle.dep_order.specs.Either.{OrderOrLoop};
 ghost use Rattle.dep_order.specs.Joined.{CyclesJoin, OrdersJoin};
-ghost use Rattle.dep_order.specs.Numbering.{Numbered};
-ghost use Rattle.dep_order.specs.Ordering.{AcceptedAreTrees, CyclesAnswer, OrdersAreAccepted, OthersAreGiven, OrdersAnswer};
+ghost use Rattle.dep_order.specs.Ordering.{AcceptedAreTrees, CyclesAnswer, OrdersAnswer};
 ghost use Rattle.dep_order.specs.Results.{OrdersHaveNoLoop};
 ghost use Rattle.dep_order.specs.Samples.{depend_in_a_loop, depends_through_its_test, reaches_through_two_versions, ring_is_a_cycle, output_of_the_child, pairs_of_two_instances};
 ghost use Rattle.dep_order.specs.Wiring.{BlockIsProcess, LinkIsMet};
@@ -18,12 +20,6 @@ pub fn drivers_in_order()
     ensures blocks { BlockIsProcess }
 {}
 
-/// Counting the signals of all instances gives each signal a number and each number its place, in the order of the design.
-/// Computes nothing.
-pub fn signals_are_numbered()
-    ensures { Numbered }
-{}
-
 /// In a graph in which each signal of a design has edges to what drives it, an order of the signals' numbers is an order of the
 /// driven signals, and a cycle of them is a loop. Computes nothing.
 pub fn numbers_answer()
@@ -37,16 +33,14 @@ pub fn accepted_drivers()
     ensures { AcceptedAreTrees }
 {}
 
-/// An order of an accepted design's driven signals meets the premises of the theorem on runs; and the signals that are not driven
-/// are the inputs of the top and the registers. Computes nothing.
-pub fn orders_are_accepted()
-    ensures accepted { OrdersAreAccepted }
-    ensures others { OthersAreGiven }
-{}
-
 /// A design with an order of its driven signals has no loop. Computes nothing.
 pub fn not_both()
     ensures { OrdersHaveNoLoop }
+{}
+
+/// The driven signals of an accepted design have an order, or signals of it are a loop. Computes nothing.
+pub fn order_or_loop()
+    ensures { OrderOrLoop }
 {}
 
 /// Small graphs, drivers and a design of two instances, worked by hand. Computes nothing.

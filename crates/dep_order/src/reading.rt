@@ -1,22 +1,24 @@
+//! What an expression reads: the vertices of its signals, and the versions of a block's own names.
+
 ghost use Rattle.std.specs.Prelude.{IfOk};
 ghost use Rattle.design_core.specs.View.{expr_of};
 ghost use Rattle.design_exec.specs.Processes.{tree_of};
-ghost use Rattle.check_core.specs.Known.{has};
-ghost use Rattle.check_core.specs.Maps.{value_of};
+ghost use Rattle.names.specs.Known.{has};
+ghost use Rattle.names.specs.Maps.{value_of};
 ghost use Rattle.dep_order.specs.Standing.{read_by};
 ghost use Rattle.dep_order.specs.Blocks.{readings, version_of, Reads};
 
-use crate::maps::{NumberMap, VersionMap};
-use check_core::{NameSet, below};
-use design_core::Expr;
+use crate::maps::VersionMap;
+use design_core::{Expr, below};
 use graph_order::Graph;
+use names::{NameMap, NameSet};
 use std::alloc::Global;
 use text_core::NoMemory;
 
 /// Puts what a name reads behind the vertices that are there; false, where it is an own name without a version.
 pub(crate) fn read_name(
     own: &NameSet,
-    numbers: &NumberMap,
+    numbers: &NameMap<u32>,
     versions: &VersionMap,
     name: &[u8],
     read: &mut Vec<u32>,
@@ -40,7 +42,7 @@ pub(crate) fn read_name(
 pub(crate) fn read_expr(
     alloc: Global,
     own: &NameSet,
-    numbers: &NumberMap,
+    numbers: &NameMap<u32>,
     versions: &VersionMap,
     expr: &Expr,
     read: &mut Vec<u32>,

@@ -1,16 +1,18 @@
+//! A version: a vertex that stands for what a name was given, with edges to what that reads.
+
 ghost use Rattle.std.specs.Prelude.{◌≡◌, ◌<◌, length, IfOk, OnOk, option_map};
 ghost use Rattle.design_core.specs.View.{expr_of};
 ghost use Rattle.design_exec.specs.Processes.{tree_of};
-ghost use Rattle.check_core.specs.Known.{has};
-ghost use Rattle.check_core.specs.Maps.{value_of};
+ghost use Rattle.names.specs.Known.{has};
+ghost use Rattle.names.specs.Maps.{value_of};
 ghost use Rattle.dep_order.specs.Standing.{read_by, AreVertices};
 ghost use Rattle.dep_order.specs.Blocks.{readings, single, three, version_of, Grown, IsReady, MadeVersion};
 
-use crate::maps::{NumberMap, VersionMap};
+use crate::maps::VersionMap;
 use crate::reading::read_expr;
-use check_core::NameSet;
 use design_core::Expr;
 use graph_order::Graph;
+use names::{NameMap, NameSet};
 use std::alloc::Global;
 use text_core::NoMemory;
 
@@ -19,7 +21,7 @@ pub(crate) fn version(
     alloc: Global,
     graph: &mut Graph,
     own: &NameSet,
-    numbers: &NumberMap,
+    numbers: &NameMap<u32>,
     versions: &VersionMap,
     expr: &Expr,
 ) -> Result<Option<u32>, NoMemory>

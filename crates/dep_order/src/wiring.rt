@@ -1,24 +1,26 @@
+//! A signal's vertex gets edges to what drives the signal, once.
+
 ghost use Rattle.std.specs.Prelude.{◌≡◌, ◌≢◌, ◌<◌, ◌≤◌, ℕ, length, map, true, option_map, IfOk, OnOk};
 ghost use Rattle.graph_order.specs.Graphs as graphs;
-ghost use Rattle.graph_order.specs.Graphs.{IsGraph, next_of};
-ghost use Rattle.graph_order.specs.Lists.{EachOf};
+ghost use Rattle.graph_order.specs.Graphs.{IsGraph, edges_of};
+ghost use Rattle.list_core.specs.Lists.{EachOf};
 ghost use Rattle.dep_order.specs.Wiring.{Drives, DrivesBlock, DrivesBlocks, DrivesBy, DrivesConn, DrivesConns, DrivesName, DrivesNames, DrivesOutput, KeepsOthers, StaysLayered};
 ghost use Rattle.dep_order.specs.Blocks.{AreSignals, single, version_of};
-ghost use Rattle.check_core.specs.Maps.{value_of};
-ghost use Rattle.check_core.specs.Known.{has};
-ghost use Rattle.dep_order.specs.Names.{names_at};
+ghost use Rattle.names.specs.Maps.{value_of};
+ghost use Rattle.names.specs.Known.{has};
+ghost use Rattle.place_core.specs.Assigned.{names_at};
 ghost use Rattle.dep_order.specs.Standing.{AreVertices, StandFor};
 ghost use Rattle.exec_core.specs.Block.{Name};
 ghost use Rattle.design_core.specs.View.{block_of, conn_of, expr_of};
 ghost use Rattle.design_exec.specs.Processes.{tree_of};
 
-use crate::assigned::assigned_in;
 use crate::block::follow_block;
-use crate::maps::{NumberMap, VersionMap};
+use crate::maps::VersionMap;
 use crate::reading::read_expr;
-use check_core::NameSet;
 use design_core::{Block, Conn, Expr};
 use graph_order::Graph;
+use names::{NameMap, NameSet};
+use place_core::assigned_in;
 use std::alloc::Global;
 use text_core::NoMemory;
 
@@ -35,7 +37,7 @@ pub(crate) fn drive(
     requires edges { EachOf (λ w. w < length graph.old) edges.now }
     ensures count { length graph.new ≡ length graph.old }
     ensures graph { OnOk result (IsGraph graph.new) }
-    ensures others { OnOk result ((v : ℕ) → v ≢ vertex → next_of graph.new v ≡ next_of graph.old v) }
+    ensures others { OnOk result ((v : ℕ) → v ≢ vertex → edges_of graph.new v ≡ edges_of graph.old v) }
     ensures drives { OnOk result (Drives graph.old driven.old graph.new driven.new vertex edges.now) }
 {
     if driven[vertex as usize] {
@@ -47,7 +49,7 @@ pub(crate) fn drive(
 }
 
 /// The vertices that an expression over the names of an instance reads.
-fn reads_of(alloc: Global, numbers: &NumberMap, expr: &Expr) -> Result<Vec<u32>, NoMemory>
+fn reads_of(alloc: Global, numbers: &NameMap<u32>, expr: &Expr) -> Result<Vec<u32>, NoMemory>
     ensures within { IfOk result (λ read. (g : graphs.Graph) → AreSignals (length g) (value_of numbers.now) → EachOf (λ v. v < length g) read.items) }
     ensures stand { IfOk result (λ read. (signals : ℕ) (g : graphs.Graph) → AreSignals signals (value_of numbers.now) → StandFor signals g (value_of numbers.now) read.items (tree_of (expr_of expr.now))) }
 {
@@ -64,7 +66,7 @@ pub(crate) fn drive_by(
     graph: &mut Graph,
     driven: &mut [bool],
     vertex: u32,
-    numbers: &NumberMap,
+    numbers: &NameMap<u32>,
     expr: &Expr,
 ) -> Result<(), NoMemory>
     requires graph { IsGraph graph.old }
@@ -74,7 +76,7 @@ pub(crate) fn drive_by(
     ensures count { length graph.new ≡ length graph.old }
     ensures graph { OnOk result (IsGraph graph.new) }
     ensures drives { OnOk result (DrivesBy graph.old driven.old graph.new driven.new vertex (value_of numbers.now) (tree_of (expr_of expr.now))) }
-    ensures others { OnOk result ((v : ℕ) → v ≢ vertex → next_of graph.new v ≡ next_of graph.old v) }
+    ensures others { OnOk result ((v : ℕ) → v ≢ vertex → edges_of graph.new v ≡ edges_of graph.old v) }
 {
     let read = reads_of(alloc, numbers, expr)?;
     drive(graph, driven, vertex, &read)?;
@@ -86,7 +88,7 @@ pub(crate) fn drive_by(
 fn drive_name(
     graph: &mut Graph,
     driven: &mut [bool],
-    numbers: &NumberMap,
+    numbers: &NameMap<u32>,
     ends: &VersionMap,
     name: &[u8],
 ) -> Result<(), NoMemory>
@@ -111,7 +113,7 @@ fn drive_name(
 fn drive_names(
     graph: &mut Graph,
     driven: &mut [bool],
-    numbers: &NumberMap,
+    numbers: &NameMap<u32>,
     ends: &VersionMap,
     names: &[&[u8]],
 ) -> Result<(), NoMemory>
@@ -134,7 +136,7 @@ pub(crate) fn drive_block(
     alloc: Global,
     graph: &mut Graph,
     driven: &mut [bool],
-    numbers: &NumberMap,
+    numbers: &NameMap<u32>,
     block: &Block,
 ) -> Result<(), NoMemory>
     requires graph { IsGraph graph.old }
@@ -156,7 +158,7 @@ pub(crate) fn drive_blocks(
     alloc: Global,
     graph: &mut Graph,
     driven: &mut [bool],
-    numbers: &NumberMap,
+    numbers: &NameMap<u32>,
     blocks: &[Block],
 ) -> Result<(), NoMemory>
     requires graph { IsGraph graph.old }
@@ -179,8 +181,8 @@ fn drive_conn(
     alloc: Global,
     graph: &mut Graph,
     driven: &mut [bool],
-    child: &NumberMap,
-    parent: &NumberMap,
+    child: &NameMap<u32>,
+    parent: &NameMap<u32>,
     conn: &Conn,
 ) -> Result<(), NoMemory>
     requires graph { IsGraph graph.old }
@@ -203,8 +205,8 @@ pub(crate) fn drive_conns(
     alloc: Global,
     graph: &mut Graph,
     driven: &mut [bool],
-    child: &NumberMap,
-    parent: &NumberMap,
+    child: &NameMap<u32>,
+    parent: &NameMap<u32>,
     conns: &[Conn],
 ) -> Result<(), NoMemory>
     requires graph { IsGraph graph.old }
@@ -226,8 +228,8 @@ pub(crate) fn drive_conns(
 pub(crate) fn drive_output(
     graph: &mut Graph,
     driven: &mut [bool],
-    child: &NumberMap,
-    parent: &NumberMap,
+    child: &NameMap<u32>,
+    parent: &NameMap<u32>,
     name: &[u8],
     output: &[u8],
 ) -> Result<(), NoMemory>

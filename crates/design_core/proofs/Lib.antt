@@ -1,3 +1,4 @@
 pub mod Views
 pub mod PortNames
 mod PortSteps
+pub mod InOrder

@@ -4,7 +4,7 @@ use Rattle.std.specs.List.{list_all}
 use Rattle.gen_token.specs.Spelling.{IsName, is_name}
 use Rattle.gen_token.proofs.ReadName.{name_from_test}
 use Rattle.exec_core.specs.Block.{Name}
-use Rattle.exec_core.specs.Lists.{EachOf}
+use Rattle.list_core.specs.Lists.{EachOf}
 use Rattle.design_core.specs.Ports.{has_name, have_names}
 
 both : (a b : Bool) → a && b ≡ true → (a ≡ true) × (b ≡ true)

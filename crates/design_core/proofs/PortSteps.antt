@@ -1,5 +1,5 @@
 -- Ports and registers of lists of signals.
-use Rattle.std.proofs.Common.{◌≡◌, ℕ, zero, suc, ◌+◌, ◌<◌, ◌≤◌, Bool, true, false, ◌&&◌, ℤ, pos, negsuc, int_le, nat_le, leb-true, to_z-of_z, List, [], ◌∷◌, ◌++◌, length, take, drop, get_or, if◌then◌else◌, append_assoc, append-nil, true≢false, Option, Some, option_map, refl, sym, ap, ap₂, ◌∙◌, subst, arith}
+use Rattle.std.proofs.Common.{◌≡◌, ℕ, zero, suc, ◌+◌, ◌<◌, ◌≤◌, Bool, true, false, ◌&&◌, ℤ, pos, negsuc, int_le, nat_le, leb-true, to_z-of_z, List, [], ◌∷◌, ◌++◌, length, take, drop, get_or, if◌then◌else◌, append_assoc, append-nil, true≢false, Some, option_map, refl, sym, ap, ◌∙◌, subst, arith}
 use Rattle.std.proofs.lemmas.List.{take_more, take-append-drop}
 use Rattle.std.proofs.lemmas.Option.{none-some, same_Some}
 use Rattle.std.specs.List.{list_all, slice_get}
@@ -11,8 +11,9 @@ use Rattle.design_core.specs.Design.{Variant}
 use Rattle.exec_core.specs.Block.{Name}
 use Rattle.gen_token.specs.Spelling.{IsName, is_name}
 use Rattle.gen_token.proofs.ReadName.{test_from_name}
-use Rattle.exec_core.specs.Lists.{EachOf}
-use Rattle.design_core.specs.Ports.{has_width, has_name, have_names, bits, is_port, is_width, fits, all_fit, one_port, ports_in}
+use Rattle.list_core.specs.Lists.{EachOf}
+use Rattle.design_core.specs.Ports.{has_width, has_name, have_names, is_port, is_width, fits, all_fit, one_port, ports_in}
+use Rattle.design_core.specs.Widths.{bits}
 use Rattle.design_core.specs.WellFormed.{if_reg, regs, registers, signals_at, IfPort, IsVariant}
 
 ports_both : (output : Bool) (first second : List Signal) → ports_in output (first ++ second) ≡ ports_in output first ++ ports_in output second

@@ -6,3 +6,6 @@ pub mod Sizes
 pub mod WellFormed
 pub mod Single
 pub mod Ports
+pub mod Statements
+pub mod Dotted
+pub mod Widths

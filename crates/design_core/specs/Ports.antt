@@ -1,5 +1,5 @@
 -- The ports of a design.
-use Rattle.std.specs.Prelude.{ℕ, ℤ, pos, negsuc, int_le, Bool, true, false, List, [], ◌∷◌, ◌++◌, nat_le, ◌&&◌, if◌then◌else◌}
+use Rattle.std.specs.Prelude.{ℕ, ℤ, pos, int_le, Bool, true, false, List, [], ◌∷◌, ◌++◌, nat_le, ◌&&◌, if◌then◌else◌}
 use Rattle.std.specs.List.{list_all}
 use Rattle.design_core.specs.declared.variant.Signal.{Signal}
 use Rattle.design_core.specs.declared.variant.Kind.{Kind}
@@ -8,6 +8,7 @@ use Rattle.gen_token.specs.Spelling.{is_name}
 use Rattle.exec_core.specs.Block.{Name}
 use Rattle.design_core.specs.Design.{Design}
 use Rattle.design_core.specs.WellFormed.{signals_at}
+use Rattle.design_core.specs.Widths.{bits}
 
 -- a port with its name: its width is from 1 to 128
 abbrev pub has_width : List ℕ × ℕ → Bool
@@ -20,11 +21,6 @@ has_name port = is_name port.0
 -- so is that of a module, and of each of its inputs and outputs
 abbrev pub have_names : List ℕ → List (List ℕ × ℕ) → List (List ℕ × ℕ) → Bool
 have_names top inputs outputs = is_name top && list_all has_name inputs && list_all has_name outputs
-
--- a width in bits; a negative one is none
-abbrev pub bits : ℤ → ℕ
-bits (pos n) = n
-bits (negsuc n) = 0
 
 -- an output, or else an input
 abbrev pub is_port : Bool → Kind → Bool

@@ -7,7 +7,7 @@ use Rattle.design_core.specs.declared.variant.Kind.{Kind}
 use Rattle.design_core.specs.declared.variant.Kind.TheVariants.{Input, Output, Wire, Reg, ChildOut}
 use Rattle.gen_token.specs.Spelling.{IsName}
 use Rattle.exec_core.specs.Block.{Name}
-use Rattle.exec_core.specs.Lists.{EachOf, IsNotIn, AreApart}
+use Rattle.list_core.specs.Lists.{EachOf, IsNotIn, AreApart}
 use Rattle.design_core.specs.Design.{Gens, AreInRange, Child, Variant, Design}
 use Rattle.design_core.specs.WellFormed.{IsChild, AreChildren, IfPort, HasLines, IsVariant, IsDesign}
 

@@ -1,6 +1,7 @@
 -- The statements of a design as slots.
-use Rattle.std.specs.Prelude.{◌≡◌, ℕ, zero, suc, ◌+◌, List, [], ◌∷◌, ◌++◌, map}
+use Rattle.std.specs.Prelude.{◌≡◌, ℕ, ◌+◌, List, [], ◌∷◌, ◌++◌, map}
 use Rattle.std.specs.List.{flat_map}
+use Rattle.list_core.specs.Lists.{from}
 use Rattle.exec_core.specs.Block.{Name}
 use Rattle.design_core.specs.Design.{Gens, Stmt, Assign, Let, If, Body, Done, Then, Else, NoElse, Otherwise, Block, Variant}
 
@@ -69,11 +70,6 @@ blocks_size [] = 0
 blocks_size (b ∷ blocks) = size b.body + blocks_size blocks
 
 -- ---- numbers of statements
-
--- so many numbers from one on
-abbrev pub from : ℕ → ℕ → List ℕ
-from k zero = []
-from k (suc n) = k ∷ from (k + 1) n
 
 abbrev pub slots_of : List Head → List ℕ
 slots_of heads = map (λ h. h.slot) heads

@@ -7,9 +7,9 @@ use Rattle.design_core.specs.declared.variant.Kind.{Kind}
 use Rattle.design_core.specs.declared.variant.Kind.TheVariants.{Input, Output, Wire, Reg, ChildOut}
 use Rattle.gen_token.specs.Spelling.{IsName}
 use Rattle.exec_core.specs.Block.{Name}
-use Rattle.exec_core.specs.Lists.{EachOf, AreApart}
-use Rattle.design_core.specs.Design.{AreInRange, Child, Variant, Design}
-use Rattle.design_core.specs.Slots.{variant_heads, slots_of, from, scope}
+use Rattle.list_core.specs.Lists.{EachOf, AreApart, from}
+use Rattle.design_core.specs.Design.{AreInRange, Block, Child, Variant, Design}
+use Rattle.design_core.specs.Slots.{variant_heads, slots_of, scope}
 use Rattle.design_core.specs.Sizes.{in_all, variant_statements, variant_signals, variant_cells, variant_parts}
 
 -- ---- instances in preorder
@@ -77,6 +77,10 @@ output_of k c s (ChildOut j port) = []
 -- the signals of the variant of this number; none where there is no such variant
 abbrev pub signals_at : ℕ → List Variant → List Signal
 signals_at v variants = unwrap_or (option_map (λ w. w.signals) (slice_get variants v)) []
+
+-- its blocks
+abbrev pub blocks_at : ℕ → List Variant → List Block
+blocks_at v variants = unwrap_or (option_map (λ w. w.blocks) (slice_get variants v)) []
 
 -- the outputs of a child, in order
 abbrev pub outputs_of : List Variant → ℕ × Child → List Signal

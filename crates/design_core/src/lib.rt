@@ -3,15 +3,25 @@
 #![tactic(auto)]
 
 mod design;
+mod dotted;
 mod expr;
+mod number;
+mod parts;
 mod ports;
+mod preorder;
 mod statement;
 mod top;
 mod variant;
+mod widths;
 
 pub use design::{Design, Instance};
+pub use dotted::below;
 pub use expr::{Expr, Literal, Op, UnOp};
+pub use number::in_32_bits;
+pub use parts::{blocks_of, children_of, signals_of};
 pub use ports::Ports;
+pub use preorder::statements;
 pub use statement::Stmt;
 pub use top::ports_of;
 pub use variant::{Block, Child, Conn, Kind, Signal, Variant};
+pub use widths::{bits, constant};

@@ -1,6 +1,9 @@
+//! The ports of a design, read off the signals of its top in their order.
+
 ghost use Rattle.std.specs.Prelude.{◌≡◌, ◌++◌, ◌≤◌, true, false, IfOk, OnOk, map};
 ghost use Rattle.design_core.specs.DesignView.{design_of};
-ghost use Rattle.design_core.specs.Ports.{all_fit, bits, fits, is_port, is_width, one_port, ports_in, top_signals};
+ghost use Rattle.design_core.specs.Ports.{all_fit, fits, is_port, is_width, one_port, ports_in, top_signals};
+ghost use Rattle.design_core.specs.Widths.{bits};
 ghost use Rattle.design_core.specs.View.{variant_of};
 ghost use Rattle.design_core.specs.WellFormed.{regs, registers, signals_at};
 

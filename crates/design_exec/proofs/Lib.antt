@@ -1,4 +1,2 @@
 pub mod Slots
-pub mod Ranges
-pub mod Elaboration
 pub mod Standing

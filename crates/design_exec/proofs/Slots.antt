@@ -1,86 +1,27 @@
--- The slots that elaboration gives are numbers one after another.
-use Rattle.std.proofs.Common.{◌≡◌, ℕ, zero, suc, ◌+◌, ◌<◌, ◌==◌, Bool, true, false, cond, List, [], ◌∷◌, ◌++◌, map, option_map, unwrap_or, refl, sym, ap, ap₂, ◌∙◌, subst, arith, ne_eqb, eqb-true, add-zero}
+-- The slots of a design whose variants have numbers one after another.
+use Rattle.std.proofs.Common.{◌≡◌, ℕ, zero, suc, ◌+◌, ◌<◌, ◌==◌, Bool, true, false, cond, List, [], ◌∷◌, ◌++◌, map, option_map, unwrap_or, refl, sym, ap, ap₂, ◌∙◌, subst, arith, ne_eqb, eqb-true}
 use Rattle.std.specs.Prelude.{filter, slice_get}
 use Rattle.std.specs.List.{enumerate_from, flat_map}
 use Rattle.std.proofs.lemmas.List.{map-append, append-nil}
 use Rattle.std.proofs.lemmas.List.Elements.{filter-append}
-use Rattle.gen_tree.specs.Tree.{Module}
 use Rattle.exec_core.specs.Block.{slots, body_slots}
-use Rattle.exec_core.specs.Lists.{EachOf, IsNotIn, AreApart}
+use Rattle.list_core.specs.Lists.{EachOf, AreApart}
+use Rattle.list_core.proofs.Listing.{from_apart}
 use Rattle.exec_core.specs.Design.{Process}
 use Rattle.exec_core.specs.Run.{slots_in}
 use Rattle.design_core.specs.declared.variant.Signal.{Signal}
 use Rattle.design_core.specs.declared.design.Instance as design_instance
 use Rattle.design_core.specs.Design.{Stmt, Assign, Let, If, Body, Done, Then, Else, NoElse, Otherwise, Block, Variant, Design}
-use Rattle.design_core.specs.Slots.{Head, heads, stmt_heads, else_heads, size, stmt_size, else_size}
-use Rattle.elab_core.specs.Elaborated.{Instance}
-use Rattle.elab_core.specs.Design.{numbered, numbered_stmt, numbered_else, numbered_blocks, blocks_size, numbered_variant, first_slot}
+use Rattle.design_core.specs.Slots.{Head, heads, stmt_heads, else_heads, slots_of, AreNumbered}
 use Rattle.design_exec.specs.Processes.{processes_of, stmt_of, body_of, else_of, process, processes_at, blocks_in, signals_in}
-use Rattle.design_exec.specs.Numbered.{from, slots_of, AreNumbered}
 
--- ---- numbers one after another
+-- ---- the statements in a process
 
-further : (k n : ℕ) → k + 1 + n ≡ k + suc n
-further k n = omega arith
-
-from_append : (k m n : ℕ) → from k (m + n) ≡ from k m ++ from (k + m) n
-from_append k zero n = ap (from k) (none n) ∙ ap (λ j. from j n) (sym (add-zero k))
-  where
-    none : (n : ℕ) → 0 + n ≡ n
-    none n = omega arith
-from_append k (suc m) n = ap (from k) (one_more m n) ∙ ap (λ l. k ∷ l) (from_append (k + 1) m n ∙ ap (λ j. from (k + 1) m ++ from j n) (further k m))
-  where
-    one_more : (m n : ℕ) → suc m + n ≡ suc (m + n)
-    one_more m n = omega arith
-
-pub below : (m k n : ℕ) → m < k → IsNotIn m (from k n)
-below m k zero h = tt
-below m k (suc n) h = (λ e. absurd (omega (arith, e, h)), below m (k + 1) n (omega (arith, h)))
-
-pub from_apart : (k n : ℕ) → AreApart (from k n)
-from_apart k zero = tt
-from_apart k (suc n) = (below k (k + 1) n (omega arith), from_apart (k + 1) n)
-
--- ---- statements
-
-slots-append : (hs gs : List Head) → slots_of (hs ++ gs) ≡ slots_of hs ++ slots_of gs
+pub slots-append : (hs gs : List Head) → slots_of (hs ++ gs) ≡ slots_of hs ++ slots_of gs
 slots-append hs gs = map-append (λ (h : Head). h.slot) hs gs
 
-joined : (k m n : ℕ) (hs gs : List Head) → slots_of hs ≡ from k m → slots_of gs ≡ from (k + m) n → slots_of (hs ++ gs) ≡ from k (m + n)
-joined k m n hs gs a b = slots-append hs gs ∙ ap₂ (λ (p q : List ℕ). p ++ q) a b ∙ sym (from_append k m n)
-
-with_one : (m n : ℕ) → 1 + m + n ≡ suc (m + n)
-with_one m n = omega arith
-
-mutual
-  numbered_slots : (k : ℕ) (b : Body) → slots_of (heads (numbered k b)) ≡ from k (size b)
-  numbered_slots k Done = refl
-  numbered_slots k (Then s rest) =
-      joined k (stmt_size s) (size rest) (stmt_heads (numbered_stmt k s)) (heads (numbered (k + stmt_size s) rest)) (stmt_numbered k s) (numbered_slots (k + stmt_size s) rest)
-
-  stmt_numbered : (k : ℕ) (s : Stmt) → slots_of (stmt_heads (numbered_stmt k s)) ≡ from k (stmt_size s)
-  stmt_numbered k (Assign slot line gens x e) = refl
-  stmt_numbered k (Let slot line gens x e) = refl
-  stmt_numbered k (If slot line gens c first second) =
-      ap (λ l. k ∷ l)
-      (joined (k + 1) (size first) (else_size second) (heads (numbered (k + 1) first)) (else_heads (numbered_else (k + 1 + size first) second))
-      (numbered_slots (k + 1) first) (else_numbered (k + 1 + size first) second))
-      ∙ ap (from k) (sym (with_one (size first) (else_size second)))
-
-  else_numbered : (k : ℕ) (b : Else) → slots_of (else_heads (numbered_else k b)) ≡ from k (else_size b)
-  else_numbered k NoElse = refl
-  else_numbered k (Otherwise body) = numbered_slots k body
-
-abbrev block_heads : Block → List Head
+abbrev pub block_heads : Block → List Head
 block_heads b = heads b.body
-
-pub blocks_numbered : (k : ℕ) (bs : List Block) → slots_of (flat_map block_heads (numbered_blocks k bs)) ≡ from k (blocks_size bs)
-blocks_numbered k [] = refl
-blocks_numbered k (b ∷ bs) =
-    joined k (size b.body) (blocks_size bs) (heads (numbered k b.body)) (flat_map block_heads (numbered_blocks (k + size b.body) bs))
-    (numbered_slots k b.body) (blocks_numbered (k + size b.body) bs)
-
--- ---- the same statements in a process
 
 mutual
   body_has : (c : Bool) (b : Body) → body_slots (body_of c b) ≡ slots_of (heads b)
@@ -154,19 +95,6 @@ one_instance d i k (r ∷ list) h =
     subst (λ (l : List Process). AreApart (flat_map process_slots l))
     (sym (filter-append (at i) (processes_at d (k, r)) (flat_map (processes_at d) (enumerate_from (k + 1) list))))
     (first_or_later d i k r list (k == i) refl h (one_instance d i (k + 1) list h))
-
--- ---- the variants of an elaborated design
-
-are_numbered : (modules : List Module) (variants : List Instance) (v : ℕ × Instance) → AreNumbered (numbered_variant modules variants v)
-are_numbered modules variants v = record {
-  first = first_slot variants v;
-  count = blocks_size v.1.content.blocks;
-  slots = blocks_numbered (first_slot variants v) v.1.content.blocks;
-}
-
-pub each_numbered : (modules : List Module) (variants : List Instance) (list : List (ℕ × Instance)) → EachOf AreNumbered (map (numbered_variant modules variants) list)
-each_numbered modules variants [] = tt
-each_numbered modules variants (v ∷ list) = (are_numbered modules variants v, each_numbered modules variants list)
 
 -- the blocks of the variant of a number, among variants
 abbrev blocks_among : List Variant → ℕ → List Block

@@ -1,4 +1,3 @@
 pub mod Processes
 pub mod Sample
-pub mod Numbered
 pub mod Standing

@@ -1,5 +1,5 @@
 -- An elaborated design as processes, links and what is given, whose execution is defined.
-use Rattle.std.specs.Prelude.{ℕ, ◌==◌, ℤ, pos, negsuc, Bool, false, bytes_eq, List, [], ◌∷◌, ◌++◌, map, Option, Some, None, option_map, unwrap_or, slice_get, find, if◌then◌else◌, codes}
+use Rattle.std.specs.Prelude.{ℕ, ◌==◌, ℤ, Bool, false, bytes_eq, List, [], ◌∷◌, ◌++◌, map, Option, Some, None, option_map, unwrap_or, slice_get, find, if◌then◌else◌, codes}
 use Rattle.std.specs.List.{enumerate_from, flat_map, list_any}
 use Rattle.bv_core.specs.Value.{Bits}
 use Rattle.bv_core.specs.declared.operators.Op1.{Op1}
@@ -23,13 +23,10 @@ use Rattle.design_core.specs.declared.variant.Kind.{Kind}
 use Rattle.design_core.specs.declared.variant.Kind.TheVariants as kind
 use Rattle.design_core.specs.declared.design.Instance.{Instance}
 use Rattle.design_core.specs.Design as design
+use Rattle.design_core.specs.Widths.{bits}
+use Rattle.design_core.specs.WellFormed.{signals_at, children_at, blocks_at}
 
 -- ---- expressions
-
--- a number of bits, or a place among them; a negative one is none
-abbrev pub bits : ℤ → ℕ
-bits (pos n) = n
-bits (negsuc n) = 0
 
 abbrev pub value_of : Literal → Bits
 value_of l = record { width = bits l.width; value = l.value }
@@ -127,17 +124,17 @@ is_top i = i.0 == 0
 
 -- the signals, children and blocks of the variant of this number; none where there is no such variant
 abbrev pub signals_in : design.Design → ℕ → List Signal
-signals_in d v = unwrap_or (option_map (λ (w : design.Variant). w.signals) (slice_get d.variants v)) []
+signals_in d v = signals_at v d.variants
 
 abbrev pub children_in : design.Design → ℕ → List design.Child
-children_in d v = unwrap_or (option_map (λ (w : design.Variant). w.children) (slice_get d.variants v)) []
+children_in d v = children_at v d.variants
 
 abbrev pub blocks_in : design.Design → ℕ → List design.Block
-blocks_in d v = unwrap_or (option_map (λ (w : design.Variant). w.blocks) (slice_get d.variants v)) []
+blocks_in d v = blocks_at v d.variants
 
 -- the signals of the instance of this number
-abbrev pub signals_at : design.Design → ℕ → List Signal
-signals_at d i = unwrap_or (option_map (λ (r : Instance). signals_in d r.variant) (slice_get d.instances i)) []
+abbrev pub instance_signals : design.Design → ℕ → List Signal
+instance_signals d i = unwrap_or (option_map (λ (r : Instance). signals_in d r.variant) (slice_get d.instances i)) []
 
 -- the numbers of the instances that stand in this one, in preorder: one for each of its children
 abbrev pub stands_in : ℕ → Option ℕ → Bool
@@ -209,7 +206,7 @@ givens_at d i = flat_map (λ (s : Signal). given_by i s.name (bits s.width) s.ki
 -- ---- the design
 
 abbrev pub is_signal_of : design.Design → Place → Bool
-is_signal_of d p = list_any (λ (s : Signal). bytes_eq s.name p.name) (signals_at d p.instance)
+is_signal_of d p = list_any (λ (s : Signal). bytes_eq s.name p.name) (instance_signals d p.instance)
 
 abbrev pub processes_of : design.Design → processes.Design
 processes_of d = record {
@@ -217,5 +214,5 @@ processes_of d = record {
   links = flat_map (links_at d) (instances_of d);
   givens = flat_map (givens_at d) (instances_of d);
   is_signal = is_signal_of d;
-  width = λ p. signal_width (signals_at d p.instance) p.name;
+  width = λ p. signal_width (instance_signals d p.instance) p.name;
 }

@@ -1,16 +1,11 @@
+//! Laws of an elaborated design as processes and links.
+
 ghost use Rattle.design_exec.specs.Sample.{Translates};
-ghost use Rattle.design_exec.specs.Numbered.{ElaborationNumbers};
 ghost use Rattle.design_exec.specs.Standing.{ChildrenStand};
 
 /// A design of two instances, as elaboration gives it, is the one whose execution is worked by hand. Computes nothing.
 pub fn translates_the_sample()
     ensures { Translates }
-{}
-
-/// In a design that elaboration gives the slots of a variant are numbers one after another, and no two statements of an instance
-/// have one slot. Computes nothing.
-pub fn elaboration_numbers()
-    ensures { ElaborationNumbers }
 {}
 
 /// In a well-formed design each child of each instance is an instance: the one that execution connects, behind its parent, of the

@@ -5,4 +5,4 @@
 
 mod laws;
 
-pub use laws::{children_stand, elaboration_numbers, translates_the_sample};
+pub use laws::{children_stand, translates_the_sample};

@@ -1,12 +1,12 @@
 -- The inputs of a compiled net are inputs of the top.
-use Rattle.std.proofs.Common.{◌≡◌, ℕ, false, List, map, sym, ap, ◌∙◌, subst}
+use Rattle.std.proofs.Common.{◌≡◌, ℕ, false, map, sym, ap, ◌∙◌, subst}
 use Rattle.std.specs.Prelude.{slice_get, Some}
 use Rattle.std.proofs.lemmas.Option.{slice_get_within, get_or_from_slice_get}
 use Rattle.tree_core.specs.Tree.{Leaf, Origin, Input, Whole}
 use Rattle.exec_core.specs.Block.{Name}
-use Rattle.exec_core.specs.Lists.{IsIn}
+use Rattle.list_core.specs.Lists.{IsIn}
 use Rattle.exec_core.specs.States.{OverGivens}
-use Rattle.exec_core.proofs.Lists.{each_member}
+use Rattle.list_core.proofs.Lists.{each_member}
 use Rattle.design_core.specs.Design.{Design}
 use Rattle.design_core.specs.Ports.{ports_in, top_signals}
 use Rattle.design_exec.specs.Processes.{Given, processes_of}
@@ -15,7 +15,7 @@ use Rattle.net_core.specs.Nets.{NetParts}
 use Rattle.net_core.proofs.TreeLists.{tree_is}
 use Rattle.check_exec.specs.Premises.{IsSound}
 use Rattle.world_core.specs.declared.mode.Mode.{Mode}
-use Rattle.world_core.proofs.Listing.{map_from}
+use Rattle.list_core.proofs.Listing.{map_from}
 use Rattle.trim_core.specs.Trimmed.{IsKeptNet}
 use Rattle.world_laws.proofs.RowsFit.{IsPort, inputs_ports}
 

@@ -3,4 +3,4 @@
 
 mod net;
 
-pub use net::compile;
+pub use net::{Compiled, compile};

@@ -5,9 +5,8 @@ use Rattle.gen_tree.specs.declared.UnOp.TheVariants as un_op
 use Rattle.gen_tree.specs.Tree.{Int, num, var, Fam, plain, Expr, read, out, value, unary, binary, zext, Stmt, assign, bind, choose, repeat, Stmts, no_stmt, stmt, no_else, Conn, inst, comb, no_item, item, Module}
 use Rattle.elab_core.specs.Walk.{Fault, UnknownModule, UnknownParameter, ElabRange, TooDeep}
 use Rattle.exec_core.specs.Block.{Name}
-use Rattle.design_core.specs.Design.{Gens}
+use Rattle.design_core.specs.Design.{Gens, Design}
 use Rattle.elab_core.specs.Elaborated.{Instance}
-use Rattle.design_core.specs.Design.{Design}
 use Rattle.design_core.specs.Slots.{Head, variant_heads}
 use Rattle.elab_core.specs.Design.{variants_of, variant_of, cells, elab, elaborated}
 

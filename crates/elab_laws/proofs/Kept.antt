@@ -8,18 +8,18 @@ use Rattle.std.proofs.lemmas.List.Sums.{prefix_len-le-length}
 use Rattle.std.proofs.lemmas.Option.{none-some, same_Some, slice_get-map, slice_get_within, get_or_from_slice_get}
 use Rattle.gen_tree.specs.Tree.{Module}
 use Rattle.exec_core.specs.Block.{Name}
-use Rattle.exec_core.specs.Lists.{EachOf, AreApart}
+use Rattle.list_core.specs.Lists.{EachOf, AreApart, from}
 use Rattle.design_core.specs.declared.Instance.{Instance as Placed}
 use Rattle.design_core.specs.declared.Signal.{Signal}
 use Rattle.design_core.specs.declared.Kind.{Kind}
 use Rattle.design_core.specs.declared.Kind.TheVariants.{Input, Output, Wire, Reg, ChildOut}
 use Rattle.design_core.specs.Design as design
 use Rattle.design_core.specs.Design.{Gens, AreInRange, Variant, Design}
-use Rattle.design_core.specs.Slots.{AreNumbered, from, slots_of, variant_heads, blocks_size}
+use Rattle.design_core.specs.Slots.{AreNumbered, slots_of, variant_heads, blocks_size}
 use Rattle.design_core.specs.Sizes.{blocks_parts, variant_signals, variant_statements, variant_cells, variant_parts, in_all}
 use Rattle.design_core.specs.WellFormed.{HasParent, AreChildren, standing, children_at, signals_at, output_of, outputs_of, regs, registers, all_slots, AreInTurn, is_plain, IsMember, IfPort, IsLine, AreFew, HasLines, child_names, IsVariant, IsDesign}
-use Rattle.design_exec.proofs.Slots.{each_numbered, blocks_numbered}
-use Rattle.design_exec.proofs.Ranges.{variants_apart}
+use Rattle.elab_laws.proofs.Numbering.{each_numbered, blocks_numbered}
+use Rattle.elab_laws.proofs.Ranges.{variants_apart}
 use Rattle.elab_core.specs.Walk.{Fault, Seen, none_seen, judge, too_large}
 use Rattle.elab_core.specs.declared.Count.TheVariants.{Cells}
 use Rattle.elab_core.specs.Elaborated.{Child, Content, Instance}

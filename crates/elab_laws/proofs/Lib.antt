@@ -15,3 +15,6 @@ pub mod Shapes
 pub mod Spelled
 pub mod Sums
 pub mod Variants
+pub mod Ranges
+pub mod Numbered
+pub mod Numbering

@@ -8,7 +8,8 @@ use Rattle.text_core.specs.Digits.{is_digit}
 use Rattle.gen_token.specs.Bytes.{is_letter, is_name_byte}
 use Rattle.gen_token.specs.Spelling.{IsName, is_name_text}
 use Rattle.exec_core.specs.Block.{Name}
-use Rattle.exec_core.specs.Lists.{EachOf, IsNotIn, AreApart}
+use Rattle.list_core.specs.Lists.{EachOf, IsNotIn, AreApart}
+use Rattle.list_core.proofs.Lists.{apart_both}
 use Rattle.design_core.specs.Design.{Gens}
 use Rattle.design_core.specs.WellFormed.{is_plain, IsMember}
 use Rattle.elab_core.specs.Elaborated.{Child, Instance}
@@ -16,14 +17,6 @@ use Rattle.elab_laws.proofs.Shapes.{IsTree, a_tree, AreTrees, no_trees, one_behi
 use Rattle.elab_laws.proofs.Fine.{both_each, each_parts, Member}
 
 -- ---- lists that differ
-
-apart_both : {A : Type 0} (xs ys : List A) → AreApart xs → AreApart ys → EachOf (λ x. IsNotIn x ys) xs → AreApart (xs ++ ys)
-apart_both [] ys h g c = g
-apart_both (x ∷ xs) ys h g c = (not_both x xs ys h.0 c.0, apart_both xs ys h.1 g c.1)
-  where
-    not_both : {A : Type 0} (x : A) (xs ys : List A) → IsNotIn x xs → IsNotIn x ys → IsNotIn x (xs ++ ys)
-    not_both x [] ys h g = g
-    not_both x (z ∷ xs) ys h g = (h.0, not_both x xs ys h.1 g)
 
 -- what each of the one list differs from in the other
 each_apart : {A : Type 0} (P Q : A → Type 0) (xs ys : List A) → ((x y : A) → P x → Q y → y ≡ x → ⊥) → EachOf P xs → EachOf Q ys → EachOf (λ x. IsNotIn x ys) xs

@@ -2,7 +2,7 @@
 use Rattle.std.proofs.Common.{◌≡◌, ℕ, ◌+◌, ◌*◌, ◌≤◌, List, [], ◌∷◌, ◌++◌, map, length, length-append, refl, ap, ap₂, arith}
 use Rattle.std.proofs.lemmas.List.{length-map}
 use Rattle.exec_core.specs.Block.{Name}
-use Rattle.exec_core.specs.Lists.{EachOf}
+use Rattle.list_core.specs.Lists.{EachOf}
 use Rattle.design_core.specs.declared.Signal.{Signal}
 use Rattle.design_core.specs.Design.{Stmt, Assign, Let, If, Body, Done, Then, Else, NoElse, Otherwise, Block, Variant}
 use Rattle.design_core.specs.Slots.{stmt_size, size, else_size, let_of, lets_of, else_lets, scope, blocks_size}

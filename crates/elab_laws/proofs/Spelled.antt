@@ -15,7 +15,7 @@ use Rattle.gen_text.specs.Source.{Reads}
 use Rattle.gen_tree.specs.declared.Mode.TheVariants as mode
 use Rattle.gen_tree.specs.Grammar.{◌⨾◌, Single, StartsAt, Key, Sym, Each, Braces, int_op_mark, cmp_mark, SourceInt, SourceFam, SourceExpr, SpellsIndex, SpellsLit, un_op_word, op_mark, SpellsTwo, SpellsPrim, SpellsTurns, SpellsGiven, SpellsParam, SpellsParams, assign_mark, SpellsStmt, SpellsStmts, SpellsElse, SpellsConn, SpellsItem, SpellsItems, SpellsElseItems, direction, SpellsPort, SpellsModule, Spells}
 use Rattle.gen_tree.specs.Tree.{Int, num, var, bin, Fam, Lit, plain, bits, Expr, read, out, value, unary, binary, mux, zext, slice, Stmt, assign, bind, choose, repeat, given, Stmts, no_stmt, stmt, Else, no_else, otherwise, Param, Conn, Item, wire, reg, inst, comb, ff, repeat_items, given_items, Items, no_item, item, ElseItems, no_else_items, otherwise_items, Port, Module}
-use Rattle.exec_core.specs.Lists.{EachOf}
+use Rattle.list_core.specs.Lists.{EachOf}
 use Rattle.design_core.specs.WellFormed.{IsLine}
 use Rattle.elab_laws.proofs.Fine.{Stands, StmtOf, StmtsOf, ElseOf, most_params, ItemOf, ItemsOf, ElseItemsOf, PortOf, ModuleOf}
 

@@ -3,4 +3,4 @@
 
 mod laws;
 
-pub use laws::elaboration_keeps;
+pub use laws::{elaboration_keeps, elaboration_numbers};

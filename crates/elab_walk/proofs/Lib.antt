@@ -1,4 +1,3 @@
-pub mod Mapped
 pub mod Placed
 pub mod ValueSteps
 pub mod Exits

@@ -7,7 +7,6 @@ mod gather;
 mod item;
 mod made;
 mod modules;
-mod names;
 mod signals;
 mod top;
 mod values;

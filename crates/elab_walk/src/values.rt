@@ -8,20 +8,20 @@ ghost use Rattle.elab_core.specs.Numbers.{find, number};
 ghost use Rattle.elab_core.specs.Elab.{distinct, given_or, parameters as parameters_walk, values as values_walk, top_values as top_walk};
 ghost use Rattle.elab_walk.specs.Values.{names_of as names_in, is_open, arguments_by, top_arguments_by};
 
-use crate::names::Names;
 use elab_base::{default_at, number_at};
 use elab_core::ElabFault;
 use gen_scope::{Params, Scope};
 use gen_tree::{Module, Param};
+use names::NameSet;
 use std::alloc::Global;
 use text_core::Text;
 
 /// The names of a module's parameters. It is a fault on the line of the module if two have one name.
-fn names_of(alloc: Global, found: &Module) -> Result<Names, ElabFault>
+fn names_of(alloc: Global, found: &Module) -> Result<NameSet, ElabFault>
     ensures distinct { AnswersWith (λ _. tt) result (distinct (module_of found.now).line [] (module_of found.now).params) }
     ensures names { IfOk result (λ names. names ≡ names_in (module_of found.now).params) }
 {
-    let mut names = Names::new(alloc);
+    let mut names = NameSet::new(alloc);
     for param in &found.params {
         if !names.insert(alloc, param.name.bytes())? {
             let name = Text::new(alloc, param.name.bytes())?;
@@ -35,7 +35,7 @@ fn names_of(alloc: Global, found: &Module) -> Result<Names, ElabFault>
 }
 
 /// Whether a name is one of these, and was not given.
-fn is_free(names: &Names, given: &Params, name: &[u8]) -> bool
+fn is_free(names: &NameSet, given: &Params, name: &[u8]) -> bool
     ensures { result ≡ is_open names.now given.now name.now }
 {
     names.contains(name) && given.number_of(name).is_none()
@@ -47,7 +47,7 @@ fn arguments(
     alloc: Global,
     line: u32,
     scope: &Scope,
-    names: &Names,
+    names: &NameSet,
     args: &[Param],
 ) -> Result<Params, ElabFault>
     ensures { AnswersWith (λ given. given) result (arguments_by line scope.now names.now (map param_of args.now) []) }
@@ -66,7 +66,7 @@ fn arguments(
 
 /// The parameters that are given to the top, in their order.
 #[tactic(auto, using(crate::proofs::ValueSteps::top_steps))]
-fn top_arguments(alloc: Global, names: &Names, all: &[(Text, i64)]) -> Result<Params, ElabFault>
+fn top_arguments(alloc: Global, names: &NameSet, all: &[(Text, i64)]) -> Result<Params, ElabFault>
     ensures { AnswersWith (λ given. given) result (top_arguments_by names.now all.now []) }
 {
     let mut given = Params::new(alloc);

@@ -10,13 +10,14 @@ use Rattle.bv_core.specs.declared.operators.Op2.TheVariants.{And}
 use Rattle.tree_core.specs.Tree.{Tree, Const, Leaf, One, Two, Mux, value_of}
 use Rattle.tree_core.specs.Width.{width_of, WellFormed, IsOf}
 use Rattle.tree_core.proofs.Folding.{value_is}
-use Rattle.exec_core.specs.Lists.{AreApart, IsNotIn}
+use Rattle.list_core.specs.Lists.{AreApart, IsNotIn}
 use Rattle.exec_core.specs.Block.{Name, Expr, Key, Now, Next, same_key, key_name, Stmt, Assign, If, Body, Done, Then, assigns, body_assigns, body_slots, own}
 use Rattle.exec_core.specs.Exec.{Env, on_one, on_two, on_three, start}
 use Rattle.exec_core.specs.Trees.{tree_in, merged, trees_after, body_trees_after, Row, then_enable, else_enable, rows, body_rows, block_rows, row_at}
 use Rattle.exec_core.specs.Agree.{IsBit, HasBit, TestsAreBits, BodyTestsAreBits}
 use Rattle.exec_core.specs.Paths.{Skips, BodySkips, Misses, BodyMisses, own_key, ReadsAssigned, Reads, BodyReads, HasWidth, Widths, BodyWidths, known_in, known_key, Checked, HasTree, TreeFits, TreesChecked, CheckedTrees}
-use Rattle.exec_core.proofs.Slots.{row_slots, body_rows_have, some_if}
+use Rattle.exec_core.proofs.Slots.{row_slots, body_rows_have}
+use Rattle.list_core.proofs.Options.{some_if}
 
 both_false : (a b : Bool) → (a || b) ≡ false → (a ≡ false) × (b ≡ false)
 both_false false b e = (refl, e)

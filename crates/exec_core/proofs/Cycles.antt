@@ -4,21 +4,22 @@ use Rattle.std.specs.Prelude.{find, option_map}
 use Rattle.bv_core.specs.Value.{Bits}
 use Rattle.tree_core.specs.Tree.{Tree, Leaf, Origin, value_of}
 use Rattle.tree_core.specs.Width.{WellFormed, IsOf, origin_width}
-use Rattle.exec_core.specs.Lists.{IsIn}
+use Rattle.list_core.specs.Lists.{IsIn}
 use Rattle.exec_core.specs.Block.{Name, Key, Now, Next, key_name}
 use Rattle.exec_core.specs.Exec.{Env, start, body_visits, before_slot}
 use Rattle.exec_core.specs.Trees.{Row, block_rows, block_trees, row_at}
 use Rattle.exec_core.specs.Agree.{Shows, TellsVisit}
 use Rattle.exec_core.specs.Paths.{IsUnset, known_in, HasTree, TreeFits, known_key}
 use Rattle.exec_core.specs.Whole.{Place, IsDriven, Solves}
-use Rattle.exec_core.specs.Design.{Process, Design, place, within, moved, signals_of, width_in, writes_to, driver_of, next_of, next_tree, folded_tree}
+use Rattle.exec_core.specs.Design.{Process, Design, place, within, moved, signals_of, width_in, writes_to, driver_of, next_by, next_tree, folded_tree}
 use Rattle.exec_core.specs.Run.{IsTarget, ends, given_value, Settled, written, next_value, processes_of, thread_of}
 use Rattle.exec_core.specs.Accepted.{LinkFits, GivenFits, Accepted}
 use Rattle.exec_core.specs.States.{Gives, net_value, NameTold, ProcessTold, CycleAgrees, SettledAgrees}
 use Rattle.exec_core.proofs.Agreeing.{ends_agree}
-use Rattle.exec_core.proofs.Slots.{blocks_agree, some_same, some_if}
+use Rattle.exec_core.proofs.Slots.{blocks_agree}
+use Rattle.list_core.proofs.Options.{some_same, some_if}
 use Rattle.exec_core.proofs.Checking.{checked_bits}
-use Rattle.exec_core.proofs.Lists.{each_member, each_from, find_member, filter_member}
+use Rattle.list_core.proofs.Lists.{each_member, each_from, find_member, filter_member}
 use Rattle.exec_core.proofs.Threads.{block_row_in, none_visits, visits_here}
 use Rattle.exec_core.proofs.Moving.{value_moved, moved_fits, signal_width}
 use Rattle.exec_core.proofs.Sources.{link_source, target_source, target_tree, given_source, given_found, driver_cases, Driver, by_link, by_process, block_apart, block_checked, process_checked, next_fits}
@@ -82,7 +83,7 @@ module _ (d : Design) (order : List Place) (ok : Accepted d order) where
       block_value : (b : Process) (t : Tree Name) → WellFormed (λ x. signals_of d b x ≡ true) (width_in d b) t → value_of (within b.instance E) t ≡ net_value d (length order) G b t
       block_value b t h = sym (value_moved b.instance E t) ∙ sym (tree_value (moved b.instance t) (moved_fits d b t h).0)
 
-      next_at : (p : Place) (o : Option Process) → find (writes_to p) d.processes ≡ o → written E p o ≡ value_of E (next_of p o)
+      next_at : (p : Place) (o : Option Process) → find (writes_to p) d.processes ≡ o → written E p o ≡ value_of E (next_by p o)
       next_at p None e = refl
       next_at p (Some b) e = or_old (block_trees b.body (Next p.name)) refl
         where

@@ -1,5 +1,5 @@
 -- Whole trees of an accepted design: they fit their widths, go node by node, and have the values of what they stand for.
-use Rattle.std.proofs.Common.{◌≡◌, ℕ, zero, suc, true, List, length, refl, sym, ap, ◌∙◌, subst, unwrap_or, inl, inr, map, [], ◌∷◌}
+use Rattle.std.proofs.Common.{◌≡◌, ℕ, zero, suc, true, List, length, refl, sym, ap, ◌∙◌, subst, unwrap_or, map, [], ◌∷◌}
 use Rattle.bv_core.specs.Value.{Bits}
 use Rattle.bv_core.specs.declared.operators.Op1.{Op1}
 use Rattle.bv_core.specs.declared.operators.Op2.{Op2}
@@ -10,14 +10,15 @@ use Rattle.tree_core.specs.Sample.{at_start}
 use Rattle.tree_core.proofs.Folding.{value_is, fold_kept}
 use Rattle.tree_core.proofs.Same.{same_origin-sound}
 use Rattle.tree_core.proofs.Samples.{some_given}
-use Rattle.exec_core.specs.Lists.{EachOf, IsIn}
+use Rattle.list_core.specs.Lists.{EachOf, IsIn}
 use Rattle.exec_core.specs.Leaves.{replace, EachLeaf}
 use Rattle.exec_core.specs.Whole.{Place, Drivers, or_itself, whole, Solves, IsGiven, OneSolution}
 use Rattle.exec_core.specs.Design.{Design, driver_of, origin_at, whole_tree, folded_tree}
 use Rattle.exec_core.specs.Accepted.{GivenFits, Accepted}
 use Rattle.exec_core.specs.States.{OverGivens, NodeByNode, NodesByNode}
 use Rattle.exec_core.proofs.Wholes.{value_replace, closed_whole, stays_closed, all_closed, trees_closed, order_solves, both_leaves}
-use Rattle.exec_core.proofs.Lists.{each_member, each_from}
+use Rattle.list_core.proofs.Lists.{each_member, each_from}
+use Rattle.list_core.proofs.Listing.{map_in}
 use Rattle.exec_core.proofs.Moving.{Fits, replace_fits, good_leaves, with_leaves}
 use Rattle.exec_core.proofs.Sources.{given_source, given_origin, given_found, itself_fits, drivers_read}
 
@@ -36,11 +37,6 @@ whole_two d (suc n) op a b = whole_two d n op (replace (λ p. or_itself (d p) p)
 whole_mux : (d : Drivers) (n : ℕ) (c a b : Tree Place) → whole d n (Mux c a b) ≡ Mux (whole d n c) (whole d n a) (whole d n b)
 whole_mux d zero c a b = refl
 whole_mux d (suc n) c a b = whole_mux d n (replace (λ p. or_itself (d p) p) c) (replace (λ p. or_itself (d p) p) a) (replace (λ p. or_itself (d p) p) b)
-
-pub map_in : {A B : Type 0} (f : A → B) (xs : List A) (x : A) → IsIn x xs → IsIn (f x) (map f xs)
-map_in f [] x i = i
-map_in f (y ∷ ys) x (inl e) = inl (ap f e)
-map_in f (y ∷ ys) x (inr i) = inr (map_in f ys x i)
 
 module _ (d : Design) (order : List Place) (ok : Accepted d order) where
   abbrev pub n : ℕ

@@ -2,7 +2,6 @@ pub mod Agreeing
 pub mod Slots
 pub mod Wholes
 pub mod Checking
-pub mod Lists
 pub mod Threads
 pub mod Moving
 pub mod Sources
@@ -12,4 +11,3 @@ pub mod Running
 pub mod Keeping
 pub mod Samples
 pub mod KeptTrees
-pub mod Roots

@@ -6,14 +6,14 @@ use Rattle.bv_core.specs.Value.{IsBits}
 use Rattle.tree_core.specs.Width.{IsOf}
 use Rattle.tree_core.proofs.Same.{both_true}
 use Rattle.exec_core.specs.Block.{Name, Now, own, body_slots}
-use Rattle.exec_core.specs.Lists.{EachOf, IsIn, IsNotIn, AreApart}
+use Rattle.list_core.specs.Lists.{EachOf, IsIn, IsNotIn, AreApart}
 use Rattle.exec_core.specs.Paths.{BodySkips}
 use Rattle.exec_core.specs.Whole.{Place, IsGiven}
 use Rattle.exec_core.specs.Design.{Process, place, same_place, driver_of}
 use Rattle.exec_core.specs.Run.{IsTarget, ends}
 use Rattle.exec_core.specs.Accepted.{source_count}
 use Rattle.exec_core.specs.Sample.{four, child_body, top_body, register_body, sample_signals, sample, sample_order, sample_cycle, BlocksCompute, CycleComputes, WholeTreesCompute, SampleIsAccepted}
-use Rattle.exec_core.proofs.Lists.{each_member, apart_split, not_in_split}
+use Rattle.list_core.proofs.Lists.{each_member, apart_split, not_in_split, apart_joined, not_joined}
 use Rattle.exec_core.proofs.Keeping.{both_off}
 use Rattle.exec_core.proofs.Sources.{same_place-sound}
 
@@ -21,7 +21,7 @@ pub blocks_compute : BlocksCompute
 blocks_compute = record { then_branch = refl; else_branch = refl; tree = refl; next = refl; top_enable = refl; else_enable = refl; unset_before = refl }
 
 pub whole_trees_compute : WholeTreesCompute
-whole_trees_compute = record { output = refl; next = refl; then_enable = refl; else_enable = refl; no_enable = refl; kept = refl }
+whole_trees_compute = record { output = refl; next = refl; kept = refl }
 
 -- the signals, one by one
 signal_in : (p : Place) (ps : List Place) → list_any (same_place p) ps ≡ true → IsIn p ps
@@ -49,21 +49,9 @@ not_in_filter : {A : Type 0} (f : A → List ℕ) (test : A → Bool) (n : ℕ) 
 not_in_filter f test n [] h = h
 not_in_filter f test n (x ∷ xs) h = at_test (test x) (not_in_filter f test n xs (not_in_split n (f x) (flat_map f xs) h).1)
   where
-    joined : (ms ks : List ℕ) → IsNotIn n ms → IsNotIn n ks → IsNotIn n (ms ++ ks)
-    joined [] ks p q = q
-    joined (m ∷ ms) ks p q = (p.0, joined ms ks p.1 q)
-
     at_test : (b : Bool) → IsNotIn n (flat_map f (filter test xs)) → IsNotIn n (flat_map f (cond b (x ∷ filter test xs) (filter test xs)))
-    at_test true g = joined (f x) (flat_map f (filter test xs)) (not_in_split n (f x) (flat_map f xs) h).0 g
+    at_test true g = not_joined n (f x) (flat_map f (filter test xs)) (not_in_split n (f x) (flat_map f xs) h).0 g
     at_test false g = g
-
-apart_joined : (ms ks : List ℕ) → AreApart ms → AreApart ks → ((n : ℕ) → IsIn n ms → IsNotIn n ks) → AreApart (ms ++ ks)
-apart_joined [] ks a b h = b
-apart_joined (m ∷ ms) ks a b h = (joined ms a.0, apart_joined ms ks a.1 b (λ n i. h n (inr i)))
-  where
-    joined : (ls : List ℕ) → IsNotIn m ls → IsNotIn m (ls ++ ks)
-    joined [] p = h m (inl refl)
-    joined (l ∷ ls) p = (p.0, joined ls p.1)
 
 filter_apart : {A : Type 0} (f : A → List ℕ) (test : A → Bool) (xs : List A) → AreApart (flat_map f xs) → AreApart (flat_map f (filter test xs))
 filter_apart f test [] a = a

@@ -1,9 +1,10 @@
 -- Visits and rows by slot.
-use Rattle.std.proofs.Common.{◌≡◌, ℕ, Bool, true, false, ◌==◌, List, [], ◌∷◌, ◌++◌, Option, Some, None, if◌then◌else◌, map, refl, sym, ap, ap₂, ◌∙◌, subst, eqb-true, ne_eqb, unwrap_or}
+use Rattle.std.proofs.Common.{◌≡◌, ℕ, true, ◌==◌, List, [], ◌∷◌, ◌++◌, Option, Some, None, if◌then◌else◌, map, refl, sym, ap, ap₂, ◌∙◌, subst, eqb-true, ne_eqb}
 use Rattle.bv_core.specs.Value.{Bits}
 use Rattle.bv_core.specs.Operators.{flag_of}
 use Rattle.tree_core.specs.Tree.{Tree, Const, Leaf, value_of}
-use Rattle.exec_core.specs.Lists.{AreApart, IsNotIn}
+use Rattle.list_core.proofs.Options.{none_if, some_if}
+use Rattle.list_core.specs.Lists.{AreApart, IsNotIn}
 use Rattle.exec_core.specs.Block.{Name, Stmt, Assign, If, Body, Done, Then, slots, body_slots}
 use Rattle.exec_core.specs.Exec.{Env, Visit, start, before_slot}
 use Rattle.exec_core.specs.Trees.{Row, tree_in, trees_after, then_enable, else_enable, rows, body_rows, row_at}
@@ -31,17 +32,6 @@ mutual
   body_rows_have (Then s rest) on trees =
       row_slots-append (rows s on trees) (body_rows rest on (trees_after s trees))
       ∙ ap₂ (λ ms ks. ms ++ ks) (rows_have s on trees) (body_rows_have rest on (trees_after s trees))
-
-pub none_if : {A : Type 0} (b : Bool) (a : A) (o : Option A) → (if b then Some a else o) ≡ None → (b ≡ false) × (o ≡ None)
-none_if true a o e = cc
-none_if false a o e = (refl, e)
-
-pub some_same : {A : Type 0} (a b : A) → Some a ≡ Some b → a ≡ b
-some_same a b e = ap (λ o. unwrap_or o a) e
-
-pub some_if : {A : Type 0} (b : Bool) (a c : A) (o : Option A) (P : Type 0) → (b ≡ true → a ≡ c → P) → (b ≡ false → o ≡ Some c → P) → (if b then Some a else o) ≡ Some c → P
-some_if true a c o P f g e = f refl (some_same a c e)
-some_if false a c o P f g e = g refl e
 
 -- a slot that no row has is not visited
 pub unvisited : (V : Tree Name → Bits) (n : ℕ) {rs : List Row} {vs : List Visit} → row_at n rs ≡ None → Follows V rs vs → before_slot n vs ≡ None

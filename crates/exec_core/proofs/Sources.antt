@@ -5,17 +5,17 @@ use Rattle.std.proofs.lemmas.Slice.Eq.{bytes_eq-Decides}
 use Rattle.tree_core.specs.Tree.{Tree, Leaf, Origin}
 use Rattle.tree_core.specs.Width.{width_of, WellFormed}
 use Rattle.tree_core.proofs.Same.{both_true, and_true}
-use Rattle.exec_core.specs.Lists.{AreApart, IsIn}
+use Rattle.list_core.specs.Lists.{AreApart, IsIn}
 use Rattle.exec_core.specs.Block.{Name, Now, Next, own, body_slots, body_assigns}
 use Rattle.exec_core.specs.Trees.{block_trees}
 use Rattle.exec_core.specs.Paths.{BodySkips, Checked, TreeFits, TreesChecked}
 use Rattle.exec_core.specs.Whole.{Place, or_itself, OverSignals, IsGiven}
-use Rattle.exec_core.specs.Design.{Process, Design, place, same_place, moved, signals_of, width_in, links_to, assigns_to, gives_to, writes_to, process_tree, or_else, driver_of, next_of, next_tree, origin_at}
+use Rattle.exec_core.specs.Design.{Process, Design, place, same_place, moved, signals_of, width_in, links_to, assigns_to, gives_to, writes_to, process_tree, or_else, driver_of, next_by, next_tree, origin_at}
 use Rattle.exec_core.specs.Run.{IsTarget, processes_of}
 use Rattle.exec_core.specs.Accepted.{LinkFits, GivenFits, Accepted, ProcessesChecked}
 use Rattle.exec_core.proofs.Checking.{trees_checked}
-use Rattle.exec_core.proofs.Slots.{some_same}
-use Rattle.exec_core.proofs.Lists.{each_member, each_from, find_member, find_none, find_only, counted, one_counted, filter_member, flat_map_apart}
+use Rattle.list_core.proofs.Options.{some_same}
+use Rattle.list_core.proofs.Lists.{each_member, each_from, find_member, find_none, find_only, counted, one_counted, filter_member, flat_map_apart}
 use Rattle.exec_core.proofs.Moving.{Fits, moved_fits, signal_width, good_leaves}
 
 pub same_place-sound : (p q : Place) → same_place p q ≡ true → p ≡ q
@@ -208,7 +208,7 @@ module _ (d : Design) (order : List Place) (ok : Accepted d order) where
           some_driver (moved b.0.instance t.0) (ap (driver_of d) (sym q) ∙ target_source b.0 b.1 p.name target ∙ ap (option_map (moved b.0.instance)) t.1)
 
   -- the tree of a register's next value
-  next_process : (p : Place) (o : Option Process) → find (writes_to p) d.processes ≡ o → IsSignal p → Fits IsSignal d.width (d.width p) (next_of p o)
+  next_process : (p : Place) (o : Option Process) → find (writes_to p) d.processes ≡ o → IsSignal p → Fits IsSignal d.width (d.width p) (next_by p o)
   next_process p None e s = (s, refl)
   next_process p (Some b) e s =
       let m = find_member (writes_to p) d.processes b e in

@@ -4,14 +4,15 @@ use Rattle.std.specs.List.{flat_map}
 use Rattle.bv_core.specs.Value.{Bits}
 use Rattle.tree_core.specs.Tree.{Const, Leaf}
 use Rattle.bv_core.specs.Operators.{flag_of}
-use Rattle.exec_core.specs.Lists.{AreApart, IsIn, IsNotIn}
+use Rattle.list_core.specs.Lists.{AreApart, IsIn, IsNotIn}
 use Rattle.exec_core.specs.Block.{Stmt, Assign, If, Body, Done, Then, slots, body_slots}
 use Rattle.exec_core.specs.Exec.{Env, Visit, value_in, selects, start, after, visits, body_visits, before_slot}
 use Rattle.exec_core.specs.Trees.{Row, block_rows, row_at}
 use Rattle.exec_core.specs.Whole.{Place}
 use Rattle.exec_core.specs.Design.{Process, within}
-use Rattle.exec_core.proofs.Slots.{row_slots, body_rows_have, none_if, some_if}
-use Rattle.exec_core.proofs.Lists.{not_in_split, apart_split, flat_map_in}
+use Rattle.exec_core.proofs.Slots.{row_slots, body_rows_have}
+use Rattle.list_core.proofs.Options.{none_if, some_if}
+use Rattle.list_core.proofs.Lists.{not_in_split, apart_split, flat_map_in}
 
 -- the first visit of a slot in two lists of visits
 before_right : (n : ℕ) (vs ws : List Visit) → before_slot n vs ≡ None → before_slot n (vs ++ ws) ≡ before_slot n ws

@@ -3,7 +3,7 @@ use Rattle.std.specs.Prelude.{◌≡◌, ℕ, ◌+◌, true, List, [], ◌∷◌
 use Rattle.tree_core.specs.Tree.{Tree, Origin}
 use Rattle.tree_core.specs.Width.{width_of, WellFormed, origin_width, IsOrigin}
 use Rattle.exec_core.specs.Block.{Name, Now}
-use Rattle.exec_core.specs.Lists.{EachOf, AreApart}
+use Rattle.list_core.specs.Lists.{EachOf, AreApart}
 use Rattle.exec_core.specs.Paths.{BodySkips, Checked, TreesChecked}
 use Rattle.exec_core.specs.Whole.{Place, IsOrder}
 use Rattle.exec_core.specs.Design.{Design, signals_of, width_in, links_to, assigns_to, gives_to, driver_of}

@@ -5,7 +5,7 @@ use Rattle.bv_core.specs.Operators.{flag_of}
 use Rattle.tree_core.specs.Tree.{Tree, Leaf, value_of}
 use Rattle.exec_core.specs.Block.{Name, Key, Stmt, Assign, If, Body, Done, Then, body_slots}
 use Rattle.exec_core.specs.Exec.{Env, Visit, start, body_visits, body_after, before_slot}
-use Rattle.exec_core.specs.Lists.{AreApart}
+use Rattle.list_core.specs.Lists.{AreApart}
 use Rattle.exec_core.specs.Trees.{tree_in, trees_after, Row, block_rows, block_trees, row_at}
 
 -- where there is a tree, its value is what execution has

@@ -70,12 +70,12 @@ driver_of d p =
     or_else (option_map (λ link. link.1) (find (links_to p) d.links)) (option_and_then (process_tree p) (find (assigns_to p) d.processes))
 
 -- the tree of what a register holds next: what the block that writes it ends with; the register itself where none does
-abbrev pub next_of : Place → Option Process → Tree Place
-next_of p None = Leaf p
-next_of p (Some b) = moved b.instance (unwrap_or (block_trees b.body (Next p.name)) (Leaf p.name))
+abbrev pub next_by : Place → Option Process → Tree Place
+next_by p None = Leaf p
+next_by p (Some b) = moved b.instance (unwrap_or (block_trees b.body (Next p.name)) (Leaf p.name))
 
 abbrev pub next_tree : Design → Place → Tree Place
-next_tree d p = next_of p (find (writes_to p) d.processes)
+next_tree d p = next_by p (find (writes_to p) d.processes)
 
 -- what whole trees call an input of the top or a register
 abbrev pub origin_at : Design → Place → Option Origin

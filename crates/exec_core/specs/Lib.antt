@@ -1,4 +1,3 @@
-pub mod Lists
 pub mod Block
 pub mod Exec
 pub mod Trees

@@ -5,7 +5,7 @@ use Rattle.tree_core.specs.Tree.{Tree}
 use Rattle.tree_core.specs.Width.{width_of, WellFormed}
 use Rattle.exec_core.specs.Block.{Name, Expr, Key, Now, Next, same_key, key_name, Stmt, Assign, If, Body, Done, Then, body_slots, own}
 use Rattle.exec_core.specs.Trees.{Row, block_rows, block_trees, row_at}
-use Rattle.exec_core.specs.Lists.{AreApart}
+use Rattle.list_core.specs.Lists.{AreApart}
 use Rattle.exec_core.specs.Leaves.{EachLeaf}
 
 -- some path through it does not assign the key

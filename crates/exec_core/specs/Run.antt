@@ -6,7 +6,7 @@ use Rattle.tree_core.specs.Tree.{Origin, Input, Register, value_of}
 use Rattle.tree_core.specs.Width.{IsOf}
 use Rattle.exec_core.specs.Block.{Name, Now, Next, own, body_slots}
 use Rattle.exec_core.specs.Exec.{Env, Visit, start, body_after, body_visits, before_slot}
-use Rattle.exec_core.specs.Lists.{EachOf}
+use Rattle.list_core.specs.Lists.{EachOf}
 use Rattle.exec_core.specs.Whole.{Place}
 use Rattle.exec_core.specs.Design.{Process, Design, place, within, signals_of, writes_to, origin_at}
 

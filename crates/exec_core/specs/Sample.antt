@@ -23,7 +23,7 @@ use Rattle.exec_core.specs.Whole.{Place}
 use Rattle.exec_core.specs.Design.{Design, place, same_place, folded_tree}
 use Rattle.exec_core.specs.Run.{next_value, starts, IsRun, thread_of}
 use Rattle.exec_core.specs.Accepted.{Accepted}
-use Rattle.exec_core.specs.Kept.{next_in, numbered, enable_trees}
+use Rattle.exec_core.specs.Kept.{next_in, numbered}
 
 -- a constant of four bits
 abbrev pub four : ℕ → Bits
@@ -110,9 +110,6 @@ pub record CycleComputes : Type 0 where
 pub record WholeTreesCompute : Type 0 where
   pub output : folded_tree sample (length sample_order) (Leaf (place 0 (codes "y"))) ≡ q_tree (Leaf r_origin)
   pub next : next_in sample (length sample_order) r_origin ≡ Some r_tree
-  pub then_enable : enable_trees sample (length sample_order) 2 1 ≡ Two Eq (Leaf r_origin) (Const (four 3)) ∷ []
-  pub else_enable : enable_trees sample (length sample_order) 3 1 ≡ One Not (Two Eq (Leaf r_origin) (Const (four 3))) ∷ []
-  pub no_enable : enable_trees sample (length sample_order) 2 0 ≡ []
   pub kept :
       numbered (q_tree (Leaf r_origin) ∷ []) (next_in sample (length sample_order)) 1
       ≡ Leaf r_origin ∷ Const (four 3) ∷ Two Eq (Leaf r_origin) (Const (four 3)) ∷ Const (four 1) ∷ Two Add (Leaf r_origin) (Const (four 1)) ∷ Const (four 0) ∷ q_tree (Leaf r_origin)

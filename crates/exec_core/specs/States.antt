@@ -10,7 +10,7 @@ use Rattle.exec_core.specs.Block.{Name, Now}
 use Rattle.exec_core.specs.Exec.{Env}
 use Rattle.exec_core.specs.Agree.{TellsVisit}
 use Rattle.exec_core.specs.Leaves.{EachLeaf}
-use Rattle.exec_core.specs.Lists.{EachOf, IsIn, IsNotIn}
+use Rattle.list_core.specs.Lists.{EachOf, IsIn, IsNotIn}
 use Rattle.exec_core.specs.Paths.{known_in, known_key, IsUnset}
 use Rattle.exec_core.specs.Trees.{Row, block_rows, row_at}
 use Rattle.exec_core.specs.Whole.{Place}

@@ -1,8 +1,11 @@
+//! The theorems of execution: blocks and their trees agree, drivers have one solution, cycles settle once, runs agree with whole
+//! trees.
+
 ghost use Rattle.exec_core.specs.Accepted.{ProcessesChecked};
 ghost use Rattle.exec_core.specs.Agree.{BlocksAgree};
 ghost use Rattle.exec_core.specs.Paths.{CheckedTrees};
 ghost use Rattle.exec_core.specs.Kept.{DesignWalkKeeps, WalkKeeps};
-ghost use Rattle.exec_core.specs.KeptStates.{KeptStatesSuffice, RootsOverGivens};
+ghost use Rattle.exec_core.specs.KeptStates.{KeptStatesSuffice};
 ghost use Rattle.exec_core.specs.Whole.{OrderSolves};
 ghost use Rattle.exec_core.specs.Sample.{BlocksCompute, CycleComputes, SampleIsAccepted, WholeTreesCompute};
 ghost use Rattle.exec_core.specs.States.{CyclesSettle, SettledAgrees, RunsAgree, NodesByNode};
@@ -44,7 +47,6 @@ pub fn kept_trees()
     ensures walk { WalkKeeps }
     ensures design { DesignWalkKeeps }
     ensures states { KeptStatesSuffice }
-    ensures roots { RootsOverGivens }
 {}
 
 /// A small design, worked by hand, has the trees, visits, cycle and numbers that the definitions give it, and meets the

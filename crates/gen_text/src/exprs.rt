@@ -1,3 +1,5 @@
+//! Expressions, read from left to right with one token ahead. `room` is how many brackets may still be opened.
+
 ghost use Rattle.std.specs.Prelude.{◌≡◌};
 ghost use Rattle.gen_token.specs.Words.{placed, word_of};
 ghost use Rattle.gen_tree.specs.Tree as tree;

@@ -1,3 +1,5 @@
+//! Why a text is not read: its size, a byte, or the line of the first token with which no source goes on.
+
 ghost use Rattle.std.specs.Prelude.{◌≡◌};
 ghost use Rattle.gen_text.specs.Faults.{text_fault_of};
 ghost use Rattle.gen_text.specs.declared.fault.ReadFault.TheVariants as read_faults;

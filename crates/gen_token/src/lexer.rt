@@ -1,3 +1,5 @@
+//! A text as tokens. Each is as long as it can be; blanks and comments separate them.
+
 ghost use Rattle.std.specs.Prelude.{◌≡◌, ◌≤◌, ◌<◌, ◌+◌, ◌^◌, false, Some, IfOk, IfErr, IfSome, length};
 ghost use Rattle.gen_token.specs.Tokens.{word_or, name_at, mark_at, token_at, skip, AreTokens, IsCause};
 ghost use Rattle.gen_token.specs.Words.{word_of, placed, found_as};

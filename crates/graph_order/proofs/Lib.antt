@@ -1,6 +1,6 @@
-pub mod Lists
 mod Marks
 pub mod Paths
 pub mod Standing
 mod Steps
 mod Spans
+pub mod Found

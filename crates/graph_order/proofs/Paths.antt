@@ -2,11 +2,11 @@
 use Rattle.std.proofs.Common.{◌≡◌, ℕ, ◌<◌, ◌≤◌, ◌+◌, List, [], ◌∷◌, ◌++◌, length, take, drop, get_or, sym, subst, arith, inl, inr}
 use Rattle.std.proofs.lemmas.List.{append-nil, take-append-drop, drop_more}
 use Rattle.std.proofs.lemmas.Bool.{cases_eq}
-use Rattle.graph_order.specs.Lists.{EachOf, IsIn, AreApart}
+use Rattle.list_core.specs.Lists.{EachOf, IsIn, AreApart}
 use Rattle.graph_order.specs.Graphs.{Graph, HasEdge}
 use Rattle.graph_order.specs.Cycles.{Leads, IsCycle}
 use Rattle.graph_order.specs.Search.{IsPath, LastLeads, IsRound, IsTurned, from_on}
-use Rattle.graph_order.proofs.Lists.{each_left, each_right, each_append, each_map, each_more, apart_turned}
+use Rattle.list_core.proofs.Lists.{each_left, each_right, each_append, each_map, each_more, apart_turned}
 
 pub path_push : (g : Graph) (ys : List ℕ) (z y : ℕ) → IsPath g (ys ++ z ∷ []) → HasEdge g z y → IsPath g ((ys ++ z ∷ []) ++ y ∷ [])
 path_push g [] z y h e = (e, (tt, tt))

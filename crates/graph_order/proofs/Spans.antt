@@ -1,11 +1,11 @@
 -- Two flat lists as a graph.
 use Rattle.std.proofs.Common.{◌≡◌, ℕ, zero, suc, ◌<◌, ◌≤◌, ◌+◌, ◌-◌, ◌^◌, List, [], ◌∷◌, ◌++◌, length, take, drop, set, get_or, refl, sym, subst, ap, ap₂, ◌∙◌, arith, length-append, length-drop, length-set}
 use Rattle.std.proofs.lemmas.List.{take-append-le, drop-append-le, drop_at, take_all, map_push, map-set, get_or-map, length-map}
-use Rattle.graph_order.specs.Lists.{EachOf}
-use Rattle.graph_order.specs.Graphs.{Graph, next_of, IsGraph}
+use Rattle.list_core.specs.Lists.{EachOf}
+use Rattle.graph_order.specs.Graphs.{Graph, edges_of, IsGraph}
 use Rattle.graph_order.specs.Flat.{edges_in, graph_of, IsWithin, IsFlat}
 use Rattle.graph_order.specs.declared.graph.Span.{Span}
-use Rattle.graph_order.proofs.Lists.{each_map, each_append}
+use Rattle.list_core.proofs.Lists.{each_map, each_append}
 
 within_more : (n m : ℕ) (spans : List Span) → n ≤ m → EachOf (IsWithin n) spans → EachOf (IsWithin m) spans
 within_more n m spans h e = each_map (IsWithin n) (IsWithin m) spans (λ s k. (k.0, omega (arith, k.1))) e
@@ -31,7 +31,7 @@ edges_new ends more =
 
 -- a graph whose edges lead below n
 EdgesBelow : ℕ → Graph → Type 0
-EdgesBelow n g = (v : ℕ) → EachOf (λ w. w < n) (next_of g v)
+EdgesBelow n g = (v : ℕ) → EachOf (λ w. w < n) (edges_of g v)
 
 below_push : (n : ℕ) (g : Graph) (next : List ℕ) → EdgesBelow n g → EachOf (λ w. w < n) next → EdgesBelow n (g ++ next ∷ [])
 unfolding EdgesBelow
@@ -53,7 +53,7 @@ unfolding EdgesBelow
 graph_push g next b e =
     let more : length g + 1 ≡ length (g ++ next ∷ []) = sym (length-append g (next ∷ [])) in
     subst (λ (n : ℕ). EdgesBelow n (g ++ next ∷ [])) more
-    (below_push (length g + 1) g next (λ v. each_map (λ w. w < length g) (λ w. w < length g + 1) (next_of g v) (λ w h. omega arith) (b v)) e)
+    (below_push (length g + 1) g next (λ v. each_map (λ w. w < length g) (λ w. w < length g + 1) (edges_of g v) (λ w h. omega arith) (b v)) e)
 
 pub graph_set : (g : Graph) (v : ℕ) (next : List ℕ) → IsGraph g → EachOf (λ w. w < length g) next → IsGraph (set g v next)
 unfolding EdgesBelow
@@ -155,6 +155,6 @@ left_set ends more left spans v s g e first past f is each =
 pub span_edges : (ends : List ℕ) (spans : List Span) (v : ℕ) (s : Span) (g : Graph) → IsFlat ends spans → graph_of ends spans ≡ g → v < length g → s ≡ get_or spans v s → EachOf (λ w. w < length g) (edges_in ends s)
 span_edges ends spans v s g f is h e =
     let low : v < length spans = omega (arith, ap length is, length-map spans (edges_in ends)) in
-    let here : next_of (graph_of ends spans) v ≡ edges_in ends s = get_or-map (edges_in ends) spans v s [] low ∙ ap (edges_in ends) (sym e) in
+    let here : edges_of (graph_of ends spans) v ≡ edges_in ends s = get_or-map (edges_in ends) spans v s [] low ∙ ap (edges_in ends) (sym e) in
     subst (λ (h : Graph). EachOf (λ w. w < length h) (edges_in ends s)) is
     (subst (EachOf (λ w. w < length (graph_of ends spans))) here (f.edges v))

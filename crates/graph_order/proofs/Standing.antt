@@ -1,38 +1,38 @@
 -- Orders that grow, and that no graph has both an order and a cycle.
 use Rattle.std.proofs.Common.{ℕ, zero, suc, ◌<◌, List, [], ◌∷◌, ◌++◌, length, sym, subst, arith, append_assoc, inl, inr}
 use Rattle.std.proofs.lemmas.List.{append-nil}
-use Rattle.graph_order.specs.Lists.{EachOf, IsIn}
-use Rattle.graph_order.specs.Graphs.{Graph, next_of, HasEdge}
+use Rattle.list_core.specs.Lists.{EachOf, IsIn}
+use Rattle.graph_order.specs.Graphs.{Graph, edges_of, HasEdge}
 use Rattle.graph_order.specs.Orders.{StandsAfter}
 use Rattle.graph_order.specs.Cycles.{Leads, WalksHaveNoOrder, CyclesHaveNoOrder}
-use Rattle.graph_order.proofs.Lists.{in_left, in_cases, each_at, each_map}
+use Rattle.list_core.proofs.Lists.{in_left, in_cases, each_member, each_map}
 
-pub stands_push : (g : Graph) (before vs : List ℕ) (v : ℕ) → StandsAfter g before vs → (IsIn v (before ++ vs) → ⊥) → EachOf (λ w. IsIn w (before ++ vs)) (next_of g v) → StandsAfter g before (vs ++ v ∷ [])
+pub stands_push : (g : Graph) (before vs : List ℕ) (v : ℕ) → StandsAfter g before vs → (IsIn v (before ++ vs) → ⊥) → EachOf (λ w. IsIn w (before ++ vs)) (edges_of g v) → StandsAfter g before (vs ++ v ∷ [])
 stands_push g before [] v s n e =
-    let P : List ℕ → Type 0 = λ ws. (IsIn v ws → ⊥) × EachOf (λ w. IsIn w ws) (next_of g v) in
+    let P : List ℕ → Type 0 = λ ws. (IsIn v ws → ⊥) × EachOf (λ w. IsIn w ws) (edges_of g v) in
     let both = subst P (append-nil before) (n, e) in
     (both.0, both.1, tt)
 stands_push g before (x ∷ vs) v s n e =
-    let P : List ℕ → Type 0 = λ ws. (IsIn v ws → ⊥) × EachOf (λ w. IsIn w ws) (next_of g v) in
+    let P : List ℕ → Type 0 = λ ws. (IsIn v ws → ⊥) × EachOf (λ w. IsIn w ws) (edges_of g v) in
     let both = subst P (sym (append_assoc before (x ∷ []) vs)) (n, e) in
     (s.0, s.1, stands_push g (before ++ x ∷ []) vs v s.2 both.0 both.1)
 
 -- a list of vertices with all that they have edges to
 abbrev pub IsClosed : Graph → List ℕ → Type 0
-IsClosed g vs = (v : ℕ) → IsIn v vs → EachOf (λ w. IsIn w vs) (next_of g v)
+IsClosed g vs = (v : ℕ) → IsIn v vs → EachOf (λ w. IsIn w vs) (edges_of g v)
 
-pub stays : (g : Graph) (before : List ℕ) (v : ℕ) (xs : List ℕ) (w : ℕ) → IsClosed g before → EachOf (λ u. IsIn u before) (next_of g v) → Leads g v xs w → IsIn w before
+pub stays : (g : Graph) (before : List ℕ) (v : ℕ) (xs : List ℕ) (w : ℕ) → IsClosed g before → EachOf (λ u. IsIn u before) (edges_of g v) → Leads g v xs w → IsIn w before
 unfolding IsClosed
-stays g before v [] w c e l = each_at (λ u. IsIn u before) w (next_of g v) e l
-stays g before v (x ∷ xs) w c e l = stays g before x xs w c (c x (each_at (λ u. IsIn u before) x (next_of g v) e l.0)) l.1
+stays g before v [] w c e l = each_member (λ u. IsIn u before) (edges_of g v) e w l
+stays g before v (x ∷ xs) w c e l = stays g before x xs w c (c x (each_member (λ u. IsIn u before) (edges_of g v) e x l.0)) l.1
 
-pub closed_push : (g : Graph) (before : List ℕ) (v : ℕ) → IsClosed g before → EachOf (λ u. IsIn u before) (next_of g v) → IsClosed g (before ++ v ∷ [])
+pub closed_push : (g : Graph) (before : List ℕ) (v : ℕ) → IsClosed g before → EachOf (λ u. IsIn u before) (edges_of g v) → IsClosed g (before ++ v ∷ [])
 unfolding IsClosed
 closed_push g before v c e u h =
-    each_map (λ w. IsIn w before) (λ w. IsIn w (before ++ v ∷ [])) (next_of g u) (λ w k. in_left w before (v ∷ []) k)
+    each_map (λ w. IsIn w before) (λ w. IsIn w (before ++ v ∷ [])) (edges_of g u) (λ w k. in_left w before (v ∷ []) k)
     (elim (in_cases u before (v ∷ []) h) [
       | inl l ↦ c u l
-      | inr r ↦ elim r [ inl same ↦ subst (λ (z : ℕ). EachOf (λ w. IsIn w before) (next_of g z)) (sym same) e | inr k ↦ absurd k ]
+      | inr r ↦ elim r [ inl same ↦ subst (λ (z : ℕ). EachOf (λ w. IsIn w before) (edges_of g z)) (sym same) e | inr k ↦ absurd k ]
     ])
 
 no_walk : (g : Graph) (before vs : List ℕ) (v : ℕ) (xs : List ℕ) → StandsAfter g before vs → IsClosed g before → IsIn v vs → Leads g v xs v → ⊥
@@ -40,7 +40,7 @@ no_walk g before [] v xs s c h l = h
 no_walk g before (y ∷ vs) v xs s c h l =
     elim h [
       | inl same ↦
-          let e = subst (λ (z : ℕ). EachOf (λ w. IsIn w before) (next_of g z)) (sym same) s.1 in
+          let e = subst (λ (z : ℕ). EachOf (λ w. IsIn w before) (edges_of g z)) (sym same) s.1 in
           s.0 (subst (λ (z : ℕ). IsIn z before) same (stays g before v xs v c e l))
       | inr k ↦ no_walk g (before ++ y ∷ []) vs v xs s.2 (closed_push g before y c s.1) k l
     ]

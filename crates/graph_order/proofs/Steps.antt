@@ -2,13 +2,13 @@
 use Rattle.std.proofs.Common.{◌≡◌, ℕ, ◌<◌, List, [], ◌∷◌, ◌++◌, length, set, replicate, take, get_or, refl, sym, subst, ap, arith, ◌∙◌, ◌⊎◌, inl, inr, length-set}
 use Rattle.std.proofs.lemmas.List.{length-replicate, get_or-replicate, get_or_past}
 use Rattle.std.proofs.lemmas.Bool.{cases_eq, cases_lt}
-use Rattle.graph_order.specs.Lists.{EachOf, IsIn}
-use Rattle.graph_order.specs.Graphs.{Graph, next_of, HasEdge, IsGraph}
+use Rattle.list_core.specs.Lists.{EachOf, IsIn}
+use Rattle.graph_order.specs.Graphs.{Graph, edges_of, HasEdge, IsGraph}
 use Rattle.graph_order.specs.Orders.{IsOrder}
 use Rattle.graph_order.specs.Search.{mark_of, ArePassed, Searched, IsPath}
 use Rattle.graph_order.specs.declared.search.Mark.{Mark}
 use Rattle.graph_order.specs.declared.search.Mark.TheVariants.{New, Begun, Finished}
-use Rattle.graph_order.proofs.Lists.{in_left, in_last, in_cases, each_left, each_right, each_append, each_map, each_at, each_from_in, apart_left, apart_between, apart_push}
+use Rattle.list_core.proofs.Lists.{in_left, in_last, in_cases, each_left, each_right, each_append, each_map, each_member, each_from, apart_left, apart_between, apart_push, none_in}
 use Rattle.graph_order.proofs.Marks.{marked_same, marked_other, marked_within}
 use Rattle.graph_order.proofs.Paths.{path_left}
 use Rattle.graph_order.proofs.Standing.{stands_push}
@@ -52,7 +52,7 @@ begun g marks passed path order w h new joined s =
         | inl same ↦ subst (λ (z : ℕ). IsIn z (path ++ w ∷ [])) (sym same.0) (in_last w path)
         | inr other ↦ in_left v path (w ∷ []) (s.begun_path v other.1)
       ];
-      apart = apart_push path w s.apart (λ k. begun_new (sym (each_at _ w path s.path_begun k) ∙ new));
+      apart = apart_push path w s.apart (none_in w path (λ k. begun_new (sym (each_member _ path s.path_begun w k) ∙ new)));
       joined = joined;
       order_finished = each_map _ _ order keeps s.order_finished;
       finished_order = λ v e. elim (which marks w Begun Finished v within e) [
@@ -62,7 +62,7 @@ begun g marks passed path order w h new joined s =
       in_order = s.in_order;
     }
 
-pub finished : (g : Graph) (marks : List Mark) (passed path order : List ℕ) (v : ℕ) → EachOf (λ w. mark_of marks w ≡ Finished) (next_of g v) → Searched g marks passed (path ++ v ∷ []) order → Searched g (set marks v Finished) passed path (order ++ v ∷ [])
+pub finished : (g : Graph) (marks : List Mark) (passed path order : List ℕ) (v : ℕ) → EachOf (λ w. mark_of marks w ≡ Finished) (edges_of g v) → Searched g marks passed (path ++ v ∷ []) order → Searched g (set marks v Finished) passed path (order ++ v ∷ [])
 finished g marks passed path order v all s =
     let last : mark_of marks v ≡ Begun = (each_right (λ u. mark_of marks u ≡ Begun) path (v ∷ []) s.path_begun).0 in
     let within : v < length marks = marked_within marks v (λ e. begun_new (sym last ∙ e)) in
@@ -72,9 +72,9 @@ finished g marks passed path order v all s =
       marked = length-set marks v Finished ∙ s.marked;
       counted = s.counted;
       passed_over = λ u. each_map _ _ _ keeps (s.passed_over u);
-      path_begun = each_from_in _ path (λ u k.
+      path_begun = each_from _ path (λ u k.
           marked_other marks v u Finished (λ same. apart_between u path (v ∷ []) s.apart k (inl same))
-          ∙ each_at (λ u. mark_of marks u ≡ Begun) u path front k);
+          ∙ each_member (λ u. mark_of marks u ≡ Begun) path front u k);
       begun_path = λ u e. elim (which marks v Finished Begun u within e) [
         | inl same ↦ absurd (finished_begun same.1)
         | inr other ↦ elim (in_cases u path (v ∷ []) (s.begun_path u other.1)) [
@@ -90,8 +90,8 @@ finished g marks passed path order v all s =
         | inr other ↦ in_left u order (v ∷ []) (s.finished_order u other.1)
       ];
       in_order = stands_push g [] order v s.in_order
-          (λ k. finished_begun (sym (each_at _ v order s.order_finished k) ∙ last))
-          (each_map _ _ (next_of g v) (λ w k. s.finished_order w k) all);
+          (λ k. finished_begun (sym (each_member _ order s.order_finished v k) ∙ last))
+          (each_map _ _ (edges_of g v) (λ w k. s.finished_order w k) all);
     }
 
 pub passed_on : (g : Graph) (marks : List Mark) (passed more path order : List ℕ) → ArePassed g marks more → length more ≡ length g → Searched g marks passed path order → Searched g marks more path order
@@ -118,7 +118,7 @@ pub searched_none : (g : Graph) → Searched g (replicate (length g) New) (repli
 searched_none g = record {
   marked = length-replicate (length g) New;
   counted = length-replicate (length g) 0;
-  passed_over = λ v. subst (λ (k : ℕ). EachOf (λ w. mark_of (replicate (length g) New) w ≡ Finished) (take k (next_of g v))) (sym (all_same (length g) v 0)) tt;
+  passed_over = λ v. subst (λ (k : ℕ). EachOf (λ w. mark_of (replicate (length g) New) w ≡ Finished) (take k (edges_of g v))) (sym (all_same (length g) v 0)) tt;
   path_begun = tt;
   begun_path = λ v e. absurd (begun_new (sym e ∙ new_all (length g) v));
   apart = tt;
@@ -157,7 +157,7 @@ last_within g marks passed path order v s = marked_within marks v (λ e. begun_n
 
 -- what an edge leads to
 pub next_within : (g : Graph) (v w : ℕ) → IsGraph g → HasEdge g v w → w < length g
-next_within g v w is h = each_at (λ u. u < length g) w (next_of g v) (is v) h
+next_within g v w is h = each_member (λ u. u < length g) (edges_of g v) (is v) w h
 
 pub neither : (m : Mark) → (m ≡ New → ⊥) → (m ≡ Finished → ⊥) → m ≡ Begun
 neither m n k = elim (is_marked m n) [ inl e ↦ e | inr e ↦ absurd (k e) ]

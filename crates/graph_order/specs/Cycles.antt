@@ -1,6 +1,6 @@
 -- Walks and cycles, and that no graph has both an order and a cycle.
 use Rattle.std.specs.Prelude.{ℕ, ◌≤◌, List, [], ◌∷◌}
-use Rattle.graph_order.specs.Lists.{EachOf, AreApart}
+use Rattle.list_core.specs.Lists.{EachOf, AreApart}
 use Rattle.graph_order.specs.Graphs.{Graph, HasEdge}
 use Rattle.graph_order.specs.Orders.{IsOrder}
 

@@ -1,6 +1,6 @@
 -- A graph in two flat lists: where each vertex's edges stand, and what they lead to.
 use Rattle.std.specs.Prelude.{ℕ, ◌≤◌, ◌<◌, ◌^◌, List, length, map, slice_range}
-use Rattle.graph_order.specs.Lists.{EachOf}
+use Rattle.list_core.specs.Lists.{EachOf}
 use Rattle.graph_order.specs.Graphs.{Graph, IsGraph}
 use Rattle.graph_order.specs.declared.graph.Span.{Span}
 

@@ -1,4 +1,3 @@
-pub mod Lists
 pub mod Graphs
 pub mod Orders
 pub mod Cycles
@@ -6,3 +5,4 @@ pub mod Samples
 pub mod Search
 pub mod Faults
 pub mod Flat
+pub mod Either

@@ -1,7 +1,7 @@
 -- The search for an order, depth first: the marks of the vertices, the path of those that were begun, and the order of those that were finished.
 use Rattle.std.specs.Prelude.{◌≡◌, ℕ, suc, ◌==◌, List, [], ◌∷◌, length, take, slice_index_or, if◌then◌else◌}
-use Rattle.graph_order.specs.Lists.{EachOf, IsIn, AreApart}
-use Rattle.graph_order.specs.Graphs.{Graph, next_of, HasEdge}
+use Rattle.list_core.specs.Lists.{EachOf, IsIn, AreApart}
+use Rattle.graph_order.specs.Graphs.{Graph, edges_of, HasEdge}
 use Rattle.graph_order.specs.Orders.{StandsAfter}
 use Rattle.graph_order.specs.Cycles.{Leads, IsCycle}
 use Rattle.graph_order.specs.declared.search.Mark.{Mark}
@@ -29,7 +29,7 @@ IsPath g (v ∷ vs) = LeadsOn g v vs × IsPath g vs
 
 -- the first of those that a vertex has an edge to, as many as were passed over, are finished
 abbrev pub ArePassed : Graph → List Mark → List ℕ → Type 0
-ArePassed g marks passed = (v : ℕ) → EachOf (λ w. mark_of marks w ≡ Finished) (take (slice_index_or passed v 0) (next_of g v))
+ArePassed g marks passed = (v : ℕ) → EachOf (λ w. mark_of marks w ≡ Finished) (take (slice_index_or passed v 0) (edges_of g v))
 
 pub record Searched (g : Graph) (marks : List Mark) (passed path order : List ℕ) : Type 0 where
   pub marked : length marks ≡ length g

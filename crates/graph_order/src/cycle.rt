@@ -1,5 +1,7 @@
+//! A cycle out of the path on which it was met, told from its least vertex on.
+
 ghost use Rattle.std.specs.Prelude.{◌≡◌, ◌≤◌, ◌<◌, ◌++◌, length, slice_index, take, drop, IfOk};
-ghost use Rattle.graph_order.specs.Lists.{EachOf, IsIn};
+ghost use Rattle.list_core.specs.Lists.{EachOf};
 ghost use Rattle.graph_order.specs.Search.{from_on, IsClosedBy, IsTurned};
 
 use std::alloc::{AllocError, Global};

@@ -1,6 +1,8 @@
+//! A graph in two flat lists, so that its edges take one allocation.
+
 ghost use Rattle.std.specs.Prelude.{◌≡◌, ◌<◌, ◌+◌, ◌^◌, [], ◌∷◌, ◌++◌, length, slice_set, OnOk, OnErr, IfOk};
-ghost use Rattle.graph_order.specs.Lists.{EachOf};
-ghost use Rattle.graph_order.specs.Graphs.{next_of, IsGraph};
+ghost use Rattle.list_core.specs.Lists.{EachOf};
+ghost use Rattle.graph_order.specs.Graphs.{edges_of, IsGraph};
 
 use std::alloc::Global;
 use std::marker::Model;
@@ -54,7 +56,7 @@ impl Graph {
     /// Those that a vertex has an edge to, in the order in which they were given.
     pub fn next(&self, vertex: u32) -> &[u32]
         requires { vertex < length self.now }
-        ensures next { result.now ≡ next_of self.now vertex }
+        ensures next { result.now ≡ edges_of self.now vertex }
         ensures edges { EachOf (λ w. w < length self.now) result.now }
     {
         let span = self.spans[vertex as usize];

@@ -12,5 +12,5 @@ mod search;
 
 pub use fault::GraphFault;
 pub use graph::Graph;
-pub use laws::{not_both, orders_of_the_samples};
+pub use laws::{not_both, order_or_loop, orders_of_the_samples};
 pub use order::order_of;

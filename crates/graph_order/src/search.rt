@@ -1,7 +1,9 @@
+//! A search in depth without recursion. A vertex is on the path, finished, or not met; an edge to one on the path closes a cycle.
+
 ghost use Rattle.std.specs.Prelude.{◌≡◌, ◌≢◌, ◌≤◌, ◌<◌, ◌+◌, ◌*◌, [], ◌∷◌, ◌++◌, length, replicate, take, slice_set, slice_index, MatchBool, IfSome, IfNone, IfOk, IfErr, OnOk};
-ghost use Rattle.graph_order.specs.Lists.{EachOf, IsIn};
-ghost use Rattle.graph_order.specs.Graphs.{next_of, HasEdge, IsGraph};
-ghost use Rattle.graph_order.specs.Search.{mark_of, news, ArePassed, Searched, StayMarked, IsPath};
+ghost use Rattle.list_core.specs.Lists.{EachOf};
+ghost use Rattle.graph_order.specs.Graphs.{edges_of, HasEdge, IsGraph};
+ghost use Rattle.graph_order.specs.Search.{mark_of, news, ArePassed, Searched, StayMarked};
 ghost use Rattle.graph_order.specs.Orders.{IsOrder};
 ghost use Rattle.graph_order.specs.Faults.{TellsCycle};
 ghost use Rattle.graph_order.specs.declared.search.Mark.TheVariants.{New, Begun, Finished};
@@ -99,7 +101,7 @@ impl Search {
         ensures passed { ArePassed graph.now self.old.marks.items self.new.passed.items }
         ensures edge { IfSome result (HasEdge graph.now vertex) }
         ensures unfinished { IfSome result (λ w. mark_of self.old.marks.items w ≢ Finished) }
-        ensures all { IfNone result (EachOf (λ w. mark_of self.old.marks.items w ≡ Finished) (next_of graph.now vertex)) }
+        ensures all { IfNone result (EachOf (λ w. mark_of self.old.marks.items w ≡ Finished) (edges_of graph.now vertex)) }
     {
         let next = graph.next(vertex);
         let from = self.passed[vertex as usize];

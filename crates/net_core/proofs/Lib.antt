@@ -3,3 +3,4 @@ pub mod Solutions
 pub mod Sharing
 pub mod Entries
 pub mod Applying
+pub mod NextValues

@@ -1,5 +1,5 @@
 -- A net: numbered nodes, the outputs and the next values of registers. It is a system of equations.
-use Rattle.std.specs.Prelude.{◌≡◌, ℕ, ◌<◌, Bool, true, false, List, length, map, slice_get, Some}
+use Rattle.std.specs.Prelude.{◌≡◌, ℕ, ◌<◌, ◌==◌, Bool, true, false, if◌then◌else◌, List, [], ◌∷◌, length, map, get_or, slice_get, Some}
 use Rattle.bv_core.specs.declared.reference.NodeId.{NodeId}
 use Rattle.bv_core.specs.Value.{Bits}
 use Rattle.bv_core.specs.Operators.{apply1_of, apply2_of, choose_of}
@@ -42,6 +42,16 @@ outputs_of outputs = map (λ (o : List ℕ × NodeId). (o.0, o.1.0)) outputs
 
 abbrev pub nexts_of : List (NodeId × NodeId) → List (ℕ × ℕ)
 nexts_of nexts = map (λ (n : NodeId × NodeId). (n.0.0, n.1.0)) nexts
+
+-- the node that stands beside a register's node: that of what it holds next
+abbrev pub next_node : List (ℕ × ℕ) → ℕ → ℕ
+next_node [] i = 0
+next_node (pair ∷ nexts) i = if pair.0 == i then pair.1 else next_node nexts i
+
+-- at each number the node that stands beside the node of that number, and 0 where none does
+pub record StandBeside (nodes : ℕ) (nexts : List (ℕ × ℕ)) (found : List ℕ) : Type 0 where
+  pub count : length found ≡ nodes
+  pub each : (i : ℕ) → i < nodes → get_or found i 0 ≡ next_node nexts i
 
 -- whether a tree is a register
 abbrev pub is_register : tree.Whole → Bool

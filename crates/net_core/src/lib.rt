@@ -8,10 +8,12 @@ mod builder;
 mod entry;
 mod laws;
 mod net;
+mod nexts;
 mod node;
 mod outcome;
 
 pub use builder::NetBuilder;
 pub use laws::one_solution;
 pub use net::Net;
+pub use nexts::nexts_by_number;
 pub use node::Node;

@@ -6,10 +6,10 @@ use Rattle.std.proofs.lemmas.List.{map-append}
 use Rattle.bv_core.specs.declared.reference.NodeId.{NodeId}
 use Rattle.tree_core.specs.Tree.{Tree, Leaf, Whole}
 use Rattle.exec_core.specs.Block.{Name, Now}
-use Rattle.exec_core.specs.Lists.{EachOf, IsIn}
+use Rattle.list_core.specs.Lists.{EachOf, IsIn}
 use Rattle.exec_core.specs.Trees.{Row}
 use Rattle.exec_core.specs.Design.{place, folded_tree}
-use Rattle.exec_core.proofs.Lists.{in_left, in_right}
+use Rattle.list_core.proofs.Lists.{in_left, in_right}
 use Rattle.design_core.specs.Design.{Design}
 use Rattle.design_core.specs.Ports.{ports_in, top_signals}
 use Rattle.design_exec.specs.Processes.{processes_of}

@@ -5,9 +5,8 @@ use Rattle.std.proofs.lemmas.List.{length-map}
 use Rattle.std.proofs.lemmas.Option.{none-some, same_Some}
 use Rattle.bv_core.specs.declared.reference.NodeId.{NodeId}
 use Rattle.tree_core.specs.Tree.{Origin}
-use Rattle.exec_core.specs.Lists.{EachOf, IsIn}
+use Rattle.list_core.specs.Lists.{EachOf, IsIn, from}
 use Rattle.exec_core.specs.Kept.{root, next_in, NumberedAreKept}
-use Rattle.design_core.specs.Slots.{from}
 use Rattle.design_exec.specs.Processes.{processes_of}
 use Rattle.net_core.specs.Nodes.{trees_of, tree_of}
 use Rattle.net_core.specs.Builder.{Stands}
@@ -16,12 +15,12 @@ use Rattle.symtab.specs.declared.parts.TableParts.{TableParts}
 use Rattle.symtab.specs.Shape.{IsTable}
 use Rattle.world_core.specs.Sites.{Site, slot_count, sites_in_order, all_spots}
 use Rattle.world_core.specs.Kept.{asked_trees, IsKeptIn}
-use Rattle.world_core.proofs.Listing.{from_length}
+use Rattle.list_core.proofs.Listing.{from_length}
 use Rattle.world_laws.proofs.SitesOf.{order_slots}
 use Rattle.lower_core.specs.declared.row.FullRow.{FullRow}
 use Rattle.lower_core.specs.declared.row.Lowered as code
 use Rattle.lower_core.specs.Shape.{slot_part}
-use Rattle.walk_net.specs.Next.{trees_by, next_of}
+use Rattle.walk_net.specs.Next.{trees_by, next_whole}
 use Rattle.walk_net.specs.Renaming.{id_at, IsNode}
 use Rattle.walk_net.specs.Answer.{IsRoot, IsKeptAs, AreIds, AreNumbers, OutputsStand, NextStands}
 use Rattle.trim_core.specs.Trimmed.{IsKeptNet, TellsDesign, IsTrimmed}
@@ -36,11 +35,11 @@ use Rattle.net_trim.proofs.Told.{AreNewIds, slots_told, rows_can, bare_filled}
 
 -- what a walk from these roots gave
 pub record IsWalkedFrom (net : NetParts) (roots : List NodeId) (kept : NetParts) (ids : List (Option NodeId)) : Type 0 where
-  pub rounds : AreNumbers (trees_by net.nodes roots) (next_of net) (trees_of kept.nodes)
-  pub are_kept : NumberedAreKept (trees_by net.nodes roots) (next_of net) (trees_of kept.nodes)
-  pub are_ids : AreIds (trees_by net.nodes roots) (next_of net) net.nodes kept.nodes ids
+  pub rounds : AreNumbers (trees_by net.nodes roots) (next_whole net) (trees_of kept.nodes)
+  pub are_kept : NumberedAreKept (trees_by net.nodes roots) (next_whole net) (trees_of kept.nodes)
+  pub are_ids : AreIds (trees_by net.nodes roots) (next_whole net) net.nodes kept.nodes ids
   pub outputs : OutputsStand net.nodes kept.nodes net.outputs kept.outputs
-  pub nexts : EachOf (NextStands (next_of net) kept.nodes) kept.nexts
+  pub nexts : EachOf (NextStands (next_whole net) kept.nodes) kept.nexts
   pub is_net : IsNet kept
 
 pub kept_of : (net : NetParts) (roots : List NodeId) (kept : NetParts) (ids : List (Option NodeId)) → IsWalkedFrom net roots kept ids → IsKeptOf net (trees_by net.nodes roots) kept
@@ -57,12 +56,12 @@ module _ (of : Ordered) (l : code.Lowered) (h : IsLoweredOf of l) where
 
   -- ---- ids
 
-  module _ (kept : NetParts) (ids : List (Option NodeId)) (are : AreIds (trees_by l.net.nodes (root_ids l.net.outputs l.mode l.rows)) (next_of l.net) l.net.nodes kept.nodes ids) where
+  module _ (kept : NetParts) (ids : List (Option NodeId)) (are : AreIds (trees_by l.net.nodes (root_ids l.net.outputs l.mode l.rows)) (next_whole l.net) l.net.nodes kept.nodes ids) where
     ids_of_design : AreIds (trees_by l.net.nodes (root_ids l.net.outputs l.mode l.rows)) (next_in (processes_of of.design) (length of.pairs)) l.net.nodes kept.nodes ids
     ids_of_design =
         subst (λ next. AreIds (trees_by l.net.nodes (root_ids l.net.outputs l.mode l.rows)) next l.net.nodes kept.nodes ids) (λ i o. next_of_design o i) are
       where
-        next_of_design : (o : Origin) → next_of l.net o ≡ next_in (processes_of of.design) (length of.pairs) o
+        next_of_design : (o : Origin) → next_whole l.net o ≡ next_in (processes_of of.design) (length of.pairs) o
         next_of_design o = nexts_same of.design (length of.pairs) l.mode l h.lowered o
 
     are_new : AreNewIds (IsKeptIn of.design (length of.pairs) l.mode) l.net.nodes kept.nodes ids

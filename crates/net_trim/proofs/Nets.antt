@@ -7,12 +7,12 @@ use Rattle.bv_core.specs.declared.reference.NodeId.{NodeId}
 use Rattle.tree_core.specs.Tree.{Leaf, One, Two, Mux, Origin, Input, Register, Whole}
 use Rattle.tree_core.specs.Width.{tree_width}
 use Rattle.exec_core.specs.Block.{Name}
-use Rattle.exec_core.specs.Lists.{EachOf, IsIn}
+use Rattle.list_core.specs.Lists.{EachOf, IsIn}
 use Rattle.exec_core.specs.Whole.{Place}
 use Rattle.exec_core.specs.Design.{next_tree, folded_tree}
 use Rattle.exec_core.specs.States.{OverGivens}
 use Rattle.exec_core.specs.Kept.{IsKept, root, of_one, of_left, of_right, of_test, of_then, of_else, of_register, NumberedAreKept, next_in, numbered}
-use Rattle.exec_core.proofs.Lists.{each_member, each_from}
+use Rattle.list_core.proofs.Lists.{each_member, each_from}
 use Rattle.design_core.specs.Design.{Design}
 use Rattle.design_core.specs.Ports.{ports_in, top_signals}
 use Rattle.design_exec.specs.Processes.{Given, processes_of}
@@ -25,7 +25,7 @@ use Rattle.world_core.specs.declared.mode.Mode.{Mode}
 use Rattle.world_core.specs.Kept.{asked_trees, kept_trees}
 use Rattle.lower_core.specs.declared.row.Lowered as code
 use Rattle.lower_core.specs.Lowered.{OutputsTold, IsLowered}
-use Rattle.walk_net.specs.Next.{tree_by, trees_by, next_of}
+use Rattle.walk_net.specs.Next.{tree_by, trees_by, next_whole}
 use Rattle.walk_net.specs.Renaming.{IsNode}
 use Rattle.walk_net.specs.Answer.{AreNumbers, OutputsStand, NextStands}
 use Rattle.trim_core.specs.Trimmed.{NextKept, IsKeptNet}
@@ -40,10 +40,10 @@ got_in (y ∷ xs) (suc k) x e = inr (got_in xs k x e)
 
 -- what the walk over a net gave
 pub record IsKeptOf (net : NetParts) (roots : List Whole) (kept : NetParts) : Type 0 where
-  pub rounds : AreNumbers roots (next_of net) (trees_of kept.nodes)
-  pub are_kept : NumberedAreKept roots (next_of net) (trees_of kept.nodes)
+  pub rounds : AreNumbers roots (next_whole net) (trees_of kept.nodes)
+  pub are_kept : NumberedAreKept roots (next_whole net) (trees_of kept.nodes)
   pub outputs : OutputsStand net.nodes kept.nodes net.outputs kept.outputs
-  pub nexts : EachOf (NextStands (next_of net) kept.nodes) kept.nexts
+  pub nexts : EachOf (NextStands (next_whole net) kept.nodes) kept.nexts
   pub is_net : IsNet kept
 
 -- a node's tree is among the trees, and each of these is a node's
@@ -79,7 +79,7 @@ module _ (d : Design) (n : ℕ) (mode : Mode) (l : code.Lowered) (h : IsLowered 
   roots_same : trees_by l.net.nodes (root_ids l.net.outputs l.mode l.rows) ≡ asked_trees d n l.mode
   roots_same = asked_are d n l.net.nodes l.net.outputs h.outputs l.mode l.rows h.rows
 
-  next_same : next_of l.net ≡ next_in (processes_of d) n
+  next_same : next_whole l.net ≡ next_in (processes_of d) n
   next_same = λ i o. nexts_same d n mode l h o i
 
   abbrev registers : List Origin
@@ -92,7 +92,7 @@ module _ (d : Design) (n : ℕ) (mode : Mode) (l : code.Lowered) (h : IsLowered 
       ∙ ap (numbered (asked_trees d n l.mode) (next_in (processes_of d) n)) (length-map (processes_of d).givens (λ (given : Given). given.1))
 
   pub kept_same : NumberedAreKept (asked_trees d n l.mode) (next_in (processes_of d) n) (trees_of kept.nodes)
-  kept_same = subst (λ next. NumberedAreKept (asked_trees d n l.mode) next (trees_of kept.nodes)) next_same (subst (λ roots. NumberedAreKept roots (next_of l.net) (trees_of kept.nodes)) roots_same g.are_kept)
+  kept_same = subst (λ next. NumberedAreKept (asked_trees d n l.mode) next (trees_of kept.nodes)) next_same (subst (λ roots. NumberedAreKept roots (next_whole l.net) (trees_of kept.nodes)) roots_same g.are_kept)
 
   -- what is kept is of inputs of the top and registers
   roots_over : (ids : List NodeId) → EachOf (IsNode l.net.nodes) ids → (t : Whole) → IsIn t (map (tree_by l.net.nodes) ids) → OverGivens (processes_of d) t
@@ -100,7 +100,7 @@ module _ (d : Design) (n : ℕ) (mode : Mode) (l : code.Lowered) (h : IsLowered 
   roots_over (id ∷ ids) e t (inl same) = subst (OverGivens (processes_of d)) (sym same) (h.over id.0 e.0)
   roots_over (id ∷ ids) e t (inr i) = roots_over ids e.1 t i
 
-  over_kept : (t : Whole) → IsKept (trees_by l.net.nodes (root_ids l.net.outputs l.mode l.rows)) (next_of l.net) t → OverGivens (processes_of d) t
+  over_kept : (t : Whole) → IsKept (trees_by l.net.nodes (root_ids l.net.outputs l.mode l.rows)) (next_whole l.net) t → OverGivens (processes_of d) t
   over_kept t (root u i) = roots_over (root_ids l.net.outputs l.mode l.rows) (asked_nodes d n l.net.nodes l.net.outputs h.outputs l.mode l.rows h.rows) t i
   over_kept t (of_one op a k) = over_kept (One op t) k
   over_kept t (of_left op a b k) = (over_kept (Two op t b) k).0
@@ -115,9 +115,9 @@ module _ (d : Design) (n : ℕ) (mode : Mode) (l : code.Lowered) (h : IsLowered 
   next_kept p (Register instance name start) i = λ among.
       let node = in_node kept.nodes (Leaf (Register instance name start)) among in
       let each = g.is_net.nexts.each node.0 node.1.within (ap is_register node.1.tree) in
-      let stands : NextStands (next_of l.net) kept.nodes (node.0, each.1.0) = each_member (NextStands (next_of l.net) kept.nodes) kept.nexts g.nexts (node.0, each.1.0) (got_in kept.nexts each.0 (node.0, each.1.0) each.1.1) in
+      let stands : NextStands (next_whole l.net) kept.nodes (node.0, each.1.0) = each_member (NextStands (next_whole l.net) kept.nodes) kept.nexts g.nexts (node.0, each.1.0) (got_in kept.nexts each.0 (node.0, each.1.0) each.1.1) in
       let same : stands.origin ≡ Register instance name start = leaf_same stands.origin (Register instance name start) (sym stands.register.tree ∙ node.1.tree) in
-      let tree : stands.tree ≡ folded_tree (processes_of d) n (next_tree (processes_of d) p) = same_Some _ _ (sym stands.next_is ∙ ap (next_of l.net) same ∙ register_next d n mode l h p instance name start i) in
+      let tree : stands.tree ≡ folded_tree (processes_of d) n (next_tree (processes_of d) p) = same_Some _ _ (sym stands.next_is ∙ ap (next_whole l.net) same ∙ register_next d n mode l h p instance name start i) in
       record {
         id = node.0;
         next = each.1.0;

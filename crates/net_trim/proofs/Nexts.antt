@@ -6,12 +6,12 @@ use Rattle.bv_core.specs.Value.{Bits}
 use Rattle.tree_core.specs.Tree.{Leaf, Origin, Input, Register, Whole}
 use Rattle.tree_core.specs.Fold.{same_tree, same_origin}
 use Rattle.tree_core.proofs.Same.{same_tree-sound, same_tree-refl, same_origin-sound, same_origin-refl}
-use Rattle.exec_core.specs.Lists.{IsIn}
+use Rattle.list_core.specs.Lists.{IsIn}
 use Rattle.exec_core.specs.Whole.{Place}
 use Rattle.exec_core.specs.Design.{next_tree, folded_tree}
 use Rattle.exec_core.specs.States.{OverGivens}
 use Rattle.exec_core.specs.Kept.{next_if, next_in}
-use Rattle.exec_core.proofs.Lists.{each_member, find_member}
+use Rattle.list_core.proofs.Lists.{each_member, find_member}
 use Rattle.design_core.specs.Design.{Design}
 use Rattle.design_exec.specs.Processes.{Given, processes_of}
 use Rattle.net_core.specs.Nodes.{Shape, trees_of, tree_of}
@@ -21,7 +21,7 @@ use Rattle.check_exec.proofs.Facts.{in_index}
 use Rattle.world_core.specs.declared.mode.Mode.{Mode}
 use Rattle.lower_core.specs.declared.row.Lowered as code
 use Rattle.lower_core.specs.Lowered.{HasNext, NextTold, IsLowered}
-use Rattle.walk_net.specs.Next.{next_among, next_of}
+use Rattle.walk_net.specs.Next.{next_among, next_whole}
 
 -- what is found of a register stands beside it
 record FoundNext (ns : List Shape) (pairs : List (ℕ × ℕ)) (o : Origin) (t : Whole) : Type 0 where
@@ -73,7 +73,7 @@ some_given o (given ∷ list) i f = at_test (λ j g. some_given o list j g) (sam
 module _ (d : Design) (n : ℕ) (mode : Mode) (l : code.Lowered) (h : IsLowered d n mode l) where
   -- of each register of the design its tree is found
   pub register_next : (p : Place) (instance name : List ℕ) (start : Bits) → IsIn (p, Register instance name start) (processes_of d).givens
-      → next_of l.net (Register instance name start) ≡ Some (folded_tree (processes_of d) n (next_tree (processes_of d) p))
+      → next_whole l.net (Register instance name start) ≡ Some (folded_tree (processes_of d) n (next_tree (processes_of d) p))
   register_next p instance name start i =
       let told : HasNext d n l.net p (Register instance name start) = each_member (λ (given : Given). NextTold d n l.net given.0 given.1) (processes_of d).givens h.nexts (p, Register instance name start) i in
       let some = not_missed l.net.nodes l.net.nexts (Register instance name start) (told.id, told.next) told.among told.register.tree in
@@ -91,36 +91,36 @@ module _ (d : Design) (n : ℕ) (mode : Mode) (l : code.Lowered) (h : IsLowered 
       there k b = subst (λ m. k < m) (sym (trees_length l.net.nodes)) b
 
   -- what has a next value in the net is given in the design
-  pub next_given : (o : Origin) (t : Whole) → next_of l.net o ≡ Some t → IsIn o (map (λ (given : Given). given.1) (processes_of d).givens) × (is_register (Leaf o) ≡ true)
+  pub next_given : (o : Origin) (t : Whole) → next_whole l.net o ≡ Some t → IsIn o (map (λ (given : Given). given.1) (processes_of d).givens) × (is_register (Leaf o) ≡ true)
   next_given o t e =
       let found = found_next l.net.nodes l.net.nexts o t e in
       let first : IsNext l.net.nodes found.pair = h.is_net.nexts.registers found.place found.pair found.at in
       (subst (OverGivens (processes_of d)) found.register (h.over found.pair.0 first.within), ap is_register (sym found.register) ∙ first.register)
 
   -- and its tree is one of inputs of the top and registers
-  pub next_over : (o : Origin) (t : Whole) → next_of l.net o ≡ Some t → OverGivens (processes_of d) t
+  pub next_over : (o : Origin) (t : Whole) → next_whole l.net o ≡ Some t → OverGivens (processes_of d) t
   next_over o t e =
       let found = found_next l.net.nodes l.net.nexts o t e in
       let first : IsNext l.net.nodes found.pair = h.is_net.nexts.registers found.place found.pair found.at in
       subst (OverGivens (processes_of d)) found.tree (h.over found.pair.1 first.next)
 
-  pub nexts_same : (o : Origin) → next_of l.net o ≡ next_in (processes_of d) n o
+  pub nexts_same : (o : Origin) → next_whole l.net o ≡ next_in (processes_of d) n o
   nexts_same o = by_found (find (λ (given : Given). same_origin given.1 o) (processes_of d).givens) refl
     where
-      none_next : (o' : Option Whole) → next_of l.net o ≡ o' → find (λ (given : Given). same_origin given.1 o) (processes_of d).givens ≡ None → o' ≡ None
+      none_next : (o' : Option Whole) → next_whole l.net o ≡ o' → find (λ (given : Given). same_origin given.1 o) (processes_of d).givens ≡ None → o' ≡ None
       none_next None e f = refl
       none_next (Some t) e f = absurd (some_given o (processes_of d).givens (next_given o t e).0 f)
 
-      by_origin : (p : Place) (q : Origin) → q ≡ o → IsIn (p, q) (processes_of d).givens → next_of l.net o ≡ next_if (processes_of d) n (Some (p, q))
-      by_origin p (Register instance name start) same i = ap (next_of l.net) (sym same) ∙ register_next p instance name start i
-      by_origin p (Input name width) same i = no_input (next_of l.net o) refl
+      by_origin : (p : Place) (q : Origin) → q ≡ o → IsIn (p, q) (processes_of d).givens → next_whole l.net o ≡ next_if (processes_of d) n (Some (p, q))
+      by_origin p (Register instance name start) same i = ap (next_whole l.net) (sym same) ∙ register_next p instance name start i
+      by_origin p (Input name width) same i = no_input (next_whole l.net o) refl
         where
-          no_input : (found : Option Whole) → next_of l.net o ≡ found → next_of l.net o ≡ None
+          no_input : (found : Option Whole) → next_whole l.net o ≡ found → next_whole l.net o ≡ None
           no_input None e = e
           no_input (Some t) e = absurd (true≢false (sym (next_given o t e).1 ∙ ap (λ u. is_register (Leaf u)) (sym same)))
 
-      by_found : (f : Option Given) → find (λ (given : Given). same_origin given.1 o) (processes_of d).givens ≡ f → next_of l.net o ≡ next_if (processes_of d) n f
-      by_found None f = none_next (next_of l.net o) refl f
+      by_found : (f : Option Given) → find (λ (given : Given). same_origin given.1 o) (processes_of d).givens ≡ f → next_whole l.net o ≡ next_if (processes_of d) n f
+      by_found None f = none_next (next_whole l.net o) refl f
       by_found (Some given) f =
           let m = find_member (λ (q : Given). same_origin q.1 o) (processes_of d).givens given f in
           by_origin given.0 given.1 (same_origin-sound given.1 o m.1) m.0

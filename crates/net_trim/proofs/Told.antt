@@ -13,10 +13,9 @@ use Rattle.tree_core.specs.Tree.{Tree, Whole}
 use Rattle.tree_core.specs.Width.{tree_width}
 use Rattle.tree_core.specs.Fold.{constant}
 use Rattle.exec_core.specs.Block.{Name, Now}
-use Rattle.exec_core.specs.Lists.{IsIn}
+use Rattle.list_core.specs.Lists.{IsIn, from}
 use Rattle.exec_core.specs.Trees.{Row}
 use Rattle.design_core.specs.Design.{Design}
-use Rattle.design_core.specs.Slots.{from}
 use Rattle.net_core.specs.Nodes.{Shape, Fixed, TopInput, Register, OfOne, OfTwo, OfMux, shape_at, node_tree, trees_of, tree_of, width_at, AreNumbered}
 use Rattle.net_core.specs.Builder.{Stands, constant_shape}
 use Rattle.net_core.proofs.TreeLists.{tree_is}
@@ -32,7 +31,7 @@ use Rattle.walk_net.specs.Renaming.{id_at}
 use Rattle.trim_core.specs.Trimmed as trimmed
 use Rattle.trim_core.specs.Trimmed.{FoundTold, NameTold, NamesTold, RowsTold, SlotsTold, bare_slot}
 use Rattle.net_trim.specs.Made.{ref_by, ref_made, found_binding, cell_made, IsMade, AreMade, CanBeMade, front_of, rest_of, IsFilled, AreFilled}
-use Rattle.world_core.proofs.Listing.{map_in, map_from, flat_from, from_in}
+use Rattle.list_core.proofs.Listing.{map_in, map_from, flat_from, from_in}
 use Rattle.net_trim.proofs.Asked.{enable_is, name_is}
 
 -- ---- where a tree is found

@@ -6,7 +6,7 @@ use Rattle.net_core.specs.Nodes.{Shape}
 use Rattle.net_core.specs.Nets.{NetParts}
 use Rattle.symtab.specs.declared.parts.TableParts.{TableParts}
 use Rattle.check_exec.specs.Premises.{IsSound}
-use Rattle.dep_order.specs.Results.{TellsOrder}
+use Rattle.place_core.specs.Orders.{TellsOrder}
 use Rattle.lower_core.specs.declared.row.FullRow.{FullRow}
 use Rattle.lower_core.specs.declared.row.Lowered as code
 use Rattle.lower_core.specs.Lowered.{IsLowered}

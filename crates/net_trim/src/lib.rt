@@ -2,7 +2,7 @@
 #![tactic(auto)]
 
 mod found;
-mod names;
+mod naming;
 mod roots;
 mod slots;
 mod whole;

@@ -2,7 +2,7 @@ ghost use Rattle.std.specs.Prelude.{◌≡◌, ◌<◌, ◌^◌, IfOk, All, leng
 ghost use Rattle.net_trim.specs.Made.{CanBeMade};
 ghost use Rattle.net_trim.specs.Whole.{ArePartsMade, IsOfDesign, IsCompiled};
 
-use crate::names::node_names;
+use crate::naming::node_names;
 use crate::roots::roots_of;
 use crate::slots::fill_slots;
 use bv_core::NodeId;

@@ -8,15 +8,15 @@ use Rattle.tree_core.specs.Tree.{Tree, Const, Leaf, One, Two, Mux, Origin, Input
 use Rattle.tree_core.specs.Width.{tree_width, WellFormed}
 use Rattle.tree_core.proofs.Same.{both_true}
 use Rattle.exec_core.specs.Block.{Name, Next, body_assigns}
-use Rattle.exec_core.specs.Lists.{EachOf, IsIn}
+use Rattle.list_core.specs.Lists.{EachOf, IsIn}
 use Rattle.exec_core.specs.Paths.{TreeFits, TreesChecked}
 use Rattle.exec_core.specs.Trees.{block_trees}
 use Rattle.exec_core.specs.Whole.{Place}
 use Rattle.exec_core.specs.Accepted.{OriginsApart, GivenFits}
 use Rattle.exec_core.specs.States.{OverGivens}
 use Rattle.exec_core.specs.Design as exec
-use Rattle.exec_core.specs.Design.{Process, place, moved, signals_of, width_in, writes_to, next_of, next_tree, folded_tree}
-use Rattle.exec_core.proofs.Lists.{each_member, each_from, find_member, filter_member}
+use Rattle.exec_core.specs.Design.{Process, place, moved, signals_of, width_in, writes_to, next_by, next_tree}
+use Rattle.list_core.proofs.Lists.{each_member, each_from, find_member, filter_member}
 use Rattle.exec_core.proofs.Moving.{moved_fits, good_leaves}
 use Rattle.exec_core.proofs.Sources.{process_checked, next_fits}
 use Rattle.exec_core.proofs.Wholes.{each_leaf}
@@ -27,9 +27,9 @@ use Rattle.net_core.proofs.TreeLists.{trees_length}
 use Rattle.net_core.specs.Nets.{IsNext, NextsFit, is_register, nexts_of}
 use Rattle.check_exec.proofs.Facts.{in_at, in_index}
 use Rattle.term_net.proofs.Fitting.{stands_more}
-use Rattle.ssa_core.proofs.Listing.{more_of}
+use Rattle.list_core.proofs.Growing.{more_of}
 use Rattle.ssa_core.proofs.Places.{get_map, get_mapped}
-use Rattle.ssa_state.specs.State.{AllOverGivens}
+use Rattle.ssa_nodes.specs.State.{AllOverGivens}
 use Rattle.ssa_nodes.specs.declared.parts.Parts as code
 use Rattle.ssa_nodes.specs.Parts.{HasParts, IsEnd, EndStands, StandsBy, IsReadyBy, design_in, folded_of}
 use Rattle.ssa_nodes.specs.Driving.{AllHave}
@@ -117,7 +117,7 @@ module _ (p : code.Parts) (h : HasParts p) where
   writer_stands ns q k id w signal stands =
       let t = written q k w signal in
       let key = key_at p h k w.process w.found in
-      let is : next_tree d q ≡ moved w.process.instance t.tree = ap (next_of q) w.first ∙ ap (λ o. moved w.process.instance (unwrap_or o (Leaf q.name))) t.ends in
+      let is : next_tree d q ≡ moved w.process.instance t.tree = ap (next_by q) w.first ∙ ap (λ o. moved w.process.instance (unwrap_or o (Leaf q.name))) t.ends in
       subst (λ u. StandsBy p ns u id) (sym is) (stands key.0 w.process t.tree key.1.0 key.1.1 t.ends)
 
   -- ---- lists of next values

@@ -4,7 +4,7 @@ use Rattle.std.specs.Prelude.{slice_get, find, filter, if◌then◌else◌}
 use Rattle.std.specs.List.{flat_map}
 use Rattle.std.proofs.lemmas.List.{map-append}
 use Rattle.std.proofs.lemmas.Option.{none-some}
-use Rattle.exec_core.specs.Lists.{EachOf, IsIn}
+use Rattle.list_core.specs.Lists.{EachOf, IsIn}
 use Rattle.exec_core.specs.Design.{or_else}
 
 -- ---- one more element

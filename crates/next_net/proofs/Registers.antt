@@ -8,7 +8,8 @@ use Rattle.design_core.specs.declared.variant.Signal.{Signal}
 use Rattle.design_core.specs.declared.variant.Kind.{Kind}
 use Rattle.design_core.specs.declared.variant.Kind.TheVariants as kind
 use Rattle.design_core.specs.Design as design
-use Rattle.design_exec.specs.Processes.{Given, Numbered, bits, is_top, given_by, givens_at, instances_of, processes_of, signals_in}
+use Rattle.design_exec.specs.Processes.{Given, Numbered, is_top, given_by, givens_at, instances_of, processes_of, signals_in}
+use Rattle.design_core.specs.Widths.{bits}
 use Rattle.net_core.specs.Nets.{is_register}
 use Rattle.next_net.specs.Registers.{register_by, registers_at, registers_of}
 use Rattle.next_net.proofs.Picking.{picked_flat}

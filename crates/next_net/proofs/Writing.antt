@@ -14,12 +14,11 @@ use Rattle.design_exec.specs.Processes.{process, signals_in, blocks_in, body_of}
 use Rattle.block_net.specs.declared.key.Key as code_key
 use Rattle.block_net.specs.Logs.{key_of}
 use Rattle.block_net.specs.Walks.{among}
-use Rattle.dep_order.specs.Standing.{Numbers}
-use Rattle.dep_order.specs.Numbering.{number_in}
+use Rattle.place_core.specs.Numbering.{Numbers, number_in}
 use Rattle.ssa_core.specs.declared.process.ProcessKey.{ProcessKey}
 use Rattle.ssa_core.specs.Drives.{AreApart}
 use Rattle.ssa_core.specs.Processes.{process_at}
-use Rattle.ssa_core.proofs.Listing.{more_of}
+use Rattle.list_core.proofs.Growing.{more_of}
 use Rattle.ssa_core.proofs.Places.{get_map, get_mapped, get_set_same, get_set_other, same_or_not}
 use Rattle.next_net.specs.Writers.{IsFirst, IsWriter, AreWriters, writes_by, first_of, Marks}
 use Rattle.next_net.proofs.Picking.{get_left, get_last, find_push}

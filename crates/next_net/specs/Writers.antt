@@ -3,8 +3,7 @@ use Rattle.std.specs.Prelude.{◌≡◌, ℕ, ◌&&◌, ◌==◌, Bool, true, fa
 use Rattle.exec_core.specs.Block.{Key, Next}
 use Rattle.exec_core.specs.Whole.{Place}
 use Rattle.exec_core.specs.Design.{Process, writes_to}
-use Rattle.dep_order.specs.Standing.{Numbers}
-use Rattle.dep_order.specs.Numbering.{number_in}
+use Rattle.place_core.specs.Numbering.{Numbers, number_in}
 
 -- the process of this number is the first that writes the register
 pub record IsFirst (processes : List Process) (q : Place) (k : ℕ) : Type 0 where

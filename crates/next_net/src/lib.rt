@@ -2,7 +2,6 @@
 #![tactic(auto)]
 
 mod next;
-mod number;
 mod register;
 mod writer;
 

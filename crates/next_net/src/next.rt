@@ -1,12 +1,14 @@
+//! What each register holds next, as a node: what the block that writes it ends with, or the register itself.
+
 ghost use Rattle.std.specs.Prelude.{◌≡◌, true, map, Some, IfOk, OnOk};
 ghost use Rattle.tree_core.specs.Tree.{Leaf};
 ghost use Rattle.exec_core.specs.Design.{next_tree, place};
-ghost use Rattle.exec_core.specs.Lists.{EachOf};
+ghost use Rattle.list_core.specs.Lists.{EachOf};
 ghost use Rattle.design_exec.specs.Processes.{is_signal_of, processes_of};
 ghost use Rattle.net_core.specs.Nets.{NextsFit, nexts_of as pairs_of};
 ghost use Rattle.term_net.specs.Growth.{Grown};
 ghost use Rattle.ssa_core.specs.Processes.{lists_of};
-ghost use Rattle.ssa_state.specs.State.{HasNode, node_of};
+ghost use Rattle.ssa_nodes.specs.State.{HasNode, node_of};
 ghost use Rattle.ssa_nodes.specs.Parts.{HasParts, HasState, StandsBy, all_in, design_in};
 ghost use Rattle.ssa_nodes.specs.Driving.{AllHave};
 ghost use Rattle.next_net.specs.Writers.{AreWriters, IsWriter};
@@ -18,8 +20,7 @@ use crate::writer::writers_of;
 use bv_core::NodeId;
 use net_core::NetBuilder;
 use ssa_core::number_of;
-use ssa_nodes::{Parts, names_of, next_node};
-use ssa_state::leaf_node;
+use ssa_nodes::{Parts, leaf_node, names_of, next_node};
 use std::alloc::Global;
 use text_core::NoMemory;
 

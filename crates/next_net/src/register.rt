@@ -1,12 +1,12 @@
+//! The registers of all instances, in the order of the design.
+
 ghost use Rattle.std.specs.Prelude.{◌≡◌, ◌++◌, map, IfOk, OnOk};
 ghost use Rattle.std.specs.List.{flat_map};
 ghost use Rattle.design_core.specs.declared.variant.Signal.{Signal};
 ghost use Rattle.design_core.specs.DesignView.{design_of};
 ghost use Rattle.next_net.specs.Registers.{register_as, register_by, registers_at, registers_of};
 
-use crate::number::in_32_bits;
-use dep_order::signals_of;
-use design_core::{Design, Instance, Kind, Signal};
+use design_core::{Design, Instance, Kind, Signal, in_32_bits, signals_of};
 use std::alloc::Global;
 use text_core::NoMemory;
 

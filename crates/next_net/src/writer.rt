@@ -1,20 +1,21 @@
-ghost use Rattle.std.specs.Prelude.{◌≡◌, ◌<◌, ℕ, [], true, None, Some, length, slice_get, slice_set, slice_index_or, IfOk, OnOk};
+//! Which process writes each register: the first that does.
+
+ghost use Rattle.std.specs.Prelude.{◌≡◌, ◌<◌, ℕ, [], true, None, Some, length, slice_set, slice_index_or, IfOk, OnOk};
 ghost use Rattle.exec_core.specs.Block.{Next, same_key};
 ghost use Rattle.exec_core.specs.Design.{Process, writes_to};
 ghost use Rattle.design_core.specs.DesignView.{design_of};
 ghost use Rattle.design_exec.specs.Processes.{processes_of};
 ghost use Rattle.block_net.specs.Logs.{key_of};
 ghost use Rattle.block_net.specs.Walks.{among};
-ghost use Rattle.dep_order.specs.Numbering.{numbers_of};
+ghost use Rattle.place_core.specs.Numbering.{numbers_of};
 ghost use Rattle.ssa_core.specs.Drives.{AreApart};
 ghost use Rattle.ssa_core.specs.Processes.{process_at};
 ghost use Rattle.ssa_nodes.specs.Parts.{HasParts, all_in, design_in};
 ghost use Rattle.next_net.specs.Writers.{AreWriters, Marks, first_of, writes_by};
 
-use crate::number::in_32_bits;
 use block_net::{Key, assigned_by};
-use dep_order::{NumberMap, blocks_of};
-use design_core::Design;
+use design_core::{Design, blocks_of, in_32_bits};
+use names::NameMap;
 use ssa_core::{ProcessKey, number_of};
 use ssa_nodes::Parts;
 use std::alloc::{AllocError, Global};
@@ -38,7 +39,7 @@ fn put_first(list: &mut [Option<u32>], number: u32, process: u32)
 }
 
 /// Puts a process beside the number of a register of an instance that a key names.
-fn put_key(list: &mut [Option<u32>], maps: &[NumberMap], instance: u32, process: u32, key: &Key)
+fn put_key(list: &mut [Option<u32>], maps: &[NameMap<u32>], instance: u32, process: u32, key: &Key)
     requires { AreApart (length list.old) (numbers_of maps.now) }
     ensures { Marks (numbers_of maps.now) process (writes_by instance (same_key (key_of key.now))) list.old list.new }
 {
@@ -50,7 +51,13 @@ fn put_key(list: &mut [Option<u32>], maps: &[NumberMap], instance: u32, process:
 }
 
 /// The same of keys in order.
-fn put_keys(list: &mut [Option<u32>], maps: &[NumberMap], instance: u32, process: u32, keys: &[Key])
+fn put_keys(
+    list: &mut [Option<u32>],
+    maps: &[NameMap<u32>],
+    instance: u32,
+    process: u32,
+    keys: &[Key],
+)
     requires { AreApart (length list.old) (numbers_of maps.now) }
     ensures { Marks (numbers_of maps.now) process (writes_by instance (among keys.now)) list.old list.new }
 {
@@ -63,7 +70,7 @@ fn put_keys(list: &mut [Option<u32>], maps: &[NumberMap], instance: u32, process
 fn put_process(
     alloc: Global,
     list: &mut [Option<u32>],
-    maps: &[NumberMap],
+    maps: &[NameMap<u32>],
     design: &Design,
     process: u32,
     key: ProcessKey,

@@ -5,9 +5,9 @@ use Rattle.bv_core.specs.Operators.{flag_of}
 use Rattle.tree_core.specs.Tree.{Const, Leaf}
 use Rattle.exec_core.specs.Block.{Name, slots, body_slots}
 use Rattle.exec_core.specs.Exec.{start}
-use Rattle.exec_core.specs.Lists.{IsIn, AreApart}
+use Rattle.list_core.specs.Lists.{IsIn, AreApart}
 use Rattle.exec_core.specs.Trees.{Row, block_rows, row_at}
-use Rattle.exec_core.proofs.Lists.{not_in}
+use Rattle.list_core.proofs.Lists.{not_in}
 use Rattle.exec_core.proofs.Slots.{row_slots, body_rows_have}
 use Rattle.design_core.specs.Design as design
 use Rattle.design_core.specs.Design.{Block, Variant}

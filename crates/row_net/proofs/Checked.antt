@@ -5,14 +5,14 @@ use Rattle.tree_core.specs.Tree.{Tree, Const, Leaf, One, Two, Mux, Whole}
 use Rattle.tree_core.specs.Width.{WellFormed, tree_width}
 use Rattle.exec_core.specs.Block.{Name, Now, body_slots}
 use Rattle.exec_core.specs.Leaves.{EachLeaf}
-use Rattle.exec_core.specs.Lists.{EachOf, IsIn, AreApart}
+use Rattle.list_core.specs.Lists.{EachOf, IsIn, AreApart}
 use Rattle.exec_core.specs.Whole.{Place}
 use Rattle.exec_core.specs.Trees.{Row, block_rows}
 use Rattle.exec_core.specs.Paths.{HasTree, TreeFits}
 use Rattle.exec_core.specs.Design.{Process, moved, signals_of, width_in, folded_tree}
 use Rattle.exec_core.specs.States.{NodeByNode}
 use Rattle.exec_core.specs.Accepted.{Accepted}
-use Rattle.exec_core.proofs.Lists.{each_from}
+use Rattle.list_core.proofs.Lists.{each_from}
 use Rattle.exec_core.proofs.Moving.{moved_fits, good_leaves}
 use Rattle.exec_core.proofs.Sources.{process_checked, block_apart}
 use Rattle.exec_core.proofs.Wholes.{each_leaf}
@@ -24,15 +24,15 @@ use Rattle.net_core.specs.Nodes.{Shape}
 use Rattle.net_core.specs.Builder.{AreShared, Stands}
 use Rattle.check_exec.proofs.Facts.{each_map}
 use Rattle.check_exec.proofs.Instances.{Stands as StandsThere}
-use Rattle.dep_order.specs.Standing.{Numbers}
+use Rattle.place_core.specs.Numbering.{Numbers}
 use Rattle.term_net.specs.Leaves.{leaf_id, leaf_tree, whole_of, IsReady}
 use Rattle.world_core.specs.Sites.{Site}
 use Rattle.lower_core.specs.declared.row.FullRow.{FullRow}
 use Rattle.lower_core.specs.Rows.{CellTold, CellsTold, EnableTold, RowTold, AreTold}
-use Rattle.ssa_state.specs.State as states
-use Rattle.ssa_state.specs.State.{node_of, HasNode, SignalsTold}
-use Rattle.ssa_state.specs.Held.{CanHaveNode, NodeTold}
-use Rattle.ssa_state.proofs.Placed.{folds_to, ready_from}
+use Rattle.ssa_nodes.specs.State as states
+use Rattle.ssa_nodes.specs.State.{HasNode, SignalsTold}
+use Rattle.ssa_nodes.specs.Held.{CanHaveNode, NodeTold}
+use Rattle.ssa_nodes.proofs.Placed.{folds_to, ready_from}
 use Rattle.row_net.specs.Spots.{at_instance}
 use Rattle.row_net.specs.Told.{name_row, names_in, RowReady, CellsHave, EnableHas, RowHas, RowsHave}
 use Rattle.row_net.proofs.Aligned.{IsRowOf, Aligned, rows_there}

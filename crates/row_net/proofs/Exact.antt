@@ -3,17 +3,17 @@ use Rattle.std.proofs.Common.{◌≡◌, ℕ, ◌==◌, List, [], ◌∷◌, Som
 use Rattle.std.specs.Prelude.{slice_get, filter}
 use Rattle.std.specs.List.{enumerate_from}
 use Rattle.exec_core.specs.Block.{body_slots}
-use Rattle.exec_core.specs.Lists.{EachOf, IsIn, AreApart}
+use Rattle.list_core.specs.Lists.{EachOf, IsIn, AreApart, from}
 use Rattle.exec_core.specs.Design.{Process, signals_of, width_in}
 use Rattle.exec_core.specs.Paths.{Checked, IsUnset}
 use Rattle.exec_core.specs.Run.{processes_of as processes_at_instance}
 use Rattle.exec_core.specs.Trees.{Row, block_rows, row_at}
 use Rattle.exec_core.proofs.Checking.{trees_checked}
-use Rattle.exec_core.proofs.Lists.{each_member, filter_member, flat_map_apart}
-use Rattle.exec_core.proofs.Slots.{some_if}
+use Rattle.list_core.proofs.Lists.{each_member, filter_member, flat_map_apart}
+use Rattle.list_core.proofs.Options.{some_if}
 use Rattle.design_core.specs.declared.design.Instance.{Instance}
 use Rattle.design_core.specs.Design.{Variant, Design}
-use Rattle.design_core.specs.Slots.{Head, heads, scope, from}
+use Rattle.design_core.specs.Slots.{Head, heads, scope}
 use Rattle.design_exec.specs.Processes.{Numbered, instances_of, process, processes_of}
 use Rattle.check_exec.proofs.Checks.{blocks_are_checked}
 use Rattle.check_exec.proofs.Facts.{each_map, each_flat, from_zero}
@@ -21,7 +21,7 @@ use Rattle.check_exec.proofs.Instances.{Stands}
 use Rattle.check_exec.proofs.Slots.{slots_are_apart}
 use Rattle.world_core.specs.Sites.{Site, sites_in_block, sites_in, sites_of, slot_count, has_slot, sites_at, sites_in_order, site_body, instances_with, Spot, spots_of, all_spots}
 use Rattle.row_net.specs.Unset.{UnsetExactly}
-use Rattle.world_core.proofs.Listing.{map_from, flat_from, filter_from}
+use Rattle.list_core.proofs.Listing.{map_from, flat_from, filter_from}
 use Rattle.row_net.proofs.Scopes.{process_in}
 use Rattle.world_core.proofs.Status.{unset_means, unset_told}
 

@@ -6,20 +6,20 @@ use Rattle.std.proofs.lemmas.Option.{slice_get_read}
 use Rattle.bv_core.specs.declared.reference.NodeId.{NodeId}
 use Rattle.tree_core.specs.Tree.{Tree, Whole}
 use Rattle.exec_core.specs.Block.{Name}
-use Rattle.exec_core.specs.Lists.{EachOf}
+use Rattle.list_core.specs.Lists.{EachOf}
 use Rattle.net_core.specs.Nodes.{Shape}
 use Rattle.net_core.specs.Builder.{Keeps}
 use Rattle.block_net.specs.declared.term.Term.{Term}
 use Rattle.check_exec.proofs.Facts.{each_at}
-use Rattle.dep_order.specs.Names.{names_at}
+use Rattle.place_core.specs.Assigned.{names_at}
 use Rattle.term_net.specs.Growth.{AreNodes, Grown}
 use Rattle.term_net.specs.Leaves.{leaf_id, leaf_tree}
 use Rattle.term_net.specs.Memos.{Fits}
 use Rattle.term_net.proofs.Fitting.{stands_more, leaves_same}
 use Rattle.lower_core.specs.declared.row.FullRow.{FullRow}
-use Rattle.ssa_core.proofs.Listing.{more_of}
+use Rattle.list_core.proofs.Growing.{more_of}
 use Rattle.ssa_core.proofs.Places.{get_map}
-use Rattle.ssa_state.specs.Held.{CanHaveNode, NodeTold}
+use Rattle.ssa_nodes.specs.Held.{CanHaveNode, NodeTold}
 use Rattle.row_net.specs.Told.{Names, NameRow, RowReady, CellsHave, EnableHas, RowHas, RowsHave, CellsPut, RowsPut}
 
 -- ---- names, one after another

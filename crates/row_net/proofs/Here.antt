@@ -5,7 +5,7 @@ use Rattle.std.proofs.Math.ListN.{set}
 use Rattle.std.proofs.lemmas.Option.{same_Some}
 use Rattle.bv_core.specs.declared.reference.NodeId.{NodeId}
 use Rattle.exec_core.specs.Block.{Name}
-use Rattle.exec_core.specs.Lists.{EachOf}
+use Rattle.list_core.specs.Lists.{EachOf}
 use Rattle.exec_core.specs.Trees.{Row, block_rows}
 use Rattle.design_core.specs.Design.{Block, Variant}
 use Rattle.design_core.specs.Slots.{scope, lets_of}
@@ -21,7 +21,7 @@ use Rattle.lower_core.specs.declared.row.FullRow.{FullRow}
 use Rattle.lower_core.specs.Rows.{AreTold}
 use Rattle.ssa_core.specs.declared.process.ProcessKey.{ProcessKey}
 use Rattle.ssa_core.specs.Processes.{process_at, terms_at}
-use Rattle.ssa_state.specs.State.{names_in}
+use Rattle.ssa_nodes.specs.State.{names_in}
 use Rattle.ssa_nodes.specs.declared.parts.Parts as code
 use Rattle.ssa_nodes.specs.Driving.{AllHave}
 use Rattle.ssa_nodes.specs.Parts.{HasParts, HasState, all_in, blocks_in, design_in}

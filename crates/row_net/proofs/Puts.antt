@@ -4,26 +4,25 @@ use Rattle.std.specs.Prelude.{slice_get}
 use Rattle.std.specs.List.{enumerate_from, flat_map}
 use Rattle.std.proofs.lemmas.List.{map-append, length-map, length-append}
 use Rattle.std.proofs.lemmas.Option.{none-some, slice_get_within}
-use Rattle.exec_core.specs.Lists.{EachOf, IsIn}
-use Rattle.exec_core.proofs.Lists.{each_member}
+use Rattle.list_core.specs.Lists.{EachOf, IsIn}
+use Rattle.list_core.proofs.Lists.{each_member}
 use Rattle.design_core.specs.declared.design.Instance.{Instance}
 use Rattle.design_core.specs.Design.{Block, Variant, Design}
 use Rattle.design_core.specs.WellFormed.{IsDesign, all_slots}
 use Rattle.design_exec.specs.Processes.{Numbered, instances_of, process, processes_at, processes_of, signals_in, blocks_in}
 use Rattle.net_core.specs.Nodes.{Shape}
 use Rattle.net_core.specs.Builder.{Keeps}
-use Rattle.check_exec.proofs.Children.{some_at}
+use Rattle.list_core.proofs.Listing.{some_at, map_in, flat_in, at_number}
 use Rattle.check_exec.proofs.Facts.{in_at, each_map, each_flat}
 use Rattle.world_core.specs.Sites.{Site, sites_in_block, sites_in, sites_of, slot_count, Spot, all_spots}
 use Rattle.lower_core.specs.declared.row.FullRow.{FullRow}
 use Rattle.lower_core.specs.Rows.{AreTold}
 use Rattle.ssa_core.specs.declared.process.ProcessKey.{ProcessKey}
 use Rattle.ssa_core.specs.Processes.{process_at}
-use Rattle.ssa_core.proofs.Listing.{flat_push, plain_more}
+use Rattle.list_core.proofs.Growing.{flat_push, plain_more}
 use Rattle.ssa_core.proofs.Places.{get_mapped, get_map}
 use Rattle.row_net.specs.Spots.{at_instance, variant_sites, instance_spots, spots_by_instance, SlotsBelow, AreSorted, sorted_rows}
 use Rattle.row_net.specs.Blocks.{block_sites, HaveKeys, IsBlockOf, SpotsPut, blocks_spots, first_number}
-use Rattle.world_core.proofs.Listing.{map_in, flat_in, at_number}
 use Rattle.world_laws.proofs.SitesOf.{site_slot, sites_slots}
 use Rattle.row_net.proofs.Transposed.{all_sorted}
 use Rattle.row_net.proofs.Telling.{told_more, told_both, told_sorted}

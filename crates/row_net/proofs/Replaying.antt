@@ -5,24 +5,23 @@ use Rattle.std.specs.Borrow.{Bor}
 use Rattle.std.proofs.lemmas.List.{append-nil, drop_more, map_push}
 use Rattle.std.proofs.lemmas.List.Folds.{list_any-append}
 use Rattle.bv_core.specs.declared.reference.NodeId.{NodeId}
-use Rattle.tree_core.specs.Tree.{Tree, Whole}
+use Rattle.tree_core.specs.Tree.{Tree}
 use Rattle.tree_core.specs.Tree as tree
 use Rattle.exec_core.specs.Block.{Name, Body, own}
 use Rattle.exec_core.specs.Exec.{Env, start}
 use Rattle.exec_core.specs.Trees.{block_rows}
-use Rattle.design_core.specs.Design.{Stmt, Assign, Let, If, Done, Then, Else, NoElse, Otherwise}
+use Rattle.design_core.specs.Design.{Stmt, Assign, Let, If, Done, Then, Else, NoElse, Otherwise, Gens}
 use Rattle.design_core.specs.Design as design
 use Rattle.design_core.specs.declared.expr.Expr as code_expr
 use Rattle.design_core.specs.declared.statement.Stmt as code_stmt
 use Rattle.design_core.specs.declared.statement.Stmt.TheVariants as code_stmts
-use Rattle.design_core.specs.Design.{Gens}
 use Rattle.design_core.specs.View.{stmt_of}
 use Rattle.design_core.proofs.Views.{stmt_assign, stmt_let, stmt_if}
 use Rattle.design_core.specs.Slots.{let_of, lets_of, else_lets}
 use Rattle.net_core.specs.Nodes.{Shape}
-use Rattle.check_core.specs.Known.{has}
-use Rattle.check_core.specs.Maps.{put_value}
-use Rattle.check_core.specs.Statements.{inside, statements, else_statements}
+use Rattle.names.specs.Known.{has}
+use Rattle.names.specs.Maps.{put_value}
+use Rattle.design_core.specs.Statements.{inside, statements, else_statements}
 use Rattle.check_exec.proofs.Facts.{eq_turned}
 use Rattle.block_net.specs.declared.key.Key as code_key
 use Rattle.block_net.specs.declared.key.Key.TheVariants as keys
@@ -34,7 +33,7 @@ use Rattle.block_net.specs.Terms.{IsWithin, tree_for}
 use Rattle.block_net.specs.Logs.{AreWithin, rows_of}
 use Rattle.block_net.specs.Blocks.{BlockParts, Tells}
 use Rattle.block_net.specs.Walks.{IsHeld, held}
-use Rattle.dep_order.specs.Names.{names_at}
+use Rattle.place_core.specs.Assigned.{names_at}
 use Rattle.term_net.specs.Leaves.{leaf_tree}
 use Rattle.lower_core.specs.declared.row.FullRow.{FullRow}
 use Rattle.row_net.specs.Told.{Names, NameRow, name_row, names_in, set_name, after_step, rows_of_step, name_rows, names_by, no_own, AreHeld, let_name, Replayed, RowsPut}

@@ -3,7 +3,7 @@ use Rattle.std.proofs.Common.{◌≡◌, ℕ, Bool, true, bytes_eq, [], map, opt
 use Rattle.std.specs.List.{list_any}
 use Rattle.std.proofs.lemmas.Bool.{or_left, or_right}
 use Rattle.exec_core.specs.Block.{Name, Now, own, body_assigns, assigns}
-use Rattle.exec_core.specs.Lists.{IsIn}
+use Rattle.list_core.specs.Lists.{IsIn}
 use Rattle.exec_core.specs.Paths.{known_in}
 use Rattle.exec_core.specs.Design.{place, signals_of}
 use Rattle.design_core.specs.declared.design.Instance.{Instance}
@@ -12,23 +12,24 @@ use Rattle.design_core.specs.Design as design
 use Rattle.design_core.specs.Design.{Variant, Block, Design}
 use Rattle.design_core.specs.Slots.{lets_of, let_of, else_lets, scope}
 use Rattle.design_exec.specs.Processes.{instances_of, process, processes_at, processes_of, body_of, stmt_of, else_of, is_signal_of}
-use Rattle.check_exec.proofs.Facts.{in_parts, in_any, name_same}
+use Rattle.check_exec.proofs.Facts.{in_any, name_same}
+use Rattle.list_core.proofs.Lists.{in_cases}
 use Rattle.check_exec.proofs.Instances.{Stands, signals_are}
-use Rattle.world_core.proofs.Listing.{map_in, map_from, flat_in, at_number}
+use Rattle.list_core.proofs.Listing.{map_in, map_from, flat_in, at_number}
 
 mutual
   let_set : (c : Bool) (x : Name) (s : design.Stmt) → IsIn x (let_of s) → assigns (stmt_of c s) (Now x) ≡ true
   let_set c x (design.Assign slot line gens y e) i = absurd i
   let_set c x (design.Let slot line gens y e) (inl same) = name_same y x (sym same)
   let_set c x (design.Let slot line gens y e) (inr i) = absurd i
-  let_set c x (design.If slot line gens t first second) i = elim (in_parts x (lets_of first) (else_lets second) i) [
+  let_set c x (design.If slot line gens t first second) i = elim (in_cases x (lets_of first) (else_lets second) i) [
     | inl h ↦ or_left (body_assigns (body_of c first) (Now x)) (body_assigns (else_of c second) (Now x)) (lets_set c x first h)
     | inr h ↦ or_right (body_assigns (body_of c first) (Now x)) (body_assigns (else_of c second) (Now x)) (else_set c x second h)
   ]
 
   lets_set : (c : Bool) (x : Name) (b : design.Body) → IsIn x (lets_of b) → body_assigns (body_of c b) (Now x) ≡ true
   lets_set c x design.Done i = absurd i
-  lets_set c x (design.Then s rest) i = elim (in_parts x (let_of s) (lets_of rest) i) [
+  lets_set c x (design.Then s rest) i = elim (in_cases x (let_of s) (lets_of rest) i) [
     | inl h ↦ or_left (assigns (stmt_of c s) (Now x)) (body_assigns (body_of c rest) (Now x)) (let_set c x s h)
     | inr h ↦ or_right (assigns (stmt_of c s) (Now x)) (body_assigns (body_of c rest) (Now x)) (lets_set c x rest h)
   ]
@@ -39,7 +40,7 @@ mutual
 
 pub scope_known : (d : Design) (i : ℕ) (r : Instance) (v : Variant) → Stands d i r v → (b : Block) (x : Name) → IsIn x (scope v b)
     → known_in (signals_of (processes_of d) (process i v.signals b)) (body_of b.clocked b.body) x ≡ true
-scope_known d i r v stands b x at = elim (in_parts x (map (λ (s : Signal). s.name) v.signals) (lets_of b.body) at) [
+scope_known d i r v stands b x at = elim (in_cases x (map (λ (s : Signal). s.name) v.signals) (lets_of b.body) at) [
   | inl h ↦
       let s = map_from (λ (s : Signal). s.name) v.signals x h in
       or_right (own (body_of b.clocked b.body) x) (is_signal_of d (place i x))

@@ -7,7 +7,7 @@ use Rattle.tree_core.specs.Tree.{Tree}
 use Rattle.exec_core.specs.Block.{Name, Now}
 use Rattle.exec_core.specs.Trees.{Row}
 use Rattle.design_core.specs.Design.{Design}
-use Rattle.design_core.specs.Slots.{from}
+use Rattle.list_core.specs.Lists.{from}
 use Rattle.net_core.specs.Nodes.{Shape}
 use Rattle.net_core.specs.Builder.{Keeps}
 use Rattle.world_core.specs.Sites.{Site, Spot}

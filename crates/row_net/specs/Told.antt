@@ -4,7 +4,7 @@ use Rattle.bv_core.specs.declared.reference.NodeId.{NodeId}
 use Rattle.tree_core.specs.Tree.{Tree, Whole}
 use Rattle.exec_core.specs.Block.{Name, Now}
 use Rattle.exec_core.specs.Exec.{Env}
-use Rattle.exec_core.specs.Lists.{EachOf}
+use Rattle.list_core.specs.Lists.{EachOf}
 use Rattle.exec_core.specs.Trees.{Row}
 use Rattle.design_core.specs.Design.{Stmt, Assign, Let, If}
 use Rattle.net_core.specs.Nodes.{Shape}
@@ -17,7 +17,7 @@ use Rattle.block_net.specs.declared.term.TermId.{TermId}
 use Rattle.block_net.specs.Terms.{tree_for}
 use Rattle.block_net.specs.Walks.{IsHeld, held}
 use Rattle.term_net.specs.Leaves.{leaf_tree, whole_of, IsReady}
-use Rattle.ssa_state.specs.Held.{CanHaveNode, NodeTold}
+use Rattle.ssa_nodes.specs.Held.{CanHaveNode, NodeTold}
 use Rattle.lower_core.specs.declared.row.FullRow.{FullRow}
 
 -- the tree that each name has somewhere, if it has one

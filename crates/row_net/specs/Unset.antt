@@ -1,7 +1,7 @@
 -- Where a name has no tree.
 use Rattle.std.specs.Prelude.{◌≡◌, true, Some, None, ◌↔◌}
 use Rattle.exec_core.specs.Block.{Name, Now}
-use Rattle.exec_core.specs.Lists.{IsIn}
+use Rattle.list_core.specs.Lists.{IsIn}
 use Rattle.exec_core.specs.Trees.{Row, block_rows, row_at}
 use Rattle.design_core.specs.Design.{Design}
 use Rattle.check_exec.specs.Premises.{IsSound}

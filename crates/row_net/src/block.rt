@@ -1,29 +1,30 @@
+//! The rows of one block of one instance, replayed from the log of its walk.
+
 ghost use Rattle.std.specs.Prelude.{◌≡◌, ◌++◌, map, IfOk, OnOk};
 ghost use Rattle.std.specs.List.{flat_map};
-ghost use Rattle.exec_core.specs.Lists.{EachOf};
+ghost use Rattle.list_core.specs.Lists.{EachOf};
 ghost use Rattle.exec_core.specs.Trees.{block_rows as the_rows};
 ghost use Rattle.design_core.specs.Slots.{lets_of};
 ghost use Rattle.design_core.specs.View.{block_of, body_of, stmt_of};
 ghost use Rattle.design_exec.specs.Processes as processes;
-ghost use Rattle.check_core.specs.Known.{has};
-ghost use Rattle.check_core.specs.Maps.{value_of};
-ghost use Rattle.check_core.specs.Statements.{stmts_at};
+ghost use Rattle.names.specs.Known.{has};
+ghost use Rattle.names.specs.Maps.{value_of};
+ghost use Rattle.design_core.specs.Statements.{stmts_at};
 ghost use Rattle.block_net.specs.Blocks.{Tells};
-ghost use Rattle.dep_order.specs.Blocks.{assigned_in as the_assigned};
-ghost use Rattle.dep_order.specs.Names.{names_at};
+ghost use Rattle.place_core.specs.Assigned.{assigned_in as the_assigned, names_at};
 ghost use Rattle.term_net.specs.Growth.{Grown};
 ghost use Rattle.term_net.specs.Leaves.{leaf_id, leaf_tree};
 ghost use Rattle.term_net.specs.Memos.{Fits};
 ghost use Rattle.row_net.specs.Told.{RowReady, RowsHave, let_name, name_row, no_own};
 
 use crate::replay::replay;
-use block_net::{BlockTerms, IdMap};
+use block_net::{BlockTerms, TermId};
 use bv_core::NodeId;
-use check_core::statements;
-use dep_order::{NumberMap, assigned_in};
-use design_core::{Block, Stmt};
+use design_core::{Block, Stmt, statements};
 use lower_core::FullRow;
+use names::NameMap;
 use net_core::NetBuilder;
+use place_core::assigned_in;
 use std::alloc::Global;
 use text_core::NoMemory;
 
@@ -63,10 +64,10 @@ fn lets_in<'a>(alloc: Global, body: &'a [Stmt]) -> Result<Vec<&'a [u8]>, NoMemor
 }
 
 /// What the names of a list have before a block's first statement, of which they are the own names: nothing.
-fn without_trees(alloc: Global, names: &[&[u8]]) -> Result<IdMap, NoMemory>
+fn without_trees(alloc: Global, names: &[&[u8]]) -> Result<NameMap<Option<TermId>>, NoMemory>
     ensures { IfOk result (λ held. value_of held ≡ no_own (has (names_at names.now))) }
 {
-    let mut held = IdMap::new(alloc);
+    let mut held = NameMap::new(alloc);
     for name in names {
         held.put(alloc, name, None)?;
     }
@@ -74,7 +75,11 @@ fn without_trees(alloc: Global, names: &[&[u8]]) -> Result<IdMap, NoMemory>
 }
 
 /// What names have before the first statement of a body: its own names have nothing, and others are themselves.
-fn before_first(alloc: Global, clocked: bool, body: &[Stmt]) -> Result<IdMap, NoMemory>
+fn before_first(
+    alloc: Global,
+    clocked: bool,
+    body: &[Stmt],
+) -> Result<NameMap<Option<TermId>>, NoMemory>
     ensures { IfOk result (λ held. value_of held ≡ no_own (the_assigned clocked (body_of body.now))) }
 {
     let names = assigned_in(alloc, clocked, body)?;
@@ -88,7 +93,7 @@ pub(crate) fn block_rows(
     builder: &mut NetBuilder,
     block: &Block,
     terms: &BlockTerms,
-    places: &NumberMap,
+    places: &NameMap<u32>,
     nodes: &[Option<NodeId>],
     memo: &mut [Option<NodeId>],
     signals: &[&[u8]],

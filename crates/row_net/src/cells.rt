@@ -1,18 +1,20 @@
+//! The cells of a row: what each name in scope has before the statement, signals first and then lets.
+
 ghost use Rattle.std.specs.Prelude.{◌≡◌, ◌++◌, ◌∷◌, [], IfOk, OnOk};
-ghost use Rattle.exec_core.specs.Lists.{EachOf};
-ghost use Rattle.check_core.specs.Maps.{value_of};
-ghost use Rattle.dep_order.specs.Names.{names_at};
+ghost use Rattle.list_core.specs.Lists.{EachOf};
+ghost use Rattle.names.specs.Maps.{value_of};
+ghost use Rattle.place_core.specs.Assigned.{names_at};
 ghost use Rattle.term_net.specs.Growth.{Grown};
 ghost use Rattle.term_net.specs.Leaves.{leaf_id, leaf_tree};
 ghost use Rattle.term_net.specs.Memos.{Fits};
-ghost use Rattle.ssa_state.specs.Held.{CanHaveNode};
+ghost use Rattle.ssa_nodes.specs.Held.{CanHaveNode};
 ghost use Rattle.row_net.specs.Told.{AreHeld, CellsHave, CellsPut, names_by};
 
-use block_net::{BlockTerms, IdMap};
+use block_net::{BlockTerms, TermId};
 use bv_core::NodeId;
-use dep_order::NumberMap;
+use names::NameMap;
 use net_core::NetBuilder;
-use ssa_state::held_node;
+use ssa_nodes::held_node;
 use std::alloc::Global;
 use text_core::NoMemory;
 
@@ -21,10 +23,10 @@ fn put_cell(
     alloc: Global,
     builder: &mut NetBuilder,
     block: &BlockTerms,
-    places: &NumberMap,
+    places: &NameMap<u32>,
     nodes: &[Option<NodeId>],
     memo: &mut [Option<NodeId>],
-    held: &IdMap,
+    held: &NameMap<Option<TermId>>,
     name: &[u8],
     cells: &mut Vec<Option<NodeId>>,
 ) -> Result<(), NoMemory>
@@ -54,10 +56,10 @@ fn put_cells(
     alloc: Global,
     builder: &mut NetBuilder,
     block: &BlockTerms,
-    places: &NumberMap,
+    places: &NameMap<u32>,
     nodes: &[Option<NodeId>],
     memo: &mut [Option<NodeId>],
-    held: &IdMap,
+    held: &NameMap<Option<TermId>>,
     names: &[&[u8]],
     cells: &mut Vec<Option<NodeId>>,
 ) -> Result<(), NoMemory>
@@ -81,10 +83,10 @@ pub(crate) fn cells_of(
     alloc: Global,
     builder: &mut NetBuilder,
     block: &BlockTerms,
-    places: &NumberMap,
+    places: &NameMap<u32>,
     nodes: &[Option<NodeId>],
     memo: &mut [Option<NodeId>],
-    held: &IdMap,
+    held: &NameMap<Option<TermId>>,
     signals: &[&[u8]],
     lets: &[&[u8]],
 ) -> Result<Vec<Option<NodeId>>, NoMemory>

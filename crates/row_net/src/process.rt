@@ -1,7 +1,9 @@
+//! The rows of a process, behind those of the processes before it.
+
 ghost use Rattle.std.specs.Prelude.{◌≡◌, length, IfOk, OnOk};
 ghost use Rattle.design_core.specs.View.{block_of as the_block};
 ghost use Rattle.design_exec.specs.Processes.{signals_in};
-ghost use Rattle.dep_order.specs.Names.{names_at};
+ghost use Rattle.place_core.specs.Assigned.{names_at};
 ghost use Rattle.lower_core.specs.Rows.{AreTold};
 ghost use Rattle.ssa_core.specs.Processes.{lists_of};
 ghost use Rattle.ssa_nodes.specs.Driving.{AllHave};

@@ -1,7 +1,9 @@
+//! The log of a block's walk replayed: a visit gives a row, a set changes what a name has for the rows behind it.
+
 ghost use Rattle.std.specs.Prelude.{◌≡◌, ◌++◌, ◌∷◌, [], IfOk, OnOk};
-ghost use Rattle.exec_core.specs.Lists.{EachOf};
-ghost use Rattle.check_core.specs.Maps.{value_of};
-ghost use Rattle.dep_order.specs.Names.{names_at};
+ghost use Rattle.list_core.specs.Lists.{EachOf};
+ghost use Rattle.names.specs.Maps.{value_of};
+ghost use Rattle.place_core.specs.Assigned.{names_at};
 ghost use Rattle.block_net.specs.declared.step.Step.TheVariants.{Set};
 ghost use Rattle.block_net.specs.Logs.{AreWithin};
 ghost use Rattle.block_net.specs.Terms.{IsWithin, tree_for};
@@ -11,10 +13,10 @@ ghost use Rattle.term_net.specs.Memos.{Fits};
 ghost use Rattle.row_net.specs.Told.{AreHeld, EnableHas, EnableReady, RowHas, RowReady, RowsHave, RowsPut, after_step, name_rows, names_by, row_of_slot, rows_of_step};
 
 use crate::cells::cells_of;
-use block_net::{BlockTerms, IdMap, Key, Step, TermId};
+use block_net::{BlockTerms, Key, Step, TermId};
 use bv_core::NodeId;
-use dep_order::NumberMap;
 use lower_core::FullRow;
+use names::NameMap;
 use net_core::NetBuilder;
 use std::alloc::Global;
 use term_net::evaluate;
@@ -25,7 +27,7 @@ fn enable_node(
     alloc: Global,
     builder: &mut NetBuilder,
     block: &BlockTerms,
-    places: &NumberMap,
+    places: &NameMap<u32>,
     nodes: &[Option<NodeId>],
     memo: &mut [Option<NodeId>],
     enable: Option<TermId>,
@@ -47,10 +49,10 @@ fn row_of(
     alloc: Global,
     builder: &mut NetBuilder,
     block: &BlockTerms,
-    places: &NumberMap,
+    places: &NameMap<u32>,
     nodes: &[Option<NodeId>],
     memo: &mut [Option<NodeId>],
-    held: &IdMap,
+    held: &NameMap<Option<TermId>>,
     signals: &[&[u8]],
     lets: &[&[u8]],
     instance: u32,
@@ -82,10 +84,10 @@ fn put_row(
     alloc: Global,
     builder: &mut NetBuilder,
     block: &BlockTerms,
-    places: &NumberMap,
+    places: &NameMap<u32>,
     nodes: &[Option<NodeId>],
     memo: &mut [Option<NodeId>],
-    held: &IdMap,
+    held: &NameMap<Option<TermId>>,
     signals: &[&[u8]],
     lets: &[&[u8]],
     instance: u32,
@@ -112,7 +114,7 @@ fn put_row(
 fn set_key(
     alloc: Global,
     block: &BlockTerms,
-    held: &mut IdMap,
+    held: &mut NameMap<Option<TermId>>,
     key: &Key,
     id: Option<TermId>,
 ) -> Result<(), NoMemory>
@@ -135,10 +137,10 @@ fn take_step(
     alloc: Global,
     builder: &mut NetBuilder,
     block: &BlockTerms,
-    places: &NumberMap,
+    places: &NameMap<u32>,
     nodes: &[Option<NodeId>],
     memo: &mut [Option<NodeId>],
-    held: &mut IdMap,
+    held: &mut NameMap<Option<TermId>>,
     signals: &[&[u8]],
     lets: &[&[u8]],
     instance: u32,
@@ -175,10 +177,10 @@ pub(crate) fn replay(
     alloc: Global,
     builder: &mut NetBuilder,
     block: &BlockTerms,
-    places: &NumberMap,
+    places: &NameMap<u32>,
     nodes: &[Option<NodeId>],
     memo: &mut [Option<NodeId>],
-    held: &mut IdMap,
+    held: &mut NameMap<Option<TermId>>,
     signals: &[&[u8]],
     lets: &[&[u8]],
     instance: u32,

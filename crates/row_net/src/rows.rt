@@ -1,6 +1,8 @@
+//! The rows of all instances, instance by instance and block by block, as the log of each block has them.
+
 ghost use Rattle.std.specs.Prelude.{◌≡◌, ◌+◌, length, IfOk, OnOk};
-ghost use Rattle.design_exec.specs.Processes.{blocks_in, signals_in};
-ghost use Rattle.dep_order.specs.Names.{names_at};
+ghost use Rattle.design_exec.specs.Processes.{blocks_in};
+ghost use Rattle.place_core.specs.Assigned.{names_at};
 ghost use Rattle.world_core.specs.Sites.{all_spots};
 ghost use Rattle.lower_core.specs.Rows.{AreTold};
 ghost use Rattle.ssa_core.specs.Processes.{lists_of};
@@ -13,8 +15,7 @@ ghost use Rattle.row_net.specs.Spots.{instance_spots, spots_by_instance};
 use crate::process::put_process;
 use crate::sorted::by_slot;
 use bv_core::NodeId;
-use dep_order::{blocks_of, signals_of};
-use design_core::{Instance, Signal};
+use design_core::{Instance, Signal, blocks_of, signals_of};
 use lower_core::FullRow;
 use net_core::NetBuilder;
 use ssa_nodes::Parts;

@@ -1,4 +1,3 @@
-pub mod Listing
 pub mod Buckets
 pub mod Numbers
 pub mod Preorder

@@ -2,18 +2,18 @@
 use Rattle.std.proofs.Common.{◌≡◌, ℕ, ◌+◌, ◌<◌, ◌≤◌, ◌==◌, ◌||◌, Bool, true, false, List, [], ◌∷◌, ◌++◌, length, map, inl, inr, refl, sym, ap, ap₂, ◌∙◌, subst, arith, eqb-true}
 use Rattle.std.specs.List.{enumerate_from, flat_map, list_any}
 use Rattle.std.proofs.lemmas.List.{map-append, length-map}
-use Rattle.exec_core.specs.Lists.{EachOf, IsIn}
+use Rattle.list_core.specs.Lists.{EachOf, IsIn, from}
 use Rattle.design_core.specs.declared.design.Instance.{Instance}
 use Rattle.design_core.specs.declared.variant.Signal.{Signal}
 use Rattle.design_core.specs.Design.{Block, Variant, Design}
-use Rattle.design_core.specs.Slots.{Head, heads, lets_of, scope, slots_of, from}
+use Rattle.design_core.specs.Slots.{Head, heads, lets_of, scope, slots_of}
 use Rattle.design_core.specs.WellFormed.{IsDesign, all_slots}
 use Rattle.world_core.specs.Sites.{Site, sites_in_block, sites_in, sites_of, slot_count}
 use Rattle.lower_core.specs.Shape.{slot_part}
 use Rattle.shape_net.specs.declared.ordered.NumberedSlot.{NumberedSlot}
 use Rattle.shape_net.specs.Numbered.{numbered_head, block_slots, variant_slots, design_slots, AreNumbersBelow}
 use Rattle.shape_net.specs.Heads.{signal_name}
-use Rattle.shape_net.proofs.Listing.{no_more, from_in, from_length, from_apart}
+use Rattle.list_core.proofs.Listing.{no_more, from_in, from_length, from_apart}
 
 -- a statement with its number, without rows
 abbrev pub numbered_site : Site → NumberedSlot

@@ -12,7 +12,7 @@ use Rattle.design_core.specs.Design.{Gens, Stmt, Assign, Let, If, Body, Done, Th
 use Rattle.design_core.specs.Slots.{stmt_heads, heads, else_heads, let_of, lets_of, else_lets}
 use Rattle.design_core.specs.View.{stmt_of, variant_of}
 use Rattle.design_core.proofs.Views.{stmt_assign, stmt_if}
-use Rattle.check_core.specs.Statements.{inside, statements, else_statements}
+use Rattle.design_core.specs.Statements.{inside, statements, else_statements}
 use Rattle.shape_net.specs.declared.ordered.NumberedSlot.{NumberedSlot}
 use Rattle.shape_net.specs.Heads.{head_of, let_name, signal_name}
 use Rattle.shape_net.specs.Numbered.{numbered_head, numbered_stmt, block_slots, variant_slots, design_slots}

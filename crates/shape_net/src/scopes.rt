@@ -1,7 +1,9 @@
+//! The names in scope of a block: the signals of the module, and then the lets in preorder.
+
 ghost use Rattle.std.specs.Prelude.{◌≡◌, ◌++◌, map, IfOk, OnOk};
 ghost use Rattle.std.specs.List.{flat_map};
 ghost use Rattle.design_core.specs.View.{stmt_of};
-ghost use Rattle.check_core.specs.Statements.{stmts_at};
+ghost use Rattle.design_core.specs.Statements.{stmts_at};
 ghost use Rattle.shape_net.specs.Heads.{let_name, signal_name};
 
 use design_core::{Signal, Stmt};

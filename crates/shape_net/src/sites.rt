@@ -1,14 +1,15 @@
+//! The statements of a variant as slots, in preorder.
+
 ghost use Rattle.std.specs.Prelude.{◌≡◌, ◌++◌, ◌≤◌, length, map, IfOk, OnOk};
 ghost use Rattle.design_core.specs.View.{block_of, stmt_of, variant_of};
-ghost use Rattle.check_core.specs.Statements.{stmts_at};
+ghost use Rattle.design_core.specs.Statements.{stmts_at};
 ghost use Rattle.shape_net.specs.Heads.{head_of, signal_name};
 ghost use Rattle.shape_net.specs.Numbered.{block_slots, design_slots, numbered_stmt, variant_slots};
 
 use crate::ordered::NumberedSlot;
 use crate::parts::gens_of;
 use crate::scopes::{lets_among, scope_names};
-use check_core::statements;
-use design_core::{Block, Signal, Stmt, Variant};
+use design_core::{Block, Signal, Stmt, Variant, statements};
 use gen_scope::Scope;
 use std::alloc::Global;
 use symtab::Slot;

@@ -7,10 +7,10 @@ use Rattle.bv_core.specs.Value.{Bits}
 use Rattle.tree_core.specs.Tree as tree
 use Rattle.tree_core.specs.Width.{tree_width}
 use Rattle.net_core.specs.Nodes.{Shape, Fixed, TopInput, Register, OfOne, OfTwo, OfMux, shape_at, node_tree, trees_of, tree_of, width_at}
-use Rattle.net_core.specs.Nets.{NetParts, IsNet, IsNext, is_register}
+use Rattle.net_core.specs.Nets.{NetParts, IsNet, IsNext, is_register, next_node}
 use Rattle.net_core.proofs.TreeLists.{tree_is}
 use Rattle.net_core.proofs.Solutions.{one_solution}
-use Rattle.sim_core.specs.Leaves.{inputs_of, registers_of, starts_of, numbers_from, next_of, sources_of}
+use Rattle.sim_core.specs.Leaves.{inputs_of, registers_of, starts_of, numbers_from, sources_of}
 use Rattle.sim_core.specs.Given.{HaveWidths, Gives, given, node_value, next_registers, IsValue}
 use Rattle.sim_core.specs.Steps.{bits_at}
 use Rattle.sim_core.specs.State.{Simulated, IsSimulator, settled_under, after_edge}
@@ -51,11 +51,11 @@ number_count k (OfTwo op a b ∷ ns) = number_count (k + 1) ns
 number_count k (OfMux c a b ∷ ns) = number_count (k + 1) ns
 
 source_count : (net : NetParts) → length (sources_of net) ≡ length (registers_of net.nodes)
-source_count net = length-map (numbers_from 0 net.nodes) (next_of net.nexts) ∙ number_count 0 net.nodes
+source_count net = length-map (numbers_from 0 net.nodes) (next_node net.nexts) ∙ number_count 0 net.nodes
 
 pub record Named (nexts : List (ℕ × ℕ)) (i : ℕ) : Type 0 where
   pub place : ℕ
-  pub at : slice_get nexts place ≡ Some (i, next_of nexts i)
+  pub at : slice_get nexts place ≡ Some (i, next_node nexts i)
 
 pub named : (nexts : List (ℕ × ℕ)) (k i m : ℕ) → slice_get nexts k ≡ Some (i, m) → Named nexts i
 named [] k i m e = cc
@@ -64,23 +64,23 @@ named (pair ∷ pairs) k i m e = by_test (λ j h. named pairs j i m h) k e (pair
     by_test : ((j : ℕ) → slice_get pairs j ≡ Some (i, m) → Named pairs i) → (k : ℕ) → slice_get (pair ∷ pairs) k ≡ Some (i, m) → (b : Bool) → (pair.0 == i) ≡ b → Named (pair ∷ pairs) i
     by_test later k e true t =
         let same : pair.0 ≡ i = eqb-true pair.0 i t in
-        record { place = 0; at = (λ z. Some (same z, pair.1)) ∙ ap (λ b. Some (i, if b then pair.1 else next_of pairs i)) (sym t) }
+        record { place = 0; at = (λ z. Some (same z, pair.1)) ∙ ap (λ b. Some (i, if b then pair.1 else next_node pairs i)) (sym t) }
     by_test later zero e false t =
         let same : pair ≡ (i, m) = cc in
         absurd (true≢false (sym (eq-eqb pair.0 i (ap (λ (p : ℕ × ℕ). p.0) same)) ∙ t))
     by_test later (suc k) e false t =
         let more = later k e in
-        record { place = suc more.place; at = more.at ∙ ap (λ b. Some (i, if b then pair.1 else next_of pairs i)) (sym t) }
+        record { place = suc more.place; at = more.at ∙ ap (λ b. Some (i, if b then pair.1 else next_node pairs i)) (sym t) }
 
 module _ (net : NetParts) (is_net : IsNet net) where
   leaf : (k : ℕ) (instance name : List ℕ) (start : Bits) → k < length net.nodes → shape_at net.nodes k ≡ Register instance name start → tree_of net.nodes k ≡ tree.Leaf (tree.Register instance name start)
   leaf k instance name start l e = tree_is net.nodes is_net.shared.numbered k l ∙ ap (node_tree (trees_of net.nodes)) e
 
-  next_is : (k : ℕ) (instance name : List ℕ) (start : Bits) → k < length net.nodes → shape_at net.nodes k ≡ Register instance name start → IsNext net.nodes (k, next_of net.nexts k)
+  next_is : (k : ℕ) (instance name : List ℕ) (start : Bits) → k < length net.nodes → shape_at net.nodes k ≡ Register instance name start → IsNext net.nodes (k, next_node net.nexts k)
   next_is k instance name start l e =
       let pair = is_net.nexts.each k l (ap is_register (leaf k instance name start l e)) in
       let found = named net.nexts pair.0 k pair.1.0 pair.1.1 in
-      is_net.nexts.registers found.place (k, next_of net.nexts k) found.at
+      is_net.nexts.registers found.place (k, next_node net.nexts k) found.at
 
 -- the nodes from k on
 record From (ns : List Shape) (k : ℕ) (ms : List Shape) : Type 0 where
@@ -103,12 +103,12 @@ from_head : (ns : List Shape) (k : ℕ) (n : Shape) (ms : List Shape) → From n
 from_head ns k n ms f = ap (shape_at ns) (let e : k ≡ k + 0 = omega arith in e) ∙ f.at 0 (omega arith)
 
 module _ (net : NetParts) (is_net : IsNet net) where
-  below_from : (k : ℕ) (ms : List Shape) → From net.nodes k ms → All (λ source. source < length net.nodes) (map (next_of net.nexts) (numbers_from k ms))
+  below_from : (k : ℕ) (ms : List Shape) → From net.nodes k ms → All (λ source. source < length net.nodes) (map (next_node net.nexts) (numbers_from k ms))
   below_from k [] f = All-nil (λ source. source < length net.nodes)
   below_from k (Fixed b ∷ ms) f = below_from (k + 1) ms (from_more net.nodes k _ ms f)
   below_from k (TopInput name width ∷ ms) f = below_from (k + 1) ms (from_more net.nodes k _ ms f)
   below_from k (Register instance name start ∷ ms) f =
-      All-cons (λ source. source < length net.nodes) (next_of net.nexts k) (map (next_of net.nexts) (numbers_from (k + 1) ms))
+      All-cons (λ source. source < length net.nodes) (next_node net.nexts k) (map (next_node net.nexts) (numbers_from (k + 1) ms))
       (next_is net is_net k instance name start (from_inside net.nodes k _ ms f) (from_head net.nodes k _ ms f)).next
       (below_from (k + 1) ms (from_more net.nodes k _ ms f))
   below_from k (OfOne op a ∷ ms) f = below_from (k + 1) ms (from_more net.nodes k _ ms f)
@@ -116,7 +116,7 @@ module _ (net : NetParts) (is_net : IsNet net) where
   below_from k (OfMux c a b ∷ ms) f = below_from (k + 1) ms (from_more net.nodes k _ ms f)
 
   widths_from : (V : ℕ → Bits) → ((j : ℕ) → j < length net.nodes → (V j).width ≡ width_at net.nodes j) → (k : ℕ) (ms : List Shape) → From net.nodes k ms
-      → HaveWidths (registers_of ms) (map V (map (next_of net.nexts) (numbers_from k ms)))
+      → HaveWidths (registers_of ms) (map V (map (next_node net.nexts) (numbers_from k ms)))
   widths_from V known k [] f = refl
   widths_from V known k (Fixed b ∷ ms) f = widths_from V known (k + 1) ms (from_more net.nodes k _ ms f)
   widths_from V known k (TopInput name width ∷ ms) f = widths_from V known (k + 1) ms (from_more net.nodes k _ ms f)
@@ -124,7 +124,7 @@ module _ (net : NetParts) (is_net : IsNet net) where
       let inside = from_inside net.nodes k _ ms f in
       let here = from_head net.nodes k _ ms f in
       let next = next_is net is_net k instance name start inside here in
-      ap₂ (λ x xs. x ∷ xs) (known (next_of net.nexts k) next.next ∙ next.width ∙ ap tree_width (leaf net is_net k instance name start inside here)) (widths_from V known (k + 1) ms (from_more net.nodes k _ ms f))
+      ap₂ (λ x xs. x ∷ xs) (known (next_node net.nexts k) next.next ∙ next.width ∙ ap tree_width (leaf net is_net k instance name start inside here)) (widths_from V known (k + 1) ms (from_more net.nodes k _ ms f))
   widths_from V known k (OfOne op a ∷ ms) f = widths_from V known (k + 1) ms (from_more net.nodes k _ ms f)
   widths_from V known k (OfTwo op a b ∷ ms) f = widths_from V known (k + 1) ms (from_more net.nodes k _ ms f)
   widths_from V known k (OfMux c a b ∷ ms) f = widths_from V known (k + 1) ms (from_more net.nodes k _ ms f)

@@ -3,7 +3,7 @@ use Rattle.std.specs.Prelude.{ℕ, ◌+◌, ◌==◌, List, [], ◌∷◌, ◌++
 use Rattle.bv_core.specs.Value.{Bits}
 use Rattle.tree_core.specs.Tree as tree
 use Rattle.net_core.specs.Nodes.{Shape, Fixed, TopInput, Register, OfOne, OfTwo, OfMux}
-use Rattle.net_core.specs.Nets.{NetParts}
+use Rattle.net_core.specs.Nets.{NetParts, next_node}
 
 -- what each node has, one behind the other
 abbrev pub gathered : {X : Type 0} → (Shape → List X) → List Shape → List X
@@ -61,11 +61,6 @@ abbrev pub numbers_from : ℕ → List Shape → List ℕ
 numbers_from k [] = []
 numbers_from k (n ∷ ns) = number_in k n ++ numbers_from (k + 1) ns
 
--- the node that stands beside a register's node
-abbrev pub next_of : List (ℕ × ℕ) → ℕ → ℕ
-next_of [] i = 0
-next_of (pair ∷ pairs) i = if pair.0 == i then pair.1 else next_of pairs i
-
 -- the nodes of the registers' next values
 abbrev pub sources_of : NetParts → List ℕ
-sources_of net = map (next_of net.nexts) (numbers_from 0 net.nodes)
+sources_of net = map (next_node net.nexts) (numbers_from 0 net.nodes)

@@ -1,9 +1,11 @@
-ghost use Rattle.std.specs.Prelude.{◌≡◌, ℕ, ◌<◌, [], ◌∷◌, IfOk, length, slice_index, option_to_list, if◌then◌else◌};
+//! What a net has at its edges: inputs, the values that registers start with, and where their next values stand.
+
+ghost use Rattle.std.specs.Prelude.{◌≡◌, ℕ, ◌<◌, [], ◌∷◌, IfOk, length, option_to_list, if◌then◌else◌};
 ghost use Rattle.net_core.specs.Nodes.{shape_of};
-ghost use Rattle.sim_core.specs.Leaves.{input_in, start_in, number_in, inputs_of, starts_of, next_of, sources_of};
+ghost use Rattle.sim_core.specs.Leaves.{input_in, start_in, number_in, inputs_of, starts_of, sources_of};
 
 use bv_core::{Bv, NodeId};
-use net_core::{Net, Node};
+use net_core::{Net, Node, nexts_by_number};
 use std::alloc::{AllocError, Global};
 
 /// Whether a node is an input.
@@ -56,29 +58,15 @@ pub(crate) fn starts(alloc: Global, net: &Net) -> Result<Vec<Bv>, AllocError>
     Ok(found)
 }
 
-/// For each node that is a register's, the place of the node of its next value, and 0 for the others.
-fn nexts_by_place(alloc: Global, net: &Net) -> Result<Vec<usize>, AllocError>
-    ensures long { IfOk result (λ found. length found.items ≡ length net.now.nodes) }
-    ensures nexts { IfOk result (λ found. (i : ℕ) → i < length net.now.nodes → slice_index found.items i ≡ next_of net.now.nexts i) }
-{
-    let mut found = vec![in alloc; 0; net.count() as usize]?;
-    let nexts = net.nexts();
-    for place in (0..nexts.len()).rev() {
-        let (register, next) = nexts[place];
-        found[register.0 as usize] = next.0 as usize;
-    }
-    Ok(found)
-}
-
 /// The places of the nodes of the registers' next values, in the order of the registers' nodes' numbers.
 pub(crate) fn sources(alloc: Global, net: &Net) -> Result<Vec<usize>, AllocError>
     ensures { IfOk result (λ found. found.items ≡ sources_of net.now) }
 {
-    let nexts = nexts_by_place(alloc, net)?;
+    let nexts = nexts_by_number(alloc, net)?;
     let mut found = Vec::new(alloc);
     for id in 0..net.count() {
         if is_register(net.node(NodeId(id))) {
-            found.push(nexts[id as usize])?;
+            found.push(nexts[id as usize] as usize)?;
         }
     }
     Ok(found)

@@ -5,7 +5,7 @@ use Rattle.bv_core.specs.Value.{Bits}
 use Rattle.bv_core.specs.declared.reference.NodeId.{NodeId}
 use Rattle.tree_core.specs.Tree.{Whole, Leaf, Input, Register}
 use Rattle.tree_core.specs.Width.{tree_width}
-use Rattle.exec_core.specs.Lists.{IsIn, AreApart}
+use Rattle.list_core.specs.Lists.{IsIn, AreApart}
 use Rattle.design_core.specs.declared.ports.Ports.{Ports}
 use Rattle.net_core.specs.Nodes.{Shape, TopInput, no_shape, node_tree, tree_at, trees_of, tree_of, width_at}
 use Rattle.net_core.specs.Builder.{with_tree, Adds, Stands, Keeps}

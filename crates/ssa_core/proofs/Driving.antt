@@ -2,20 +2,18 @@
 use Rattle.std.proofs.Common.{◌≡◌, ℕ, ◌+◌, ◌<◌, zero, suc, Bool, true, false, ◌||◌, List, ◌++◌, take, get_or, [], ◌∷◌, length, Option, Some, None, ◌⊎◌, inl, inr, ⊎_elim, refl, sym, ap, ◌∙◌, subst, arith}
 use Rattle.std.specs.Prelude.{slice_get, bytes_eq, option_map}
 use Rattle.std.specs.Borrow.{Bor}
-use Rattle.std.proofs.lemmas.List.{map_push}
+use Rattle.std.proofs.lemmas.List.{map_push, length-set}
 use Rattle.std.proofs.lemmas.Slice.Eq.{bytes_eq-Decides}
 use Rattle.std.proofs.Math.ListN.{set}
-use Rattle.std.proofs.lemmas.List.{length-set}
 use Rattle.std.proofs.lemmas.Option.{same_Some, slice_get_within, slice_get_read, get_or_from_slice_get, none-some}
 use Rattle.exec_core.specs.Block.{Name, own}
 use Rattle.exec_core.specs.Whole.{Place}
 use Rattle.exec_core.specs.Design.{Process, place}
 use Rattle.design_core.specs.Design as design
 use Rattle.design_exec.specs.Processes.{process, signals_in, blocks_in}
-use Rattle.check_core.specs.Known.{has}
-use Rattle.dep_order.specs.Names.{names_at}
-use Rattle.dep_order.specs.Standing.{Numbers}
-use Rattle.dep_order.specs.Numbering.{number_in}
+use Rattle.names.specs.Known.{has}
+use Rattle.place_core.specs.Assigned.{names_at}
+use Rattle.place_core.specs.Numbering.{Numbers, number_in}
 use Rattle.ssa_core.specs.declared.link.Link.{Link}
 use Rattle.ssa_core.specs.declared.process.ProcessKey.{ProcessKey}
 use Rattle.ssa_core.specs.declared.drive.Drive.{Drive}
@@ -23,7 +21,7 @@ use Rattle.ssa_core.specs.declared.drive.Drive.TheVariants as drives
 use Rattle.ssa_core.specs.Links.{link_as}
 use Rattle.ssa_core.specs.Drives.{AreApart, DrivesPlace, HasDrive, IsDriven, AreSound, AreDrives, Grows, Covers, IsDrivenBy, LinksBefore, ProcessesBefore, put_at}
 use Rattle.ssa_core.proofs.Places.{get_set_same, get_set_other, same_or_not}
-use Rattle.ssa_core.proofs.Listing.{more_of}
+use Rattle.list_core.proofs.Growing.{more_of}
 
 module _ (d : design.Design) (links : List Link) (keys : List ProcessKey) (all : List Numbers) where
   pub grows_none : (list : List (Option Drive)) → Grows d links keys all list list

@@ -5,10 +5,10 @@ use Rattle.std.proofs.lemmas.Option.{get_or_from_slice_get}
 use Rattle.exec_core.specs.Design.{Process}
 use Rattle.design_core.specs.Design as design
 use Rattle.design_exec.specs.Processes.{process, signals_in, blocks_in}
-use Rattle.check_exec.proofs.Children.{some_at}
+use Rattle.list_core.proofs.Listing.{some_at}
 use Rattle.ssa_core.specs.declared.process.ProcessKey.{ProcessKey}
 use Rattle.ssa_core.specs.Processes.{process_at}
-use Rattle.ssa_core.proofs.Listing.{each_more}
+use Rattle.list_core.proofs.Growing.{each_more}
 
 pub keys_more : (d : design.Design) (old : List (Option Process)) (keys after : List ProcessKey) (key : ProcessKey) (i v b : ℕ) → key ≡ record { instance = i; variant = v; block = b } → b < length (blocks_in d v) →
     map (process_at d) keys ≡ old ++ map (λ p. Some p) (map (process i (signals_in d v)) (take b (blocks_in d v))) → after ≡ keys ++ key ∷ [] →

@@ -7,7 +7,7 @@ use Rattle.design_core.specs.Design as design
 use Rattle.design_exec.specs.Processes.{body_of}
 use Rattle.block_net.specs.Blocks.{BlockParts, Tells}
 use Rattle.ssa_core.specs.Processes.{HasTerms, HaveTerms, TellBlocks, TellVariants}
-use Rattle.ssa_core.proofs.Listing.{more_of}
+use Rattle.list_core.proofs.Growing.{more_of}
 
 blocks_push : (ts : List BlockParts) (bs : List design.Block) (t : BlockParts) (b : design.Block) → TellBlocks ts bs → Tells t (body_of b.clocked b.body) → TellBlocks (ts ++ t ∷ []) (bs ++ b ∷ [])
 blocks_push [] [] t b h g = (g, tt)

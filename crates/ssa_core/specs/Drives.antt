@@ -4,9 +4,8 @@ use Rattle.exec_core.specs.Block.{Name, own}
 use Rattle.exec_core.specs.Whole.{Place}
 use Rattle.exec_core.specs.Design.{Process, place}
 use Rattle.design_core.specs.Design as design
-use Rattle.check_core.specs.Known.{Known}
-use Rattle.dep_order.specs.Standing.{Numbers}
-use Rattle.dep_order.specs.Numbering.{number_in}
+use Rattle.names.specs.Known.{Known}
+use Rattle.place_core.specs.Numbering.{Numbers, number_in}
 use Rattle.ssa_core.specs.declared.link.Link.{Link}
 use Rattle.ssa_core.specs.declared.process.ProcessKey.{ProcessKey}
 use Rattle.ssa_core.specs.declared.drive.Drive.{Drive}

@@ -1,18 +1,19 @@
+//! What drives each signal, beside its number: a link, or the block that assigns it.
+
 ghost use Rattle.std.specs.Prelude.{◌≡◌, ◌≤◌, ◌<◌, ℕ, true, None, Some, length, slice_get, slice_index_or, IfOk, OnOk};
-ghost use Rattle.exec_core.specs.Block.{Name, own};
+ghost use Rattle.exec_core.specs.Block.{Name};
 ghost use Rattle.exec_core.specs.Design.{Process, place};
 ghost use Rattle.design_core.specs.DesignView.{design_of};
-ghost use Rattle.check_core.specs.Known.{has};
-ghost use Rattle.dep_order.specs.Names.{names_at};
-ghost use Rattle.dep_order.specs.Numbering.{number_in, numbers_of};
+ghost use Rattle.names.specs.Known.{has};
+ghost use Rattle.place_core.specs.Assigned.{names_at};
+ghost use Rattle.place_core.specs.Numbering.{number_in, numbers_of};
 ghost use Rattle.ssa_core.specs.declared.drive.Drive.TheVariants as drives;
-ghost use Rattle.ssa_core.specs.Links.{link_as};
-ghost use Rattle.ssa_core.specs.Processes.{process_at};
-ghost use Rattle.ssa_core.specs.Drives.{AreApart, AreDrives, AreSound, Covers, DrivesPlace, Grows, IsDrivenBy, LinksBefore, ProcessesBefore, put_at};
+ghost use Rattle.ssa_core.specs.Drives.{AreApart, AreDrives, Covers, DrivesPlace, Grows, IsDrivenBy, LinksBefore, ProcessesBefore, put_at};
 
 use crate::{Link, ProcessKey};
-use dep_order::{NumberMap, assigned_in, blocks_of};
-use design_core::{Block, Design};
+use design_core::{Block, Design, blocks_of, in_32_bits};
+use names::NameMap;
+use place_core::assigned_in;
 use std::alloc::Global;
 use text_core::NoMemory;
 
@@ -25,15 +26,8 @@ pub enum Drive {
     Process(u32),
 }
 
-/// A number of 32 bits; at 2^32 it answers that memory ran out.
-fn in_32_bits(number: usize) -> Result<u32, NoMemory>
-    ensures { IfOk result (λ found. found ≡ number) }
-{
-    u32::try_from(number).map_err(|_| NoMemory)
-}
-
 /// The number of the signal of this name of an instance, if it has one.
-pub fn number_of(maps: &[NumberMap], instance: u32, name: &[u8]) -> Option<u32>
+pub fn number_of(maps: &[NameMap<u32>], instance: u32, name: &[u8]) -> Option<u32>
     ensures { result ≡ number_in (numbers_of maps.now) (place instance name.now) }
 {
     match maps.get(instance as usize) {
@@ -56,7 +50,7 @@ fn put(list: &mut [Option<Drive>], number: Option<u32>, drive: Drive)
 
 fn put_links(
     list: &mut [Option<Drive>],
-    maps: &[NumberMap],
+    maps: &[NameMap<u32>],
     links: &[Link<'_>],
     design: &Design,
     keys: &[ProcessKey],
@@ -76,7 +70,7 @@ fn put_links(
 
 fn put_names(
     list: &mut [Option<Drive>],
-    maps: &[NumberMap],
+    maps: &[NameMap<u32>],
     links: &[Link<'_>],
     design: &Design,
     keys: &[ProcessKey],
@@ -98,7 +92,7 @@ fn put_names(
 fn put_process(
     alloc: Global,
     list: &mut [Option<Drive>],
-    maps: &[NumberMap],
+    maps: &[NameMap<u32>],
     links: &[Link<'_>],
     design: &Design,
     keys: &[ProcessKey],
@@ -125,7 +119,7 @@ fn put_process(
 fn put_processes(
     alloc: Global,
     list: &mut [Option<Drive>],
-    maps: &[NumberMap],
+    maps: &[NameMap<u32>],
     links: &[Link<'_>],
     design: &Design,
     keys: &[ProcessKey],
@@ -145,7 +139,7 @@ fn put_processes(
 fn put_all(
     alloc: Global,
     list: &mut [Option<Drive>],
-    maps: &[NumberMap],
+    maps: &[NameMap<u32>],
     links: &[Link<'_>],
     design: &Design,
     keys: &[ProcessKey],
@@ -163,7 +157,7 @@ fn put_all(
 pub fn drives_of(
     alloc: Global,
     design: &Design,
-    maps: &[NumberMap],
+    maps: &[NameMap<u32>],
     count: usize,
     links: &[Link<'_>],
     keys: &[ProcessKey],

@@ -1,3 +1,5 @@
+//! The links of all instances: connections of children, and their outputs as signals of the parent.
+
 ghost use Rattle.std.specs.Prelude.{◌≡◌, ◌∷◌, [], ◌++◌, map, slice_get, IfOk, OnOk};
 ghost use Rattle.std.specs.List.{enumerate_from, flat_map};
 ghost use Rattle.tree_core.specs.Tree.{Leaf};
@@ -5,12 +7,14 @@ ghost use Rattle.exec_core.specs.Design.{place};
 ghost use Rattle.design_core.specs.declared.variant.Signal.{Signal};
 ghost use Rattle.design_core.specs.View.{child_of, conn_of};
 ghost use Rattle.design_core.specs.DesignView.{design_of};
-ghost use Rattle.design_exec.specs.Processes.{conn_link, instances_of, links_at, none_or, processes_of};
-ghost use Rattle.dep_order.specs.Linking.{links_of_child, link_of_output};
+ghost use Rattle.design_exec.specs.Processes.{conn_link, links_at, none_or, processes_of};
+ghost use Rattle.place_core.specs.Linking.{links_of_child, link_of_output};
 ghost use Rattle.ssa_core.specs.Links.{link_as};
 
-use dep_order::{children_of, numbers_below, signals_of};
-use design_core::{Child, Conn, Design, Expr, Instance, Kind, Signal};
+use design_core::{
+    Child, Conn, Design, Expr, Instance, Kind, Signal, children_of, in_32_bits, signals_of,
+};
+use place_core::numbers_below;
 use std::alloc::Global;
 use text_core::NoMemory;
 
@@ -34,13 +38,6 @@ pub struct Link<'a> {
     pub source: u32,
     /// What stands there.
     pub value: LinkValue<'a>,
-}
-
-/// A number of 32 bits; at 2^32 it answers that memory ran out.
-fn in_32_bits(number: usize) -> Result<u32, NoMemory>
-    ensures { IfOk result (λ found. found ≡ number) }
-{
-    u32::try_from(number).map_err(|_| NoMemory)
 }
 
 /// Puts the links of a child's connections last.

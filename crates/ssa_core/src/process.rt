@@ -1,10 +1,11 @@
+//! The processes of a design: each block once for each instance of its variant.
+
 ghost use Rattle.std.specs.Prelude.{◌≡◌, ◌++◌, Some, map, IfOk, OnOk};
 ghost use Rattle.design_core.specs.DesignView.{design_of};
 ghost use Rattle.design_exec.specs.Processes.{processes_at, processes_of};
 ghost use Rattle.ssa_core.specs.Processes.{process_at};
 
-use dep_order::blocks_of;
-use design_core::{Design, Instance};
+use design_core::{Design, Instance, blocks_of, in_32_bits};
 use std::alloc::Global;
 use text_core::NoMemory;
 
@@ -14,13 +15,6 @@ pub struct ProcessKey {
     pub instance: u32,
     pub variant: u32,
     pub block: u32,
-}
-
-/// A number of 32 bits; at 2^32 it answers that memory ran out.
-fn in_32_bits(number: usize) -> Result<u32, NoMemory>
-    ensures { IfOk result (λ found. found ≡ number) }
-{
-    u32::try_from(number).map_err(|_| NoMemory)
 }
 
 /// Puts the processes of an instance last.

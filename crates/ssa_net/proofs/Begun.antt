@@ -11,14 +11,14 @@ use Rattle.design_core.specs.Design as design
 use Rattle.design_exec.specs.Processes.{processes_of, is_signal_of}
 use Rattle.net_core.specs.Nodes.{Shape}
 use Rattle.block_net.specs.Blocks.{BlockParts}
-use Rattle.dep_order.specs.Ordering.{AreCounted}
-use Rattle.dep_order.specs.Numbering.{AllCounted, number_in}
-use Rattle.dep_order.proofs.Numbers.{numbered, at_within}
+use Rattle.place_core.specs.Numbering.{AreCounted, AllCounted, number_in}
+use Rattle.place_core.proofs.Numbers.{numbered, at_within}
 use Rattle.ssa_core.specs.declared.process.ProcessKey.{ProcessKey}
 use Rattle.ssa_core.specs.Processes.{process_at, terms_at, lists_of}
 use Rattle.ssa_core.specs.Drives.{AreApart}
-use Rattle.ssa_core.proofs.Listing.{more_of, same_get}
-use Rattle.ssa_state.specs.State.{names_in, MemoFits, AllOverGivens}
+use Rattle.list_core.proofs.Growing.{more_of}
+use Rattle.list_core.proofs.Listing.{same_get}
+use Rattle.ssa_nodes.specs.State.{names_in, MemoFits, AllOverGivens}
 use Rattle.ssa_nodes.specs.declared.parts.Parts as code
 use Rattle.ssa_nodes.specs.Parts.{HasParts, HasSignals, HasState, IsProcess, all_in, design_in, blocks_in}
 use Rattle.ssa_nodes.proofs.Looking.{fits_blank}

@@ -5,15 +5,15 @@ use Rattle.std.proofs.lemmas.Option.{none-some}
 use Rattle.bv_core.specs.declared.reference.NodeId.{NodeId}
 use Rattle.tree_core.specs.Tree.{Leaf, Origin, Input, Register}
 use Rattle.exec_core.specs.Block.{Name}
-use Rattle.exec_core.specs.Lists.{EachOf, IsIn}
+use Rattle.list_core.specs.Lists.{EachOf, IsIn}
 use Rattle.exec_core.specs.Design.{next_tree}
 use Rattle.exec_core.specs.Whole.{Place}
-use Rattle.exec_core.proofs.Lists.{each_member}
+use Rattle.list_core.proofs.Lists.{each_member}
 use Rattle.design_core.specs.Design as design
 use Rattle.design_core.specs.Ports.{ports_in, top_signals}
 use Rattle.design_exec.specs.Processes.{processes_of}
 use Rattle.check_exec.proofs.Facts.{in_at, each_index}
-use Rattle.dep_order.specs.Numbering.{number_in}
+use Rattle.place_core.specs.Numbering.{number_in}
 use Rattle.net_core.specs.Nodes.{Shape}
 use Rattle.net_core.specs.Builder.{AreShared, Stands}
 use Rattle.net_core.specs.Nets.{NetParts, IsNet}
@@ -24,9 +24,9 @@ use Rattle.world_core.specs.Sites.{all_spots}
 use Rattle.lower_core.specs.Rows.{AreTold}
 use Rattle.lower_core.specs.Lowered.{HasNode, OutputsTold, NextTold as NextIs, IsLowered}
 use Rattle.next_net.specs.Nexts.{NextTold, AllNext}
-use Rattle.dep_order.specs.Results.{Pair}
+use Rattle.place_core.specs.Orders.{Pair}
 use Rattle.term_net.specs.Leaves.{node_in}
-use Rattle.ssa_state.specs.State.{node_of, AllOverGivens}
+use Rattle.ssa_nodes.specs.State.{node_of, AllOverGivens}
 use Rattle.ssa_nodes.specs.declared.parts.Parts as code
 use Rattle.ssa_nodes.specs.Parts.{HasParts, HasSignals, HasState, all_in, design_in, folded_of}
 use Rattle.ssa_nodes.specs.Driving.{AllHave}

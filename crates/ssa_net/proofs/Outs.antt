@@ -1,5 +1,5 @@
 -- Outputs of the top.
-use Rattle.std.proofs.Common.{◌≡◌, ℕ, zero, suc, ◌+◌, ◌<◌, true, ℤ, pos, negsuc, List, [], ◌∷◌, ◌++◌, length, take, get_or, Option, Some, None, inl, inr, refl, sym, ap, ◌∙◌, subst, arith, append_assoc, if◌then◌else◌}
+use Rattle.std.proofs.Common.{◌≡◌, ℕ, zero, suc, ◌+◌, ◌<◌, true, ℤ, List, [], ◌∷◌, ◌++◌, length, take, get_or, Option, Some, None, inl, inr, refl, sym, ap, ◌∙◌, subst, arith, append_assoc, if◌then◌else◌}
 use Rattle.std.specs.Prelude.{slice_get, option_map, unwrap_or}
 use Rattle.std.proofs.lemmas.List.{map-append, append-nil}
 use Rattle.std.proofs.lemmas.Option.{same_Some, none-some}
@@ -7,23 +7,23 @@ use Rattle.bv_core.specs.declared.reference.NodeId.{NodeId}
 use Rattle.tree_core.specs.Tree.{Leaf}
 use Rattle.tree_core.specs.Width.{tree_width}
 use Rattle.exec_core.specs.Block.{Name}
-use Rattle.exec_core.specs.Lists.{IsIn}
+use Rattle.list_core.specs.Lists.{IsIn}
 use Rattle.exec_core.specs.Design.{place}
 use Rattle.design_core.specs.declared.variant.Signal.{Signal}
 use Rattle.design_core.specs.declared.variant.Kind.{Kind}
 use Rattle.design_core.specs.declared.variant.Kind.TheVariants as kind
 use Rattle.design_core.specs.declared.design.Instance.{Instance}
 use Rattle.design_core.specs.Design as design
-use Rattle.design_core.specs.Ports.{bits, is_port, one_port, ports_in, top_signals}
+use Rattle.design_core.specs.Ports.{is_port, one_port, ports_in, top_signals}
+use Rattle.design_core.specs.Widths.{bits}
 use Rattle.design_exec.specs.Processes as processes
-use Rattle.design_exec.specs.Processes.{is_signal_of, processes_of}
 use Rattle.check_exec.proofs.Instances.{Stands as StandsAt, clean}
 use Rattle.check_exec.proofs.Givens.{IsSignal, signal_of}
 use Rattle.check_exec.specs.Premises.{IsSound}
 use Rattle.lower_core.specs.Lowered.{OutputTold, OutputsTold}
 use Rattle.net_core.specs.Nodes.{Shape}
 use Rattle.net_core.specs.Nets.{outputs_of, OutputsFit}
-use Rattle.ssa_core.proofs.Listing.{more_of}
+use Rattle.list_core.proofs.Growing.{more_of}
 use Rattle.ssa_nodes.specs.declared.parts.Parts as code
 use Rattle.ssa_nodes.specs.Parts.{HasParts, StandsBy, design_in}
 use Rattle.ssa_nodes.proofs.Sources.{by_node}
@@ -47,10 +47,6 @@ top_stands d sound s m = by_variant (slice_get d.variants 0) refl m
 pub top_signal : (d : design.Design) → IsSound d → (s : Signal) → IsIn s (top_signals d) → IsSignal d 0 s
 top_signal d sound s m = let t = top_stands d sound s m in signal_of d 0 t.instance t.variant t.stands (clean d sound.accepted 0 t.instance t.variant t.stands) s t.among
 
-same_bits : (w : ℤ) → processes.bits w ≡ bits w
-same_bits (pos n) = refl
-same_bits (negsuc n) = refl
-
 -- ---- an output
 
 pub output_told : (p : code.Parts) (h : HasParts p) (ns : List Shape) (s : Signal) (id : NodeId) → IsIn s (top_signals (design_in p)) → StandsBy p ns (Leaf (place 0 s.name)) id → OutputTold (design_in p) (length p.order.now) ns (s.name, bits s.width) (s.name, id.0)
@@ -59,7 +55,7 @@ output_told p h ns s id m stands =
     record {
       name = refl;
       stands = stands;
-      width = ap tree_width stands.tree ∙ ((by_node p h).fits (Leaf (place 0 s.name)) is.signal).1 ∙ is.width ∙ same_bits s.width;
+      width = ap tree_width stands.tree ∙ ((by_node p h).fits (Leaf (place 0 s.name)) is.signal).1 ∙ is.width;
     }
 
 pub one_more : (p : code.Parts) (h : HasParts p) (ns : List Shape) (old new : List (Name × ℕ)) (s : Signal) (x : Name) (id : NodeId) → s.kind ≡ kind.Output → x ≡ s.name → IsIn s (top_signals (design_in p)) → StandsBy p ns (Leaf (place 0 x)) id → new ≡ old ++ (x, id.0) ∷ [] → OneMore p ns old new s

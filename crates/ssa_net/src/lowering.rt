@@ -1,16 +1,18 @@
-ghost use Rattle.std.specs.Prelude.{◌≡◌, None, true, IfOk, length};
+//! Lowering, whole: nodes of all signals, then rows, outputs, next values and shape.
+
+ghost use Rattle.std.specs.Prelude.{◌≡◌, None, IfOk, length};
 ghost use Rattle.design_core.specs.DesignView.{design_of};
 ghost use Rattle.check_core.specs.Verdict.{verdict};
-ghost use Rattle.dep_order.specs.Results.{TellsOrder};
+ghost use Rattle.place_core.specs.Orders.{TellsOrder};
 ghost use Rattle.lower_core.specs.Lowered.{IsLowered};
 
 use crate::ends::ends_of;
 use crate::parts::parts_of;
 use crate::signals::signal_nodes;
-use dep_order::Order;
 use design_core::Design;
 use lower_core::{Lowered, Mode};
 use net_core::NetBuilder;
+use place_core::Order;
 use shape_net::shape_of;
 use std::alloc::Global;
 use text_core::{Listed, NoMemory};

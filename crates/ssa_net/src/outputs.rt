@@ -1,5 +1,7 @@
+//! The outputs of the top with their nodes.
+
 ghost use Rattle.std.specs.Prelude.{◌≡◌, true, IfOk, OnOk, length};
-ghost use Rattle.exec_core.specs.Lists.{IsIn};
+ghost use Rattle.list_core.specs.Lists.{IsIn};
 ghost use Rattle.exec_core.specs.Design.{place};
 ghost use Rattle.tree_core.specs.Tree.{Leaf};
 ghost use Rattle.design_core.specs.Ports.{ports_in, top_signals};
@@ -11,11 +13,9 @@ ghost use Rattle.ssa_nodes.specs.Driving.{AllHave};
 ghost use Rattle.ssa_net.specs.Outputs.{OneMore};
 
 use bv_core::NodeId;
-use dep_order::signals_of;
-use design_core::{Kind, Signal};
+use design_core::{Kind, Signal, signals_of};
 use net_core::NetBuilder;
-use ssa_nodes::{Parts, names_of};
-use ssa_state::leaf_node;
+use ssa_nodes::{Parts, leaf_node, names_of};
 use std::alloc::Global;
 use text_core::{NoMemory, Text};
 

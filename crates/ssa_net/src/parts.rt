@@ -1,11 +1,14 @@
+//! What lowering looks things up in, made once.
+
 ghost use Rattle.std.specs.Prelude.{◌≡◌, None, IfOk};
 ghost use Rattle.design_core.specs.DesignView.{design_of};
 ghost use Rattle.check_core.specs.Verdict.{verdict};
-ghost use Rattle.dep_order.specs.Results.{TellsOrder};
+ghost use Rattle.place_core.specs.Orders.{TellsOrder};
 ghost use Rattle.ssa_nodes.specs.Parts.{HasParts, design_in};
 
-use dep_order::{NumberMap, Order, number_signals};
 use design_core::Design;
+use names::NameMap;
+use place_core::{Order, number_signals};
 use ssa_core::{block_terms_of, drives_of, links_of, process_keys};
 use ssa_nodes::Parts;
 use std::alloc::Global;
@@ -29,7 +32,7 @@ pub(crate) fn parts_of<'a>(
     let keys = process_keys(alloc, design)?;
     let blocks = block_terms_of(alloc, design)?;
     let drives = drives_of(alloc, design, &maps, count, &links, &keys)?;
-    let nobody = NumberMap::new(alloc);
+    let nobody = NameMap::new(alloc);
     Ok(Parts {
         design,
         order,

@@ -1,16 +1,17 @@
+//! The nodes of all signals: those that are given first, then the driven ones along the order.
+
 ghost use Rattle.std.specs.Prelude.{◌≡◌, [], length, IfOk, OnOk};
 ghost use Rattle.design_exec.specs.Processes.{processes_of};
 ghost use Rattle.net_core.specs.Builder.{AreShared};
 ghost use Rattle.ssa_core.specs.Processes.{lists_of};
-ghost use Rattle.ssa_state.specs.State.{AllOverGivens};
+ghost use Rattle.ssa_nodes.specs.State.{AllOverGivens};
 ghost use Rattle.ssa_nodes.specs.Parts.{HasParts, HasSignals, HasState, design_in};
 ghost use Rattle.ssa_nodes.specs.Driving.{AllHave, GivenHave};
 
 use crate::memo::no_memos;
 use bv_core::NodeId;
-use given_net::place_givens;
 use net_core::NetBuilder;
-use ssa_nodes::{Parts, no_nodes, resolve_all};
+use ssa_nodes::{Parts, no_nodes, place_givens, resolve_all};
 use std::alloc::Global;
 use text_core::NoMemory;
 

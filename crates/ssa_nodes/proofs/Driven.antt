@@ -8,20 +8,20 @@ use Rattle.bv_core.specs.declared.reference.NodeId.{NodeId}
 use Rattle.tree_core.specs.Tree.{Tree, Leaf}
 use Rattle.exec_core.specs.Block.{Name, Now}
 use Rattle.exec_core.specs.Leaves.{EachLeaf}
-use Rattle.exec_core.specs.Lists.{EachOf, IsIn}
+use Rattle.list_core.specs.Lists.{EachOf, IsIn}
 use Rattle.exec_core.specs.Trees.{block_trees}
 use Rattle.exec_core.specs.Whole.{Place, Drivers, IsGiven, or_itself, StandsInOrder}
 use Rattle.exec_core.specs.Design as exec
-use Rattle.exec_core.specs.Design.{Process, place, moved, driver_of, process_tree, folded_tree}
+use Rattle.exec_core.specs.Design.{Process, place, moved, driver_of, process_tree}
 use Rattle.exec_core.proofs.Wholes.{each_leaf}
 use Rattle.exec_core.proofs.Sources.{link_source, target_source, driver_cases, driver_formed, Driver, by_link, by_process}
 use Rattle.design_exec.specs.Processes.{processes_of, is_signal_of}
 use Rattle.net_core.specs.Nodes.{Shape}
 use Rattle.net_core.specs.Builder.{Stands}
 use Rattle.check_exec.proofs.Facts.{in_at, in_index, each_at, each_joined}
-use Rattle.dep_order.proofs.Answered.{is_signal}
-use Rattle.dep_order.specs.Numbering.{number_in}
-use Rattle.dep_order.specs.Results.{Pair, signal_at}
+use Rattle.place_core.proofs.Signals.{is_signal}
+use Rattle.place_core.specs.Numbering.{number_in}
+use Rattle.place_core.specs.Orders.{Pair, signal_at}
 use Rattle.term_net.specs.Growth.{AreNodes, Stay}
 use Rattle.term_net.specs.Leaves.{node_at, node_in}
 use Rattle.term_net.proofs.Placing.{fits_placed, nodes_set}
@@ -31,9 +31,9 @@ use Rattle.ssa_core.specs.declared.process.ProcessKey.{ProcessKey}
 use Rattle.ssa_core.specs.Links.{link_as}
 use Rattle.ssa_core.specs.Processes.{process_at}
 use Rattle.ssa_core.specs.Drives.{LinkDrives, ProcessDrives, HasDrive}
-use Rattle.ssa_core.proofs.Listing.{more_of}
+use Rattle.list_core.proofs.Growing.{more_of}
 use Rattle.ssa_core.proofs.Places.{get_map, get_mapped, same_or_not}
-use Rattle.ssa_state.specs.State.{names_in, node_of, HasNode, MemoFits}
+use Rattle.ssa_nodes.specs.State.{names_in, node_of, HasNode, MemoFits}
 use Rattle.ssa_nodes.specs.declared.parts.Parts as code
 use Rattle.ssa_nodes.specs.Parts.{HasParts, HasState, IsReadyBy, IsEnd, EndStands, StandsBy, all_in, design_in, folded_of}
 use Rattle.ssa_nodes.specs.Driving.{HasDriver, DriverStands, Resolved, IsPair, PairResolved, GivenHave, AllHave}

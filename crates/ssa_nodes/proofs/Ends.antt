@@ -13,13 +13,13 @@ use Rattle.design_core.specs.Design as design
 use Rattle.net_core.specs.Nodes.{Shape}
 use Rattle.block_net.specs.Blocks.{BlockParts, Tells}
 use Rattle.block_net.specs.Walks.{held}
-use Rattle.check_core.specs.Maps.{value_of}
+use Rattle.names.specs.Maps.{value_of}
 use Rattle.term_net.specs.Growth.{Grown}
 use Rattle.term_net.specs.Leaves.{IsReady, leaf_id, leaf_tree}
 use Rattle.ssa_core.specs.declared.process.ProcessKey.{ProcessKey}
 use Rattle.ssa_core.specs.Processes.{process_at, terms_at}
-use Rattle.ssa_state.specs.State.{names_in}
-use Rattle.ssa_state.specs.Held.{CanHaveNode, NodeTold}
+use Rattle.ssa_nodes.specs.State.{names_in}
+use Rattle.ssa_nodes.specs.Held.{CanHaveNode, NodeTold}
 use Rattle.ssa_nodes.specs.declared.parts.Parts as code
 use Rattle.ssa_nodes.specs.Parts.{HasParts, HasSignals, HasState, HasNodeBy, CanHave, IsReadyBy, IsEnd, EndStands, StandsBy, all_in, blocks_in, design_in}
 use Rattle.ssa_nodes.proofs.Sources.{ready_here, stands_here}

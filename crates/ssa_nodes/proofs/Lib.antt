@@ -4,3 +4,6 @@ pub mod Memos
 pub mod Looking
 pub mod Ends
 pub mod Driven
+pub mod Placed
+pub mod LeafNodes
+pub mod GivenPlaces

@@ -16,12 +16,11 @@ use Rattle.block_net.specs.Blocks.{BlockParts}
 use Rattle.block_net.specs.declared.term.Term.{Term}
 use Rattle.term_net.specs.Growth.{AreNodes}
 use Rattle.term_net.specs.Memos.{Fits}
-use Rattle.check_core.specs.Maps.{value_of, no_value}
-use Rattle.dep_order.specs.Standing.{Numbers}
-use Rattle.dep_order.specs.Numbering.{numbers_of}
+use Rattle.names.specs.Maps.{value_of, no_value}
+use Rattle.place_core.specs.Numbering.{Numbers, numbers_of}
 use Rattle.ssa_core.specs.declared.process.ProcessKey.{ProcessKey}
 use Rattle.ssa_core.specs.Processes.{process_at, terms_at, lists_of, HasTerms, HaveTerms}
-use Rattle.ssa_state.specs.State.{names_in}
+use Rattle.ssa_nodes.specs.State.{names_in}
 
 -- ---- names
 

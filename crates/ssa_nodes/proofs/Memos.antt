@@ -6,17 +6,17 @@ use Rattle.std.proofs.lemmas.Option.{same_Some, slice_get_within}
 use Rattle.bv_core.specs.declared.reference.NodeId.{NodeId}
 use Rattle.tree_core.specs.Tree.{Leaf}
 use Rattle.exec_core.specs.Design as exec
-use Rattle.exec_core.specs.Design.{moved, folded_tree}
+use Rattle.exec_core.specs.Design.{folded_tree}
 use Rattle.net_core.specs.Nodes.{Shape}
 use Rattle.block_net.specs.Blocks.{BlockParts}
-use Rattle.dep_order.specs.Standing.{Numbers}
+use Rattle.place_core.specs.Numbering.{Numbers}
 use Rattle.term_net.specs.Growth.{Grown}
 use Rattle.term_net.specs.Memos.{Fits}
 use Rattle.term_net.proofs.Fitting.{fits_more, stands_more, nodes_more}
 use Rattle.ssa_core.specs.declared.process.ProcessKey.{ProcessKey}
 use Rattle.ssa_core.specs.Processes.{terms_at}
 use Rattle.ssa_core.proofs.Places.{get_set_same, get_set_other, same_or_not}
-use Rattle.ssa_state.specs.State.{names_in, MemoFits, IsState}
+use Rattle.ssa_nodes.specs.State.{names_in, MemoFits, IsState}
 use Rattle.ssa_nodes.proofs.Over.{over_more}
 
 module _ (d : exec.Design) (n : ℕ) (keys : List ProcessKey) (blocks : List (List BlockParts)) (all : List Numbers) where

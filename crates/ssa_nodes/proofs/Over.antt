@@ -5,7 +5,7 @@ use Rattle.tree_core.specs.Tree.{Leaf, Origin, Whole}
 use Rattle.tree_core.specs.Fold.{same_origin}
 use Rattle.tree_core.proofs.Same.{same_origin-sound, same_origin-refl}
 use Rattle.exec_core.specs.Leaves.{EachLeaf}
-use Rattle.exec_core.specs.Lists.{IsIn}
+use Rattle.list_core.specs.Lists.{IsIn}
 use Rattle.exec_core.specs.Whole.{Place}
 use Rattle.exec_core.specs.Design as exec
 use Rattle.exec_core.specs.States.{OverGivens}
@@ -14,7 +14,7 @@ use Rattle.net_core.specs.Nodes.{Shape, tree_of}
 use Rattle.net_core.specs.Builder.{Adds}
 use Rattle.term_net.specs.Growth.{Grown}
 use Rattle.term_net.proofs.Overs.{adds_over}
-use Rattle.ssa_state.specs.State.{AllOverGivens}
+use Rattle.ssa_nodes.specs.State.{AllOverGivens}
 
 abbrev is_among : List Origin → Origin → Bool
 is_among os o = list_any (same_origin o) os

@@ -12,13 +12,13 @@ use Rattle.design_core.specs.Design as design
 use Rattle.design_exec.specs.Processes.{processes_of}
 use Rattle.net_core.specs.Nodes.{Shape}
 use Rattle.net_core.specs.Builder.{Stands}
-use Rattle.dep_order.specs.Results.{Pair, TellsOrder, signal_at}
-use Rattle.dep_order.proofs.Ready.{orders_are_accepted}
+use Rattle.place_core.specs.Orders.{Pair, TellsOrder, signal_at}
+use Rattle.check_exec.proofs.Orders.{orders_are_accepted}
 use Rattle.term_net.specs.Growth.{Grown}
 use Rattle.term_net.specs.Leaves.{IsReady, leaf_id, leaf_tree, whole_of}
 use Rattle.term_net.proofs.Fitting.{stands_more, nodes_more}
-use Rattle.ssa_state.specs.State.{names_in}
-use Rattle.ssa_state.proofs.Placed.{folds_to, ready_from}
+use Rattle.ssa_nodes.specs.State.{names_in}
+use Rattle.ssa_nodes.proofs.Placed.{folds_to, ready_from}
 use Rattle.ssa_nodes.specs.declared.parts.Parts as code
 use Rattle.ssa_nodes.specs.Parts.{HasParts, HasSignals, IsReadyBy, StandsBy, all_in, design_in, folded_of}
 

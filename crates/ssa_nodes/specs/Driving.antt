@@ -5,9 +5,9 @@ use Rattle.tree_core.specs.Tree.{Tree}
 use Rattle.exec_core.specs.Whole.{Place, IsGiven}
 use Rattle.exec_core.specs.Design.{driver_of}
 use Rattle.design_exec.specs.Processes.{processes_of, is_signal_of}
-use Rattle.dep_order.specs.Results.{Pair, signal_at}
+use Rattle.place_core.specs.Orders.{Pair, signal_at}
 use Rattle.net_core.specs.Nodes.{Shape}
-use Rattle.ssa_state.specs.State.{HasNode}
+use Rattle.ssa_nodes.specs.State.{HasNode}
 use Rattle.ssa_nodes.specs.declared.parts.Parts as code
 use Rattle.ssa_nodes.specs.Parts.{IsReadyBy, StandsBy, all_in, design_in}
 

@@ -12,11 +12,10 @@ use Rattle.design_exec.specs.Processes.{processes_of, is_signal_of}
 use Rattle.net_core.specs.Nodes.{Shape}
 use Rattle.net_core.specs.Builder.{AreShared, Stands}
 use Rattle.block_net.specs.Blocks.{BlockParts}
-use Rattle.check_core.specs.Maps.{value_of, no_value}
+use Rattle.names.specs.Maps.{value_of, no_value}
 use Rattle.check_exec.specs.Premises.{IsSound}
-use Rattle.dep_order.specs.Standing.{Numbers}
-use Rattle.dep_order.specs.Numbering.{number_in, numbers_of}
-use Rattle.dep_order.specs.Results.{Pair, TellsOrder}
+use Rattle.place_core.specs.Numbering.{Numbers, number_in, numbers_of}
+use Rattle.place_core.specs.Orders.{Pair, TellsOrder}
 use Rattle.term_net.specs.Growth.{AreNodes}
 use Rattle.ssa_core.specs.declared.link.Link.{Link}
 use Rattle.ssa_core.specs.declared.process.ProcessKey.{ProcessKey}
@@ -24,7 +23,7 @@ use Rattle.ssa_core.specs.declared.drive.Drive.{Drive}
 use Rattle.ssa_core.specs.Links.{link_as}
 use Rattle.ssa_core.specs.Processes.{process_at, HaveTerms, lists_of}
 use Rattle.ssa_core.specs.Drives.{AreApart, AreDrives}
-use Rattle.ssa_state.specs.State.{SignalsTold, IsState, IsReadyIn}
+use Rattle.ssa_nodes.specs.State.{SignalsTold, IsState, IsReadyIn}
 use Rattle.ssa_nodes.specs.declared.parts.Parts as code
 
 -- an accepted design with an order of its driven signals; its links and processes, the terms of its blocks, the numbers of its

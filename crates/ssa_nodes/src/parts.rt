@@ -1,11 +1,14 @@
+//! What lowering looks things up in, with what it keeps: the parts are those of one design.
+
 ghost use Rattle.std.specs.Prelude.{◌≡◌};
-ghost use Rattle.check_core.specs.Maps.{value_of};
-ghost use Rattle.ssa_state.specs.State.{names_in};
+ghost use Rattle.names.specs.Maps.{value_of};
+ghost use Rattle.ssa_nodes.specs.State.{names_in};
 ghost use Rattle.ssa_nodes.specs.Parts.{HasParts, all_in};
 
 use block_net::BlockTerms;
-use dep_order::{NumberMap, Order};
 use design_core::Design;
+use names::NameMap;
+use place_core::Order;
 use ssa_core::{Drive, Link, ProcessKey};
 
 /// What lowering looks things up in: the design with an order of its driven signals, the numbers of its signals, its links and
@@ -15,7 +18,7 @@ pub struct Parts<'a> {
     pub design: &'a Design,
     pub order: &'a Order,
     /// A map for each instance.
-    pub maps: Vec<NumberMap>,
+    pub maps: Vec<NameMap<u32>>,
     /// How many signals have numbers.
     pub count: usize,
     pub links: Vec<Link<'a>>,
@@ -25,11 +28,11 @@ pub struct Parts<'a> {
     /// What drives the signal of each number.
     pub drives: Vec<Option<Drive>>,
     /// No names.
-    pub nobody: NumberMap,
+    pub nobody: NameMap<u32>,
 }
 
 /// The numbers of the names of an instance.
-pub fn names_of<'p>(parts: &'p Parts<'_>, instance: u32) -> &'p NumberMap
+pub fn names_of<'p>(parts: &'p Parts<'_>, instance: u32) -> &'p NameMap<u32>
     requires { HasParts parts.now }
     ensures { value_of result.now ≡ names_in (all_in parts.now) instance }
 {

@@ -1,24 +1,24 @@
+//! What a name, or a register's next value, has in the block of a process, as a node. Terms are evaluated where they are asked for,
+//! and once.
+
 ghost use Rattle.std.specs.Prelude.{◌≡◌, ℕ, Some, slice_get, IfOk, OnOk};
-ghost use Rattle.tree_core.specs.Tree.{Tree};
-ghost use Rattle.exec_core.specs.Block.{Name, Now, Next};
-ghost use Rattle.exec_core.specs.Design.{Process, moved};
-ghost use Rattle.exec_core.specs.Trees.{block_trees};
+ghost use Rattle.exec_core.specs.Block.{Now, Next};
 ghost use Rattle.block_net.specs.Walks.{IsHeld, held as the_held};
-ghost use Rattle.check_core.specs.Maps.{value_of};
+ghost use Rattle.names.specs.Maps.{value_of};
 ghost use Rattle.term_net.specs.Growth.{Grown};
 ghost use Rattle.term_net.specs.Leaves.{leaf_id, leaf_tree};
 ghost use Rattle.term_net.specs.Memos.{Fits};
-ghost use Rattle.ssa_state.specs.Held.{CanHaveNode, NodeTold};
-ghost use Rattle.ssa_core.specs.Processes.{lists_of, process_at, terms_at};
+ghost use Rattle.ssa_nodes.specs.Held.{CanHaveNode, NodeTold};
+ghost use Rattle.ssa_core.specs.Processes.{lists_of, terms_at};
 ghost use Rattle.ssa_nodes.specs.Parts.{CanHave, EndStands, HasNodeBy, HasParts, HasState, IsEnd, IsProcess, blocks_in};
 
+use crate::held_node;
 use crate::parts::{Parts, names_of};
 use block_net::{BlockTerms, TermId};
 use bv_core::NodeId;
-use dep_order::NumberMap;
+use names::NameMap;
 use net_core::NetBuilder;
 use ssa_core::ProcessKey;
-use ssa_state::held_node;
 use std::alloc::Global;
 use text_core::NoMemory;
 
@@ -36,7 +36,7 @@ fn held_in(
     alloc: Global,
     builder: &mut NetBuilder,
     block: &BlockTerms,
-    names: &NumberMap,
+    names: &NameMap<u32>,
     nodes: &[Option<NodeId>],
     memo: &mut Vec<Option<NodeId>>,
     name: &[u8],

@@ -1,7 +1,8 @@
+//! Along the order each driven signal gets the node of what drives it, so all that it reads has one.
+
 ghost use Rattle.std.specs.Prelude.{◌≡◌, ◌<◌, Some, None, is_some, slice_index_or, length, IfOk, OnOk};
 ghost use Rattle.exec_core.specs.Design.{place};
-ghost use Rattle.design_exec.specs.Processes.{is_signal_of};
-ghost use Rattle.dep_order.specs.Results.{signal_at};
+ghost use Rattle.place_core.specs.Orders.{signal_at};
 ghost use Rattle.term_net.specs.Growth.{Grown};
 ghost use Rattle.ssa_core.specs.Processes.{lists_of};
 ghost use Rattle.ssa_core.specs.Drives.{DrivesPlace};
@@ -12,7 +13,7 @@ use crate::parts::Parts;
 use crate::process::target_node;
 use crate::source::link_node;
 use bv_core::NodeId;
-use dep_order::signals_of;
+use design_core::signals_of;
 use net_core::NetBuilder;
 use ssa_core::{Drive, number_of};
 use std::alloc::Global;

@@ -1,5 +1,7 @@
+//! The node of what stands at the source of a link.
+
 ghost use Rattle.std.specs.Prelude.{◌≡◌, ℕ, None, length, slice_index_or, IfOk, OnOk};
-ghost use Rattle.check_core.specs.Maps.{value_of};
+ghost use Rattle.names.specs.Maps.{value_of};
 ghost use Rattle.net_core.specs.Builder.{AreShared, Stands};
 ghost use Rattle.block_net.specs.Source.{expr_in};
 ghost use Rattle.term_net.specs.Growth.{AreNodes, Grown};
@@ -7,14 +9,14 @@ ghost use Rattle.term_net.specs.Leaves.{IsReady, leaf_id, leaf_tree, whole_of};
 ghost use Rattle.ssa_core.specs.Links.{link_as};
 ghost use Rattle.ssa_nodes.specs.Parts.{HasParts, HasSignals, IsReadyBy, StandsBy};
 
+use crate::leaf_node;
 use crate::parts::{Parts, names_of};
 use block_net::expr_terms;
 use bv_core::NodeId;
-use dep_order::NumberMap;
 use design_core::Expr;
+use names::NameMap;
 use net_core::NetBuilder;
 use ssa_core::{Link, LinkValue};
-use ssa_state::leaf_node;
 use std::alloc::{AllocError, Global};
 use term_net::evaluate;
 use text_core::NoMemory;
@@ -31,7 +33,7 @@ pub fn no_nodes(alloc: Global, count: usize) -> Result<Vec<Option<NodeId>>, Allo
 fn expr_node(
     alloc: Global,
     builder: &mut NetBuilder,
-    names: &NumberMap,
+    names: &NameMap<u32>,
     nodes: &[Option<NodeId>],
     expr: &Expr,
 ) -> Result<NodeId, NoMemory>

@@ -1,7 +1,7 @@
 //! The symbol table of a compiled design: what a debugger asks at each statement.
 #![tactic(auto)]
 
-mod names;
+mod named;
 mod parts;
 mod places;
 mod shape;

@@ -1,14 +1,17 @@
+//! The table of a compiled design. It refuses parts that break a rule of shape, and looks nothing up by going over all of it.
+
 ghost use Rattle.std.specs.Prelude.{◌≡◌, ◌<◌, ◌↔◌, ℕ, Some, IfOk, IfSome, IsErrOf, IsSome, OnOk, All, Contains, length, map, slice_get, position, bytes_eq};
 ghost use Rattle.symtab.specs.Places.{places};
 ghost use Rattle.symtab.specs.Checked.{AreNamed};
 ghost use Rattle.symtab.specs.Shape.{IsShort, IsSlot, IsTable, IsFound, IsCell, width_of, variants_of, lines_of, paths_of};
 ghost use Rattle.symtab.specs.Lookups.{instances_of, row_of, enable_of, binding_of, IsInScope};
 
-use crate::names::Names;
+use crate::named::distinct_names;
 use crate::places::Places;
 use crate::shape::{are_rows, is_numbered, is_placed};
 use crate::{InstanceParts, NodeName, Row, Slot, TableEnd, TableParts};
 use bv_core::{Binding, Ref};
+use names::NameSet;
 use std::alloc::{AllocError, Global};
 use std::marker::Model;
 use text_core::NoMemory;
@@ -20,8 +23,8 @@ pub struct Table {
     parts: TableParts,
     lines: Places,
     variants: Places,
-    paths: Names,
-    names: Vec<Names>,
+    paths: NameSet,
+    names: Vec<NameSet>,
 }
 
 impl Model for Table {
@@ -61,14 +64,14 @@ fn slot_names(
     count: usize,
     variants: &Places,
     slot: &Slot,
-) -> Result<Option<Names>, NoMemory>
+) -> Result<Option<NameSet>, NoMemory>
     ensures fits { IfOk result (λ found. IsSome found ↔ IsSlot nodes.now count variants.now slot.now) }
     ensures names { IfOk result (λ found. IfSome found (λ names. names ≡ slot.now.names)) }
 {
     if !is_placed(count, slot) || !are_rows(nodes, variants, slot) {
         return Ok(None);
     }
-    Names::of(alloc, slot.names.items())
+    distinct_names(alloc, slot.names.items())
 }
 
 /// The names of each slot. None where a slot breaks a rule, over these nodes and so many variants, where the list has
@@ -79,7 +82,7 @@ fn all_names(
     count: usize,
     variants: &Places,
     slots: &[Slot],
-) -> Result<Option<Vec<Names>>, NoMemory>
+) -> Result<Option<Vec<NameSet>>, NoMemory>
     ensures fits { IfOk result (λ found. IsSome found ↔ All (IsSlot nodes.now count variants.now) slots.now) }
     ensures names { IfOk result (λ found. IfSome found (λ names. names.items ≡ map (λ slot. slot.names) slots.now)) }
 {
@@ -111,16 +114,16 @@ fn names_of(
     alloc: Global,
     parts: &TableParts,
     variants: &Places,
-) -> Result<Option<(Names, Vec<Names>)>, NoMemory>
+) -> Result<Option<(NameSet, Vec<NameSet>)>, NoMemory>
     ensures fits { IfOk result (λ found. IsSome found ↔ AreNamed variants.now parts.now) }
     ensures paths { IfOk result (λ found. IfSome found (λ names. names.0 ≡ paths_of parts.now.instances)) }
     ensures names { IfOk result (λ found. IfSome found (λ names. names.1.items ≡ map (λ slot. slot.names) parts.now.slots)) }
 {
     let nodes = parts.nodes.items();
-    if Names::of(alloc, nodes)?.is_none() {
+    if distinct_names(alloc, nodes)?.is_none() {
         return Ok(None);
     }
-    let Some(paths) = Names::of(alloc, parts.instances.items())? else {
+    let Some(paths) = distinct_names(alloc, parts.instances.items())? else {
         return Ok(None);
     };
     let count = parts.variants.items().len();

@@ -17,7 +17,8 @@ use Rattle.tree_core.specs.Fold.{folded}
 use Rattle.exec_core.specs.Block.{Name}
 use Rattle.design_core.specs.declared.expr.UnOp.{UnOp}
 use Rattle.design_core.specs.declared.expr.Op.{Op}
-use Rattle.design_exec.specs.Processes.{bits, unary_of, binary_of}
+use Rattle.design_exec.specs.Processes.{unary_of, binary_of}
+use Rattle.design_core.specs.Widths.{bits}
 use Rattle.net_core.specs.Nodes.{Shape, tree_of, width_at}
 use Rattle.net_core.specs.Builder.{Stands}
 use Rattle.block_net.specs.declared.term.Term.{Term}

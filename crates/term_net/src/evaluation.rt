@@ -1,17 +1,19 @@
+//! A term evaluated without recursion: a stack has the terms whose operands have no node yet.
+
 ghost use Rattle.std.specs.Prelude.{◌≡◌, ◌<◌, ◌+◌, ◌*◌, ◌++◌, ◌∷◌, [], length, IfOk, OnOk, ℕ};
-ghost use Rattle.check_core.specs.Maps.{value_of};
+ghost use Rattle.names.specs.Maps.{value_of};
 ghost use Rattle.net_core.specs.Builder.{Stands};
 ghost use Rattle.block_net.specs.Terms.{AreNumbered, tree_at, trees_of};
 ghost use Rattle.term_net.specs.Leaves.{IsReady, leaf_id, leaf_tree, term_whole};
 ghost use Rattle.term_net.specs.Growth.{Grown, Stay};
 ghost use Rattle.term_net.specs.Memos.{Fits};
-ghost use Rattle.term_net.specs.Pending.{AreKnown, Fall, FallTo, IsMissing, IsPending, term_at, unknown_count, work, GetsNode};
+ghost use Rattle.term_net.specs.Pending.{AreKnown, Fall, FallTo, IsPending, term_at, unknown_count, work, GetsNode};
 
 use crate::node::node_of;
 use crate::pending::{missing, next};
 use block_net::{BlockTerms, Term, TermId};
 use bv_core::NodeId;
-use dep_order::NumberMap;
+use names::NameMap;
 use net_core::NetBuilder;
 use std::alloc::Global;
 use text_core::NoMemory;
@@ -20,7 +22,7 @@ use text_core::NoMemory;
 fn settle(
     builder: &mut NetBuilder,
     terms: &[Term],
-    places: &NumberMap,
+    places: &NameMap<u32>,
     nodes: &[Option<NodeId>],
     memo: &mut [Option<NodeId>],
     top: TermId,
@@ -52,7 +54,7 @@ fn put_off(stack: &mut Vec<TermId>, top: TermId, operand: TermId) -> Result<(), 
 fn advance(
     builder: &mut NetBuilder,
     terms: &[Term],
-    places: &NumberMap,
+    places: &NameMap<u32>,
     nodes: &[Option<NodeId>],
     memo: &mut [Option<NodeId>],
     stack: &mut Vec<TermId>,
@@ -79,7 +81,7 @@ fn evaluate_term(
     alloc: Global,
     builder: &mut NetBuilder,
     terms: &[Term],
-    places: &NumberMap,
+    places: &NameMap<u32>,
     nodes: &[Option<NodeId>],
     memo: &mut [Option<NodeId>],
     root: TermId,
@@ -111,7 +113,7 @@ pub fn evaluate(
     alloc: Global,
     builder: &mut NetBuilder,
     block: &BlockTerms,
-    places: &NumberMap,
+    places: &NameMap<u32>,
     nodes: &[Option<NodeId>],
     memo: &mut [Option<NodeId>],
     root: TermId,

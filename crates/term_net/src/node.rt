@@ -1,8 +1,10 @@
-ghost use Rattle.std.specs.Prelude.{◌≡◌, ◌<◌, length, IfOk, IsSome, OnOk};
+//! One term as a node, where its operands have theirs.
+
+ghost use Rattle.std.specs.Prelude.{◌≡◌, ◌<◌, length, IfOk, OnOk};
 ghost use Rattle.bv_core.specs.Operators.{Fits1, Fits2, FitsMux};
 ghost use Rattle.tree_core.specs.Tree.{Const, Mux, One, Two};
 ghost use Rattle.tree_core.specs.Fold.{folded};
-ghost use Rattle.check_core.specs.Maps.{value_of};
+ghost use Rattle.names.specs.Maps.{value_of};
 ghost use Rattle.net_core.specs.Nodes.{tree_of, width_at};
 ghost use Rattle.net_core.specs.Builder.{Stands};
 ghost use Rattle.block_net.specs.Terms.{AreNumbered, tree_at, trees_of};
@@ -11,15 +13,16 @@ ghost use Rattle.term_net.specs.Growth.{Grown};
 ghost use Rattle.term_net.specs.Memos.{Fits};
 ghost use Rattle.term_net.specs.Pending.{AreKnown, term_at};
 
-use crate::operators::{binary, bits, constant, unary};
+use crate::operators::{binary, unary};
 use block_net::{Term, TermId};
 use bv_core::{Bv, NodeId, Op1, Op2};
-use dep_order::NumberMap;
+use design_core::{bits, constant};
+use names::NameMap;
 use net_core::NetBuilder;
 use text_core::NoMemory;
 
 /// The node of a name, if it has one.
-fn leaf(places: &NumberMap, nodes: &[Option<NodeId>], name: &[u8]) -> Option<NodeId>
+fn leaf(places: &NameMap<u32>, nodes: &[Option<NodeId>], name: &[u8]) -> Option<NodeId>
     ensures { result ≡ leaf_id (value_of places.now) nodes.now name.now }
 {
     let place = places.get(name)?;
@@ -75,7 +78,7 @@ fn choice(builder: &mut NetBuilder, c: NodeId, a: NodeId, b: NodeId) -> Result<N
 pub(crate) fn node_of(
     builder: &mut NetBuilder,
     terms: &[Term],
-    places: &NumberMap,
+    places: &NameMap<u32>,
     nodes: &[Option<NodeId>],
     memo: &[Option<NodeId>],
     id: TermId,

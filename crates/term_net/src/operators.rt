@@ -1,25 +1,10 @@
-ghost use Rattle.std.specs.Prelude.{◌≡◌, ◌<◌};
-ghost use Rattle.bv_core.specs.Value.{IsBits};
-ghost use Rattle.design_exec.specs.Processes.{bits, binary_of, unary_of};
+//! The operators of the language as those of nodes.
 
-use bv_core::{Bv, Op1, Op2};
+ghost use Rattle.std.specs.Prelude.{◌≡◌};
+ghost use Rattle.design_exec.specs.Processes.{binary_of, unary_of};
+
+use bv_core::{Op1, Op2};
 use design_core::{Op, UnOp};
-
-/// A number of bits, or a place among them; 0 for a negative one.
-pub(crate) fn bits(number: i64) -> u8
-    requires { bits number < 256 }
-    ensures { result ≡ bits number }
-{
-    if number < 0 { 0 } else { number as u8 }
-}
-
-/// A constant of this width, which its value fits.
-pub(crate) fn constant(width: i64, value: u128) -> Bv
-    requires { IsBits (record { width = bits width; value = value }) }
-    ensures { result ≡ record { width = bits width; value = value } }
-{
-    Bv::make(bits(width), value).unwrap()
-}
 
 /// The operator of nodes for one on a term.
 pub(crate) fn unary(op: UnOp) -> Op1

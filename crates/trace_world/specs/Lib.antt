@@ -1,2 +1,3 @@
 pub mod TraceWorld
+pub mod Fitting
 pub mod Sample

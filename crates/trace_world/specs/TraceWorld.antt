@@ -1,12 +1,11 @@
 -- The world that a symbol table and the samples of a trace tell.
-use Rattle.std.specs.Prelude.{ℕ, ℤ, ◌==◌, Bool, false, map, filter, Option, Some, None, option_and_then}
+use Rattle.std.specs.Prelude.{ℕ, ℤ, Bool, map, filter, Option, Some, None, option_and_then}
 use Rattle.bv_core.specs.Value.{Bits}
 use Rattle.bv_core.specs.declared.reference.Ref.{Ref}
 use Rattle.bv_core.specs.declared.reference.Ref.TheVariants.{Node, Const}
 use Rattle.bv_core.specs.declared.reference.Binding.{Binding}
 use Rattle.bv_core.specs.declared.reference.Binding.TheVariants as bindings
 use Rattle.bv_core.specs.declared.reference.Sample.{Sample}
-use Rattle.bv_core.specs.declared.reference.Sample.TheVariants.{Known, Unknown}
 use Rattle.exec_core.specs.Block.{Name}
 use Rattle.symtab.specs.declared.parts.GenVariable.{GenVariable}
 use Rattle.symtab.specs.declared.parts.Slot.{Slot}
@@ -15,23 +14,15 @@ use Rattle.symtab.specs.Shape.{width_of, variants_of, paths_of}
 use Rattle.symtab.specs.Places.{places}
 use Rattle.symtab.specs.Lookups.{instances_of, enable_of, binding_of}
 use Rattle.trace_core.specs.Samples.{Samples}
-use Rattle.world_core.specs.World.{Status, IsUnset, IsRemoved, HasWidth, Shows, World}
-
--- what is known of a sample
-abbrev pub known : Sample → Option Bits
-known (Known bits) = Some bits
-known Unknown = None
+use Rattle.trace_core.specs.Known.{known, is_one}
+use Rattle.world_core.specs.World.{Status, IsUnset, IsRemoved, HasWidth, Shown, shown_by, Shows, World}
 
 -- what is found by the samples of a cycle: a node's sample, or a literal
 abbrev pub found_by : (ℕ → Sample) → Ref → Option Bits
 found_by samples (Node id width) = known (samples id.0)
 found_by samples (Const bits) = Some bits
 
--- an enable that is known and is 1
-abbrev pub is_one : Option Bits → Bool
-is_one (Some bits) = bits.value == 1
-is_one None = false
-
+-- whether an enable is known and is 1
 abbrev pub is_on : (ℕ → Sample) → Option Ref → Bool
 is_on samples on = is_one (option_and_then (found_by samples) on)
 
@@ -48,6 +39,10 @@ value_by samples (Some bindings.Unset) = None
 value_by samples (Some bindings.Removed) = None
 value_by samples None = None
 
+-- what is shown of it
+abbrev pub binding_shown : (ℕ → Sample) → Option Binding → Shown
+binding_shown samples b = shown_by (status_by b) (value_by samples b)
+
 -- the generator variables at a slot
 abbrev pub gen_of : GenVariable → Name × ℤ
 gen_of g = (g.name, g.value)
@@ -56,8 +51,8 @@ gen_of g = (g.name, g.value)
 abbrev pub shows_by : TableParts → Slot → Shows
 shows_by parts s = record { line = s.line; gens = map gen_of s.gens; names = s.names; instances = places s.variant (variants_of parts.instances) }
 
--- the table's instances, slots and statuses. An instance is a thread of a slot in a cycle where its enable is known and is 1; a name
--- has there its literal, or its node's sample in that cycle
+-- the table's instances, slots and statuses. An instance is a thread of a slot in a cycle where its enable is known and is 1; of a
+-- name is shown there its literal, or its node's sample in that cycle
 abbrev pub trace_world : TableParts → Samples → World
 trace_world parts s = record {
   cycles = s.cycles;
@@ -65,5 +60,5 @@ trace_world parts s = record {
   slots = map (shows_by parts) parts.slots;
   status = λ k i x. status_by (binding_of parts k i x);
   threads = λ t k. filter (λ i. is_on (s.sample t) (enable_of parts k i)) (instances_of parts k);
-  value = λ t k i x. value_by (s.sample t) (binding_of parts k i x);
+  shown = λ t k i x. binding_shown (s.sample t) (binding_of parts k i x);
 }

@@ -5,4 +5,4 @@
 
 mod laws;
 
-pub use laws::shows_the_sample;
+pub use laws::{fitting_traces_sample, same_samples_tell_same, shows_the_sample};

@@ -1,23 +1,15 @@
 -- What compiling a design gives the function that writes its trail.
-use Rattle.std.proofs.Common.{◌≡◌, ℕ, false, List, length, map, Option, sym, ap, ◌∙◌, subst}
+use Rattle.std.proofs.Common.{◌≡◌, ℕ, false, List, length, Option, ap, ◌∙◌, subst}
 use Rattle.std.specs.Prelude.{slice_get}
 use Rattle.std.specs.List.{enumerate_from}
 use Rattle.std.proofs.lemmas.List.{length-map}
 use Rattle.std.proofs.lemmas.List.FromFn.{length-enumerate_from}
-use Rattle.std.proofs.lemmas.Option.{slice_get_within, get_or_from_slice_get}
 use Rattle.bv_core.specs.Value.{Bits}
-use Rattle.tree_core.specs.Tree.{Leaf, Origin, Input, Whole}
-use Rattle.exec_core.specs.Lists.{IsIn}
 use Rattle.exec_core.specs.Whole.{Place}
-use Rattle.exec_core.specs.States.{OverGivens}
-use Rattle.exec_core.proofs.Lists.{each_member}
 use Rattle.design_core.specs.declared.Ports.{Ports}
 use Rattle.design_core.specs.Design.{Design}
 use Rattle.design_core.specs.Ports.{ports_in, top_signals}
-use Rattle.design_exec.specs.Processes.{Given, processes_of}
-use Rattle.net_core.specs.Nodes.{TopInput, no_shape, shape_at, node_tree, trees_of, tree_of}
 use Rattle.net_core.specs.Nets.{NetParts}
-use Rattle.net_core.proofs.TreeLists.{tree_is}
 use Rattle.io_edge.specs.Taken.{Appends, AppendsFront}
 use Rattle.io_edge.proofs.Growth.{no_growth}
 use Rattle.symtab.specs.declared.parts.NodeName.{NodeName}
@@ -26,7 +18,7 @@ use Rattle.stim_text.specs.Stimulus.{Stimulus, IsStimulus}
 use Rattle.sim_hist.specs.Run.{InputsArePorts, run_samples}
 use Rattle.check_exec.specs.Premises.{IsSound}
 use Rattle.check_exec.proofs.Facts.{in_index}
-use Rattle.dep_order.specs.Results.{TellsOrder}
+use Rattle.place_core.specs.Orders.{TellsOrder}
 use Rattle.world_core.specs.declared.mode.Mode.{Mode}
 use Rattle.world_core.specs.World.{trail_text}
 use Rattle.world_core.specs.Source.{source_world}

@@ -1,19 +1,21 @@
+//! The trail of an accepted design: compiled, simulated, written.
+
 ghost use Rattle.std.specs.Prelude.{◌≡◌, ◌≤◌, None, IfOk, OnOk, OnErr, IsErrOf, length};
 ghost use Rattle.io_edge.specs.Faults.{Rose};
 ghost use Rattle.design_core.specs.DesignView.{design_of};
 ghost use Rattle.check_core.specs.Verdict.{verdict};
-ghost use Rattle.dep_order.specs.Results.{TellsOrder};
+ghost use Rattle.place_core.specs.Orders.{TellsOrder};
 ghost use Rattle.sim_hist.specs.Run.{InputsArePorts, first_cycle};
 ghost use Rattle.trim_laws.specs.Runs.{HasInputs};
 ghost use Rattle.trail_net.specs.Taken.{TakesTrail, TakesTrailFront};
 
 use crate::SinkEnd;
-use dep_order::Order;
 use design_core::Design;
-use design_net::compile;
+use design_net::{Compiled, compile};
 use io_edge::Sink;
 use lower_core::Mode;
 use net_core::Net;
+use place_core::Order;
 use sim_core::Simulator;
 use sim_hist::SimTrace;
 use std::alloc::Global;
@@ -48,7 +50,7 @@ pub fn write_trail<S: Sink>(
     ensures failed { IsErrOf result SinkEnd.Failed → Rose (S.fault_count out.old) (S.fault_count out.new) }
     ensures later { S.fault_count out.old ≤ S.fault_count out.new }
 {
-    let (net, table) = compile(alloc, design, order, mode)?;
+    let Compiled { net, table } = compile(alloc, design, order, mode)?;
     let mut trace = trace_of(alloc, net, stim)?;
     trail_out::write_trail(alloc, &table, &mut trace, out)
 }

@@ -2,7 +2,7 @@
 use Rattle.std.proofs.Common.{◌≡◌, ℕ, zero, suc, ◌+◌, ◌-◌, ◌<◌, List, [], ◌∷◌, ◌++◌, Option, Some, ap, ap₂, ◌∙◌, append-nil, arith}
 use Rattle.std.specs.List.{flat_map}
 use Rattle.std.proofs.lemmas.List.Concat.{flat_map-append}
-use Rattle.design_core.specs.Slots.{from}
+use Rattle.list_core.specs.Lists.{from}
 use Rattle.trace_core.specs.Samples.{Samples}
 use Rattle.trail_out.specs.Written.{samples_at}
 

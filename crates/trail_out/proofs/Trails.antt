@@ -10,7 +10,7 @@ use Rattle.std.proofs.lemmas.Map.Keys.{IsDistinct-head, IsDistinct-tail}
 use Rattle.bv_core.specs.declared.reference.Binding.{Binding}
 use Rattle.bv_core.specs.declared.reference.Sample.{Sample}
 use Rattle.exec_core.specs.Block.{Name}
-use Rattle.design_core.specs.Slots.{from}
+use Rattle.list_core.specs.Lists.{from}
 use Rattle.symtab.specs.declared.parts.GenVariable.{GenVariable}
 use Rattle.symtab.specs.declared.parts.InstanceParts.{InstanceParts}
 use Rattle.symtab.specs.declared.parts.Row.{Row}
@@ -21,8 +21,8 @@ use Rattle.symtab.specs.Lookups.{instances_of, row_of, enable_of, binding_of}
 use Rattle.symtab.proofs.Rows as rows
 use Rattle.trace_core.specs.Samples.{Samples}
 use Rattle.world_core.specs.World as world
-use Rattle.world_core.specs.World.{Shows, shown_by, shown_in, shown_text, gen_text, name_text, path_in, trail_line, position_text, trail_text}
-use Rattle.world_core.proofs.Listing.{flat_map_same}
+use Rattle.world_core.specs.World.{shown_by, shown_text, gen_text, name_text, path_in, trail_line, position_text}
+use Rattle.list_core.proofs.Listing.{flat_map_same}
 use Rattle.trace_world.specs.TraceWorld.{is_on, status_by, value_by, gen_of, shows_by, trace_world}
 use Rattle.trail_out.specs.Texts.{variable_text, cells_text, line_text, no_slot, no_instance, path_at, row_text, rows_text, slot_text, cycle_text, TextsAreTrails}
 use Rattle.trail_out.proofs.Standing.{places_count}
@@ -97,7 +97,7 @@ module _ (parts : TableParts) (table : IsTable parts) (s : Samples) (t : ℕ) wh
           ∙ ap (option_and_then (slice_get row.cells)) (placed_at slot.names fits.names m x named)
           ∙ e
 
-      line_same : line_text t slot (path_at parts i) (s.sample t) row.cells ≡ trail_line t (shows_by parts slot) (path_in (trace_world parts s) i) (shown_in (trace_world parts s) t k i)
+      line_same : line_text t slot (path_at parts i) (s.sample t) row.cells ≡ trail_line t (shows_by parts slot) (path_in (trace_world parts s) i) ((trace_world parts s).shown t k i)
       line_same =
           ap (λ p. line_text t slot p (s.sample t) row.cells) (path_same parts.instances i)
           ∙ ap₂ (λ (g c : List ℕ). decimal t ++ codes " " ++ decimal slot.line ++ codes " " ++ path_in (trace_world parts s) i ++ g ++ c ++ codes "\n") (variables_same slot.gens)
@@ -106,7 +106,7 @@ module _ (parts : TableParts) (table : IsTable parts) (s : Samples) (t : ℕ) wh
     rows_same : (n : ℕ) (is : List ℕ) (list : List Row) → length is ≡ length list
         → ((j i : ℕ) → slice_get is j ≡ Some i → slice_get (instances_of parts k) (n + j) ≡ Some i) → ((j : ℕ) (row : Row) → slice_get list j ≡ Some row → slice_get slot.rows (n + j) ≡ Some row)
         → rows_text t (s.sample t) parts slot is list
-        ≡ flat_map (λ i. trail_line t (shows_by parts slot) (path_in (trace_world parts s) i) (shown_in (trace_world parts s) t k i)) (filter (λ i. is_on (s.sample t) (enable_of parts k i)) is)
+        ≡ flat_map (λ i. trail_line t (shows_by parts slot) (path_in (trace_world parts s) i) ((trace_world parts s).shown t k i)) (filter (λ i. is_on (s.sample t) (enable_of parts k i)) is)
     rows_same n [] list e f g = refl
     rows_same n (i ∷ is) [] e f g = cc
     rows_same n (i ∷ is) (row ∷ list) e f g =
@@ -119,12 +119,12 @@ module _ (parts : TableParts) (table : IsTable parts) (s : Samples) (t : ℕ) wh
         ∙ by_on (is_on (s.sample t) (Some row.on)) (sym (ap (is_on (s.sample t)) (enable_is n i row listed there))) (line_same n i row listed there)
       where
         line : ℕ → List ℕ
-        line i = trail_line t (shows_by parts slot) (path_in (trace_world parts s) i) (shown_in (trace_world parts s) t k i)
+        line i = trail_line t (shows_by parts slot) (path_in (trace_world parts s) i) ((trace_world parts s).shown t k i)
 
-        by_on : (b : Bool) → b ≡ is_on (s.sample t) (enable_of parts k i) → line_text t slot (path_at parts i) (s.sample t) row.cells ≡ trail_line t (shows_by parts slot) (path_in (trace_world parts s) i) (shown_in (trace_world parts s) t k i)
+        by_on : (b : Bool) → b ≡ is_on (s.sample t) (enable_of parts k i) → line_text t slot (path_at parts i) (s.sample t) row.cells ≡ trail_line t (shows_by parts slot) (path_in (trace_world parts s) i) ((trace_world parts s).shown t k i)
             → (if b then line_text t slot (path_at parts i) (s.sample t) row.cells else [])
-            ++ flat_map (λ i. trail_line t (shows_by parts slot) (path_in (trace_world parts s) i) (shown_in (trace_world parts s) t k i)) (filter (λ i. is_on (s.sample t) (enable_of parts k i)) is)
-            ≡ flat_map (λ i. trail_line t (shows_by parts slot) (path_in (trace_world parts s) i) (shown_in (trace_world parts s) t k i))
+            ++ flat_map (λ i. trail_line t (shows_by parts slot) (path_in (trace_world parts s) i) ((trace_world parts s).shown t k i)) (filter (λ i. is_on (s.sample t) (enable_of parts k i)) is)
+            ≡ flat_map (λ i. trail_line t (shows_by parts slot) (path_in (trace_world parts s) i) ((trace_world parts s).shown t k i))
             (cond (is_on (s.sample t) (enable_of parts k i)) (i ∷ filter (λ i. is_on (s.sample t) (enable_of parts k i)) is) (filter (λ i. is_on (s.sample t) (enable_of parts k i)) is))
         by_on true on same =
             ap (λ l. l ++ flat_map line (filter (λ i. is_on (s.sample t) (enable_of parts k i)) is)) same

@@ -6,7 +6,7 @@ use Rattle.bv_core.specs.declared.reference.Binding.{Binding}
 use Rattle.bv_core.specs.declared.reference.Sample.{Sample}
 use Rattle.bv_core.specs.declared.reference.Sample.TheVariants as sampled
 use Rattle.exec_core.specs.Block.{Name}
-use Rattle.design_core.specs.Slots.{from}
+use Rattle.list_core.specs.Lists.{from}
 use Rattle.symtab.specs.declared.parts.GenVariable.{GenVariable}
 use Rattle.symtab.specs.declared.parts.InstanceParts.{InstanceParts}
 use Rattle.symtab.specs.declared.parts.Row.{Row}

@@ -4,7 +4,8 @@ ghost use Rattle.std.specs.Prelude.{◌≡◌, ◌<◌, ◌++◌, All, IsSome, O
 ghost use Rattle.std.specs.Fmt.{decimal};
 ghost use Rattle.std.specs.List.{flat_map};
 ghost use Rattle.world_core.specs.World.{shown_text};
-ghost use Rattle.trace_world.specs.TraceWorld.{known, found_by};
+ghost use Rattle.trace_core.specs.Known.{known};
+ghost use Rattle.trace_world.specs.TraceWorld.{found_by};
 ghost use Rattle.trail_out.specs.Texts.{sample_shown, cell_shown, variable_text, cell_text, cells_text, line_text};
 ghost use Rattle.trail_out.specs.Written.{samples_at, RefStands, CellStands};
 

@@ -1,15 +1,15 @@
 //! The lines of a table's rows, cycle after cycle, through a text that waits until it is long.
 
-ghost use Rattle.std.specs.Prelude.{◌≡◌, ◌<◌, ◌≤◌, ◌++◌, ℕ, [], Some, All, IsSome, IsErrOf, OnErr, OnOk, length, slice_get};
+ghost use Rattle.std.specs.Prelude.{◌≡◌, ◌<◌, ◌≤◌, ◌++◌, ℕ, [], All, IsSome, IsErrOf, OnErr, OnOk, length};
 ghost use Rattle.std.specs.List.{flat_map};
-ghost use Rattle.design_core.specs.Slots.{from};
+ghost use Rattle.list_core.specs.Lists.{from};
 ghost use Rattle.io_edge.specs.Faults.{Rose};
 ghost use Rattle.io_edge.specs.Taken.{Appends, AppendsFront};
 ghost use Rattle.symtab.specs.Shape.{IsTable};
-ghost use Rattle.symtab.specs.Lookups.{instances_of};
 ghost use Rattle.world_core.specs.World.{trail_text};
-ghost use Rattle.trace_world.specs.TraceWorld.{is_one, is_on, known, trace_world};
-ghost use Rattle.trail_out.specs.Texts.{path_at, row_text, rows_text, slot_text, cycle_text, table_text};
+ghost use Rattle.trace_core.specs.Known.{known, is_one};
+ghost use Rattle.trace_world.specs.TraceWorld.{trace_world};
+ghost use Rattle.trail_out.specs.Texts.{row_text, rows_text, slot_text, table_text};
 ghost use Rattle.sink_text.specs.Waiting.{Passes};
 ghost use Rattle.trail_out.specs.Written.{samples_at, RowStands, SlotStands};
 

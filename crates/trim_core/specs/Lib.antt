@@ -1,2 +1,4 @@
 pub mod Named
+pub mod KeptNet
+pub mod KeptTable
 pub mod Trimmed

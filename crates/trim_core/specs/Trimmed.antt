@@ -8,7 +8,7 @@ use Rattle.tree_core.specs.Tree.{Leaf, Origin, Input, Register, Whole}
 use Rattle.tree_core.specs.Width.{tree_width}
 use Rattle.tree_core.specs.Fold.{constant}
 use Rattle.exec_core.specs.Block.{Name}
-use Rattle.exec_core.specs.Lists.{EachOf, IsIn, AreApart}
+use Rattle.list_core.specs.Lists.{EachOf, IsIn, AreApart}
 use Rattle.exec_core.specs.Whole.{Place}
 use Rattle.exec_core.specs.States.{OverGivens}
 use Rattle.design_core.specs.Design.{Design}

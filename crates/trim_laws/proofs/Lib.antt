@@ -5,3 +5,6 @@ pub mod Tables
 pub mod Values
 pub mod Worlds
 pub mod Orders
+pub mod Shown
+pub mod Simulated
+pub mod Fitted

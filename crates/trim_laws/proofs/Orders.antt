@@ -1,18 +1,18 @@
 -- Two orders of a design have one length: each lists the driven signals, once.
-use Rattle.std.proofs.Common.{◌≡◌, ◌≢◌, ℕ, ◌≤◌, true, List, [], ◌∷◌, length, map, Option, Some, None, option_map, inl, inr, ⊎_elim, refl, sym, ap, ◌∙◌, arith}
+use Rattle.std.proofs.Common.{◌≡◌, ◌≢◌, ℕ, ◌≤◌, true, List, length, Some, None, option_map, ⊎_elim, sym, ap, ◌∙◌, arith}
 use Rattle.std.specs.Prelude.{slice_get}
 use Rattle.std.proofs.lemmas.List.{length-map}
-use Rattle.std.proofs.lemmas.Option.{none-some, slice_get-map}
-use Rattle.exec_core.specs.Lists.{IsIn}
+use Rattle.std.proofs.lemmas.Option.{slice_get-map}
+use Rattle.list_core.specs.Lists.{IsIn}
 use Rattle.exec_core.specs.Whole.{Place}
 use Rattle.exec_core.specs.Design.{driver_of}
-use Rattle.exec_core.proofs.Lists.{each_member}
+use Rattle.list_core.proofs.Lists.{each_member}
 use Rattle.design_core.specs.Design.{Design}
 use Rattle.design_exec.specs.Processes.{processes_of, is_signal_of}
 use Rattle.check_exec.proofs.Facts.{in_index}
-use Rattle.dep_order.specs.Results.{Pair, signal_at, TellsOrder}
-use Rattle.dep_order.proofs.Answered.{is_signal}
-use Rattle.world_core.proofs.Listing.{no_more}
+use Rattle.place_core.specs.Orders.{Pair, signal_at, TellsOrder}
+use Rattle.place_core.proofs.Signals.{is_signal}
+use Rattle.list_core.proofs.Listing.{no_more}
 use Rattle.trim_laws.proofs.Visits.{mapped_from}
 
 -- what an order lists is a signal

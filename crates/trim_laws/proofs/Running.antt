@@ -1,7 +1,7 @@
 -- An accepted design with an order has a run over every stimulus for its inputs.
 use Rattle.std.proofs.Common.{false, List, subst}
 use Rattle.std.specs.Prelude.{All}
-use Rattle.exec_core.specs.Lists.{EachOf}
+use Rattle.list_core.specs.Lists.{EachOf}
 use Rattle.exec_core.specs.States.{RowFits}
 use Rattle.design_core.specs.Design.{Design}
 use Rattle.design_core.specs.Ports.{ports_in, top_signals}

@@ -7,17 +7,16 @@ use Rattle.bv_core.specs.Value.{Bits}
 use Rattle.tree_core.specs.Tree as tree
 use Rattle.tree_core.specs.Tree.{Origin, Input, Leaf, Whole, value_of}
 use Rattle.exec_core.specs.Block.{Name}
-use Rattle.exec_core.specs.Lists.{EachOf, IsIn}
+use Rattle.list_core.specs.Lists.{EachOf, IsIn, from}
 use Rattle.exec_core.specs.Whole.{Place}
 use Rattle.exec_core.specs.Design as exec
 use Rattle.exec_core.specs.Design.{next_tree, folded_tree}
 use Rattle.exec_core.specs.Run.{given_value, starts, start_of}
 use Rattle.exec_core.specs.Accepted.{Accepted}
 use Rattle.exec_core.specs.KeptStates.{GivesKept, AreKeptStates}
-use Rattle.exec_core.proofs.Lists.{each_member, each_from, in_left, in_right}
+use Rattle.list_core.proofs.Lists.{each_member, each_from, in_left, in_right}
 use Rattle.exec_core.proofs.Sources.{given_origin}
 use Rattle.design_core.specs.Design.{Design}
-use Rattle.design_core.specs.Slots.{from}
 use Rattle.design_exec.specs.Processes.{Given, processes_of}
 use Rattle.net_core.specs.Nodes.{Shape, Fixed, TopInput, Register, OfOne, OfTwo, OfMux, shape_at, node_tree, trees_of}
 use Rattle.net_core.specs.Builder.{Stands}

@@ -1,5 +1,5 @@
 -- What is found of a tree by a table and samples, and the status of what a name stands for.
-use Rattle.std.proofs.Common.{◌≡◌, ℕ, ◌||◌, Bool, true, false, List, [], ◌∷◌, Some, None, if◌then◌else◌, ◌⊎◌, inl, inr, refl, sym, ap, ◌∙◌, subst, ⊎_elim}
+use Rattle.std.proofs.Common.{◌≡◌, ℕ, ◌||◌, Bool, true, false, List, Some, None, if◌then◌else◌, refl, sym, ap, ◌∙◌}
 use Rattle.std.specs.Prelude.{is_some}
 use Rattle.bv_core.specs.Value.{Bits}
 use Rattle.bv_core.specs.Operators.{flag_of}
@@ -8,22 +8,21 @@ use Rattle.bv_core.specs.declared.reference.Ref.TheVariants.{Node, Const}
 use Rattle.bv_core.specs.declared.reference.Sample.{Sample}
 use Rattle.bv_core.specs.declared.reference.Sample.TheVariants.{Known}
 use Rattle.tree_core.specs.Tree as tree
-use Rattle.tree_core.specs.Tree.{Origin, Whole, value_of}
+use Rattle.tree_core.specs.Tree.{Whole}
 use Rattle.tree_core.specs.Width.{tree_width}
-use Rattle.tree_core.specs.Fold.{same_tree, same_origin, constant}
-use Rattle.tree_core.proofs.Same.{same_tree-sound, same_tree-refl, same_origin-sound, same_origin-refl}
-use Rattle.exec_core.specs.Lists.{IsIn}
-use Rattle.exec_core.specs.Kept.{has_number}
+use Rattle.tree_core.specs.Fold.{constant}
 use Rattle.net_core.specs.Nodes.{Shape}
 use Rattle.net_core.specs.Builder.{Stands}
 use Rattle.net_core.proofs.Applying.{constant_width}
 use Rattle.world_core.specs.World.{IsRemoved, HasWidth}
 use Rattle.world_core.specs.Source.{kept_status}
-use Rattle.trace_world.specs.TraceWorld.{known, found_by, is_one, is_on}
+use Rattle.list_core.proofs.Listing.{second_true}
+use Rattle.trace_core.specs.Known.{known, is_one}
+use Rattle.trace_world.specs.TraceWorld.{found_by, is_on}
 use Rattle.symtab.specs.Shape.{width_of}
 use Rattle.trim_core.specs.Trimmed.{FoundTold}
 
--- ---- constants and members
+-- ---- constants
 
 pub constant_is : (t : Whole) (b : Bits) → constant t ≡ Some b → t ≡ tree.Const b
 constant_is (tree.Const c) b e = let same : c ≡ b = cc in ap (λ z. tree.Const z) same
@@ -32,25 +31,6 @@ constant_is (tree.One op a) b e = cc
 constant_is (tree.Two op x y) b e = cc
 constant_is (tree.Mux c x y) b e = cc
 
-either_on : (a b : Bool) → (a || b) ≡ true → (a ≡ true) ⊎ (b ≡ true)
-either_on true b e = inl refl
-either_on false b e = inr e
-
-on_right : (a b : Bool) → b ≡ true → (a || b) ≡ true
-on_right true b e = refl
-on_right false b e = e
-
-pub number_told : (t : Whole) (ts : List Whole) → has_number t ts ≡ true → IsIn t ts
-number_told t [] e = cc
-number_told t (x ∷ xs) e = ⊎_elim (λ s. inl (same_tree-sound same_origin same_origin-sound t x s)) (λ s. inr (number_told t xs s)) (either_on (same_tree same_origin t x) (has_number t xs) e)
-
-pub has_told : (t : Whole) (ts : List Whole) → IsIn t ts → has_number t ts ≡ true
-has_told t [] i = absurd i
-has_told t (x ∷ xs) (inl e) =
-    let same : same_tree same_origin t x ≡ true = subst (λ y. same_tree same_origin t y ≡ true) e (same_tree-refl same_origin same_origin-refl t) in
-    ap (λ b. b || has_number t xs) same
-has_told t (x ∷ xs) (inr i) = on_right (same_tree same_origin t x) (has_number t xs) (has_told t xs i)
-
 -- ---- statuses
 
 pub found_status : (kept : Whole → Bool) (nodes : List Shape) (t : Whole) (at : Ref) → (constant t ≡ None → kept t ≡ true) → FoundTold nodes t at → HasWidth (width_of at) ≡ kept_status kept (Some t)
@@ -58,7 +38,7 @@ found_status kept nodes t at member h = ap HasWidth (width at h) ∙ sym (ap (λ
   where
     there : (at : Ref) → FoundTold nodes t at → (is_some (constant t) || kept t) ≡ true
     there (Const b) e = ap (λ o. is_some o || kept t) e
-    there (Node id w) e = on_right (is_some (constant t)) (kept t) (member e.0)
+    there (Node id w) e = second_true (is_some (constant t)) (kept t) (member e.0)
 
     width : (at : Ref) → FoundTold nodes t at → width_of at ≡ tree_width t
     width (Const b) e = sym (constant_width t b e)

@@ -7,20 +7,19 @@ use Rattle.bv_core.specs.Value.{Bits}
 use Rattle.bv_core.specs.Operators.{flag_of}
 use Rattle.tree_core.specs.Tree.{Origin, Whole, value_of}
 use Rattle.exec_core.specs.Block.{Name, Now}
-use Rattle.exec_core.specs.Lists.{IsIn}
+use Rattle.list_core.specs.Lists.{IsIn, from}
 use Rattle.exec_core.specs.Trees.{Row}
 use Rattle.exec_core.specs.Agree.{TellsVisit}
 use Rattle.exec_core.specs.Paths.{known_in, known_key, RowChecked}
 use Rattle.exec_core.specs.Whole.{Place}
 use Rattle.exec_core.specs.Design as exec
-use Rattle.exec_core.specs.Design.{Process, signals_of, width_in}
+use Rattle.exec_core.specs.Design.{signals_of, width_in}
 use Rattle.exec_core.specs.Accepted.{Accepted}
 use Rattle.exec_core.specs.States.{net_value, ProcessTold, CycleAgrees, CyclesAgree}
 use Rattle.exec_core.specs.KeptStates.{SameKept}
-use Rattle.exec_core.proofs.Lists.{each_member}
+use Rattle.list_core.proofs.Lists.{each_member}
 use Rattle.exec_core.proofs.Sources.{process_checked}
 use Rattle.design_core.specs.Design.{Variant, Design}
-use Rattle.design_core.specs.Slots.{from}
 use Rattle.design_exec.specs.Processes.{process, processes_of}
 use Rattle.check_exec.specs.Premises.{IsSound}
 use Rattle.check_exec.proofs.Instances.{Stands}

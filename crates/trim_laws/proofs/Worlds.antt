@@ -14,7 +14,7 @@ use Rattle.bv_core.specs.declared.reference.Sample.TheVariants.{Known}
 use Rattle.tree_core.specs.Tree.{Leaf, Origin, Input, Register, Whole, value_of}
 use Rattle.tree_core.specs.Fold.{constant}
 use Rattle.exec_core.specs.Block.{Name, Now}
-use Rattle.exec_core.specs.Lists.{EachOf, IsIn, IsNotIn}
+use Rattle.list_core.specs.Lists.{EachOf, IsIn, IsNotIn, from}
 use Rattle.exec_core.specs.Whole.{Place}
 use Rattle.exec_core.specs.Kept.{root}
 use Rattle.exec_core.specs.Trees.{Row}
@@ -22,11 +22,10 @@ use Rattle.exec_core.specs.Run.{starts, slots_in}
 use Rattle.exec_core.specs.Accepted.{Accepted}
 use Rattle.exec_core.specs.States.{OverGivens, CycleAgrees, RunAgrees}
 use Rattle.exec_core.specs.KeptStates.{AreKeptStates, SameKept}
-use Rattle.exec_core.proofs.Lists.{each_member, each_from}
+use Rattle.list_core.proofs.Lists.{each_member, each_from}
 use Rattle.exec_core.proofs.KeptTrees.{kept_states_suffice}
 use Rattle.design_core.specs.declared.design.Instance.{Instance}
 use Rattle.design_core.specs.Design.{Gens, Design}
-use Rattle.design_core.specs.Slots.{from}
 use Rattle.design_core.specs.Ports.{ports_in, top_signals}
 use Rattle.design_exec.specs.Processes.{Given, Numbered, processes_of}
 use Rattle.net_core.specs.Nodes.{trees_of}
@@ -41,27 +40,29 @@ use Rattle.stim_text.specs.Stimulus.{Stimulus}
 use Rattle.sim_hist.specs.Run.{run_samples}
 use Rattle.check_exec.proofs.Facts.{in_index}
 use Rattle.check_exec.proofs.Ready.{runs_of_accepted_agree}
-use Rattle.dep_order.specs.Results.{signal_at}
-use Rattle.dep_order.proofs.Ready.{orders_are_accepted}
+use Rattle.place_core.specs.Orders.{signal_at}
+use Rattle.check_exec.proofs.Orders.{orders_are_accepted}
 use Rattle.world_core.specs.declared.mode.Mode.{Mode}
 use Rattle.world_core.specs.World.{IsUnset, Shows, Shown, shown_by, AreSame}
 use Rattle.world_core.specs.Sites.{Site, sites_in_order, sites_at, instances_with, slot_count, spots_of, all_spots}
 use Rattle.world_core.specs.Kept.{block_row, asked_trees, name_tree, IsKeptIn, kept_trees, is_kept}
 use Rattle.world_core.specs.Source.{settled_in, visit_in, unset_at, tree_among, tree_before, kept_status, status_at, shows_of, rows_named, source_world}
-use Rattle.world_core.proofs.Listing.{map_in, flat_in, filter_from, from_at, from_length}
+use Rattle.list_core.proofs.Listing.{map_in, got_in, flat_in, filter_from, from_at, from_length}
+use Rattle.world_core.proofs.Kept.{number_told, has_told}
+use Rattle.world_core.proofs.Seen.{same_worlds_seen_alike}
 use Rattle.lower_core.specs.Shape.{gen_part, instance_part, slot_part}
 use Rattle.lower_core.specs.Lowered.{HasNode, NextTold}
 use Rattle.trace_world.specs.TraceWorld.{gen_of, found_by, is_on, status_by, value_by, shows_by, trace_world}
 use Rattle.trim_core.specs.Trimmed.{FoundTold, NameTold, NextKept, bare_slot, IsTrimmed}
 use Rattle.world_laws.proofs.SitesOf.{order_slots, ordered}
-use Rattle.trim_laws.specs.Worlds.{IsRunOf, WorldsAreSame}
+use Rattle.trim_laws.specs.Worlds.{IsRunOf, WorldsAreSame, WorldsAreSeenAlike}
 use Rattle.world_laws.proofs.RowsFit.{Port, IsFirst, inputs_first}
 use Rattle.trim_laws.proofs.Running.{rows_of_stimulus}
 use Rattle.trim_laws.proofs.States.{state_in, GivensKept, are_states}
 use Rattle.world_laws.proofs.Spots.{not_there}
 use Rattle.trim_laws.proofs.Visits.{mapped_from, row_of_enable, SpotUnset, SpotTells, spot_unset, spot_tells, state_at, CyclesAre, cycles_are, kept_values}
 use Rattle.trim_laws.proofs.Tables.{variant_places, slot_instances, RowIs, row_is, enable_is, CellIs, cell_is}
-use Rattle.trim_laws.proofs.Values.{number_told, has_told, found_status, removed_status, found_value, enable_on}
+use Rattle.trim_laws.proofs.Values.{found_status, removed_status, found_value, enable_on}
 
 -- ---- lists
 
@@ -91,11 +92,6 @@ paths_same (r ∷ list) = ap (λ l. r.path ∷ l) (paths_same list)
 gens_same : (gens : Gens) → map gen_of (map gen_part gens) ≡ gens
 gens_same [] = refl
 gens_same (g ∷ gens) = ap (λ l. g ∷ l) (gens_same gens)
-
-got_in : {A : Type 0} (xs : List A) (k : ℕ) (x : A) → slice_get xs k ≡ Some x → IsIn x xs
-got_in [] k x e = absurd (none-some x e)
-got_in (y ∷ xs) zero x e = inl (sym (same_Some y x e))
-got_in (y ∷ xs) (suc k) x e = inr (got_in xs k x e)
 
 same_length : (kept : Whole → Type 0) (states others : List (Origin → Bits)) → SameKept kept states others → length states ≡ length others
 same_length kept [] [] h = refl
@@ -128,16 +124,16 @@ module _ (d : Design) (parts : TableParts) (places_same : (v : ℕ) → (shows_b
 -- ---- a compiled design and its run
 
 module _ (d : Design) (pairs : List (ℕ × ℕ)) (mode : Mode) (net : NetParts) (parts : TableParts) (stim : Stimulus) (run : List (Place → Bits)) (h : IsRunOf d pairs mode net parts stim run) where
-  abbrev order : List Place
+  abbrev pub order : List Place
   order = h.order.order
 
-  count_same : length pairs ≡ length order
+  pub count_same : length pairs ≡ length order
   count_same = sym (length-map pairs (signal_at d)) ∙ ap length h.order.signals ∙ length-map order (λ (p : Place). Some p)
 
-  trimmed : IsTrimmed d (length order) mode net parts
+  pub trimmed : IsTrimmed d (length order) mode net parts
   trimmed = subst (λ n. IsTrimmed d n mode net parts) count_same h.trimmed
 
-  ok : Accepted (processes_of d) order
+  pub ok : Accepted (processes_of d) order
   ok = orders_are_accepted d pairs h.sound h.order
 
   -- a kept tree has a node, and a node's tree is kept
@@ -174,10 +170,10 @@ module _ (d : Design) (pairs : List (ℕ × ℕ)) (mode : Mode) (net : NetParts)
   over_roots = each_from (OverGivens (processes_of d)) (asked_trees d (length order) mode) (λ t i.
       let node = kept_node t (root t i) in subst (OverGivens (processes_of d)) node.1.tree (trimmed.is_kept.over node.0 node.1.within))
 
-  all : RunAgrees (processes_of d) (length order) (rows_named (ports_in false (top_signals d)) stim.rows)
+  pub all : RunAgrees (processes_of d) (length order) (rows_named (ports_in false (top_signals d)) stim.rows)
   all = runs_of_accepted_agree d h.sound order h.order.in_order (rows_named (ports_in false (top_signals d)) stim.rows) (rows_of_stimulus d stim h.sound h.stimulus h.inputs)
 
-  abbrev others : List (Origin → Bits)
+  abbrev pub others : List (Origin → Bits)
   others = all.states
 
   states : AreKeptStates (processes_of d) (length order) (IsKeptIn d (length order) mode) (starts (processes_of d)) (rows_named (ports_in false (top_signals d)) stim.rows) (map (state_in net stim) (from 0 (length stim.rows)))
@@ -188,18 +184,18 @@ module _ (d : Design) (pairs : List (ℕ × ℕ)) (mode : Mode) (net : NetParts)
   same : SameKept (IsKeptIn d (length order) mode) (map (state_in net stim) (from 0 (length stim.rows))) others
   same = kept_states_suffice (processes_of d) order ok (asked_trees d (length order) mode) over_roots (rows_named (ports_in false (top_signals d)) stim.rows) (map (state_in net stim) (from 0 (length stim.rows))) others states all.are_states
 
-  cycles : CyclesAre (processes_of d) (length order) run others
+  pub cycles : CyclesAre (processes_of d) (length order) run others
   cycles = cycles_are (processes_of d) (length order) run others (all.agree run h.run_over others all.are_states)
 
-  as_many : length others ≡ length stim.rows
+  pub as_many : length others ≡ length stim.rows
   as_many = sym (same_length (IsKeptIn d (length order) mode) (map (state_in net stim) (from 0 (length stim.rows))) others same) ∙ length-map (from 0 (length stim.rows)) (state_in net stim) ∙ from_length 0 (length stim.rows)
 
   module _ (t : ℕ) (inside : t < length stim.rows) where
-    agrees : CycleAgrees (processes_of d) (length order) (settled_in run t) (state_at others t)
+    pub agrees : CycleAgrees (processes_of d) (length order) (settled_in run t) (state_at others t)
     agrees = cycles.each t (subst (λ m. t < m) (sym as_many) inside)
 
     -- a node has the value of its tree
-    sample_is : (id : ℕ) (T : Whole) → Stands net.nodes id T → (run_samples net stim).sample t id ≡ Known (value_of (state_at others t) T)
+    pub sample_is : (id : ℕ) (T : Whole) → Stands net.nodes id T → (run_samples net stim).sample t id ≡ Known (value_of (state_at others t) T)
     sample_is id T s =
         ap (λ b. Known b)
         (ap (value_of (state_in net stim t)) s.tree ∙ ap (λ j. value_of (state_in net stim j) T) (let z : t ≡ 0 + t = omega arith in z) ∙ kept_values (IsKeptIn d (length order) mode) (state_in net stim) 0 (length stim.rows) others same t inside T ((trimmed.is_kept.kept T).0 (node_there id T s)))
@@ -370,3 +366,7 @@ module _ (d : Design) (pairs : List (ℕ × ℕ)) (mode : Mode) (net : NetParts)
 pub worlds_are_same : WorldsAreSame
 worlds_are_same d pairs mode net parts stim run h =
     subst (λ n. AreSame (trace_world parts (run_samples net stim)) (source_world d n mode run)) (sym (count_same d pairs mode net parts stim run h)) (same_world d pairs mode net parts stim run h)
+
+pub worlds_are_seen_alike : WorldsAreSeenAlike
+worlds_are_seen_alike d pairs mode net parts stim run h =
+    same_worlds_seen_alike (trace_world parts (run_samples net stim)) (source_world d (length pairs) mode run) (worlds_are_same d pairs mode net parts stim run h)

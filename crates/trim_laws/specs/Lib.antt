@@ -1,2 +1,5 @@
 pub mod Runs
 pub mod Worlds
+pub mod Shown
+pub mod Simulated
+pub mod Fitted

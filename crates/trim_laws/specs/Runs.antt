@@ -9,7 +9,7 @@ use Rattle.design_core.specs.Ports.{ports_in, top_signals}
 use Rattle.design_exec.specs.Processes.{processes_of}
 use Rattle.stim_text.specs.Stimulus.{Stimulus, IsStimulus}
 use Rattle.check_exec.specs.Premises.{IsSound}
-use Rattle.dep_order.specs.Results.{TellsOrder}
+use Rattle.place_core.specs.Orders.{TellsOrder}
 use Rattle.world_core.specs.Source.{rows_named}
 
 -- the inputs of the top, in order

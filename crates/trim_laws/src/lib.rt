@@ -4,4 +4,7 @@
 
 mod laws;
 
-pub use laws::{accepted_designs_run, worlds_are_same};
+pub use laws::{
+    accepted_designs_run, nothing_is_unknown, simulated_are_runs, simulated_traces_fit,
+    worlds_are_same,
+};

@@ -4,3 +4,6 @@ pub mod Scopes
 pub mod Sites
 pub mod Rows
 pub mod Tables
+pub mod Numbers
+pub mod Nodes
+pub mod KeptTables

@@ -6,9 +6,9 @@ use Rattle.std.proofs.lemmas.Fmt.{decimal_injective}
 use Rattle.std.proofs.lemmas.Option.{none-some, same_Some, slice_get_within, get_or_from_slice_get}
 use Rattle.tree_core.specs.Tree.{Leaf, Origin, Input, Whole}
 use Rattle.gen_token.specs.Spelling.{is_name_text}
-use Rattle.exec_core.specs.Lists.{IsIn, IsNotIn, AreApart}
+use Rattle.list_core.specs.Lists.{IsIn, IsNotIn, AreApart}
 use Rattle.exec_core.specs.States.{OverGivens}
-use Rattle.exec_core.proofs.Lists.{each_member}
+use Rattle.list_core.proofs.Lists.{each_member}
 use Rattle.design_core.specs.Design.{Design}
 use Rattle.design_core.specs.Ports.{ports_in, top_signals}
 use Rattle.design_exec.specs.Processes.{Given, processes_of}
@@ -18,7 +18,7 @@ use Rattle.net_core.proofs.TreeLists.{tree_is, trees_length}
 use Rattle.symtab.specs.declared.parts.NodeName.{NodeName}
 use Rattle.check_exec.specs.Premises.{IsSound}
 use Rattle.world_core.specs.declared.mode.Mode.{Mode}
-use Rattle.world_core.proofs.Listing.{map_from}
+use Rattle.list_core.proofs.Listing.{map_from}
 use Rattle.world_laws.proofs.RowsFit.{IsFirst, inputs_first, HasInputName, inputs_named}
 use Rattle.trim_core.specs.Named.{numbered_name, name_of, named, node_names}
 use Rattle.trim_core.specs.Trimmed.{IsKeptNet}

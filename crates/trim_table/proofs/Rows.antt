@@ -11,13 +11,13 @@ use Rattle.bv_core.specs.declared.reference.Binding.TheVariants.{Value, Unset, R
 use Rattle.tree_core.specs.Tree.{Whole}
 use Rattle.tree_core.specs.Width.{tree_width}
 use Rattle.exec_core.specs.Block.{Name}
-use Rattle.exec_core.specs.Lists.{IsIn}
+use Rattle.list_core.specs.Lists.{IsIn}
 use Rattle.exec_core.specs.Trees.{Row}
 use Rattle.exec_core.specs.Paths.{HasTree, RowChecked}
 use Rattle.exec_core.specs.Whole.{Place}
 use Rattle.exec_core.specs.Design.{moved, signals_of, width_in}
 use Rattle.exec_core.specs.Accepted.{Accepted}
-use Rattle.exec_core.proofs.Lists.{each_member}
+use Rattle.list_core.proofs.Lists.{each_member}
 use Rattle.exec_core.proofs.Sources.{process_checked}
 use Rattle.exec_core.proofs.Moving.{moved_fits}
 use Rattle.exec_core.proofs.Folded.{nodes_by_node}

@@ -2,17 +2,17 @@
 use Rattle.std.proofs.Common.{◌≡◌, ℕ, Bool, true, false, true≢false, ◌||◌, bytes_eq, List, [], ◌∷◌, ◌++◌, map, None, inl, inr, refl, sym, ap, ap₂, ◌∙◌, subst}
 use Rattle.std.proofs.lemmas.List.{map-append}
 use Rattle.exec_core.specs.Block.{Name}
-use Rattle.exec_core.specs.Lists.{EachOf, IsIn, IsNotIn, AreApart}
+use Rattle.list_core.specs.Lists.{EachOf, IsIn, IsNotIn, AreApart}
+use Rattle.list_core.proofs.Lists.{apart_both}
 use Rattle.design_core.specs.declared.variant.Signal.{Signal}
 use Rattle.design_core.specs.Design as design
 use Rattle.design_core.specs.Design.{Block, Variant}
 use Rattle.design_core.specs.Slots.{lets_of, let_of, else_lets, scope}
-use Rattle.check_core.specs.Known.{Known, none, with}
+use Rattle.names.specs.Known.{Known, none, with}
 use Rattle.check_core.specs.Names.{any_kind, named, child_named, signal_thing, lets_in, taken_in, duplicate_name}
-use Rattle.check_core.specs.Statements.{inside, statements, else_statements}
+use Rattle.design_core.specs.Statements.{inside, statements, else_statements}
 use Rattle.check_exec.proofs.Facts.{name_same, in_any}
 use Rattle.check_exec.proofs.Names.{Differ, none_taken, signals_differ, lets_differ}
-use Rattle.trim_table.proofs.Apart.{both_apart}
 
 abbrev Thing : Type 0
 Thing = ℕ × Name
@@ -86,7 +86,7 @@ pub scope_apart : (v : Variant) (b : Block) → IsIn b v.blocks → duplicate_na
 scope_apart v b at e =
     let lets = lets_differ v b at e in
     let names : map thing_name (lets_in (statements b.body)) ≡ lets_of b.body = body_lets b.body in
-    both_apart (map (λ (s : Signal). s.name) v.signals) (lets_of b.body)
+    apart_both (map (λ (s : Signal). s.name) v.signals) (lets_of b.body)
     (signals_apart v e)
     (subst AreApart names (differ_apart (taken_in v) (lets_in (statements b.body)) lets))
     (each_signal v.signals (λ s i. subst (IsNotIn s.name) names (not_among (taken_in v) s.name (signal_taken v s i) (lets_in (statements b.body)) (none_taken (taken_in v) (lets_in (statements b.body)) lets))))

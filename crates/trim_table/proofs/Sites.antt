@@ -3,8 +3,8 @@ use Rattle.std.proofs.Common.{◌≡◌, ℕ, ◌<◌, ◌==◌, length, Some, N
 use Rattle.std.specs.Prelude.{slice_get}
 use Rattle.std.specs.List.{enumerate_from}
 use Rattle.std.proofs.lemmas.Option.{slice_get_within}
-use Rattle.exec_core.specs.Lists.{EachOf, IsIn, AreApart}
-use Rattle.exec_core.proofs.Lists.{each_member}
+use Rattle.list_core.specs.Lists.{EachOf, IsIn, AreApart}
+use Rattle.list_core.proofs.Lists.{each_member}
 use Rattle.design_core.specs.declared.design.Instance.{Instance}
 use Rattle.design_core.specs.Design.{AreInRange, Block, Variant, Design}
 use Rattle.design_core.specs.Slots.{Head, heads, scope, variant_heads}
@@ -14,7 +14,7 @@ use Rattle.check_exec.specs.Premises.{IsSound}
 use Rattle.check_exec.proofs.Facts.{each_at, each_map, each_flat, from_zero, in_index, any_in}
 use Rattle.check_exec.proofs.Instances.{Stands, clean}
 use Rattle.world_core.specs.Sites.{Site, sites_in_block, sites_in, sites_of}
-use Rattle.world_core.proofs.Listing.{flat_in}
+use Rattle.list_core.proofs.Listing.{flat_in}
 use Rattle.trim_table.proofs.Scopes.{scope_apart}
 
 pub record SiteFits (d : Design) (s : Site) : Type 0 where

@@ -14,12 +14,11 @@ use Rattle.tree_core.proofs.Same.{both_true}
 use Rattle.tree_core.proofs.Folding.{values_fit}
 use Rattle.tree_core.proofs.Samples.{some_given}
 use Rattle.exec_core.specs.Block.{Name}
-use Rattle.exec_core.specs.Lists.{IsIn, IsNotIn, AreApart}
+use Rattle.list_core.specs.Lists.{IsIn, IsNotIn, AreApart, from}
 use Rattle.exec_core.specs.Whole.{Place}
-use Rattle.exec_core.proofs.Lists.{each_member}
+use Rattle.list_core.proofs.Lists.{each_member}
 use Rattle.design_core.specs.declared.design.Instance.{Instance}
 use Rattle.design_core.specs.Design.{Gens, IsInRange, AreInRange, Variant, Design}
-use Rattle.design_core.specs.Slots.{from}
 use Rattle.design_core.specs.WellFormed.{AreFew, IsVariant}
 use Rattle.design_exec.specs.Processes.{Numbered}
 use Rattle.net_core.specs.Nodes.{Shape, tree_of, width_at}
@@ -37,12 +36,12 @@ use Rattle.symtab.specs.Places.{places_from, places}
 use Rattle.check_exec.specs.Premises.{IsSound}
 use Rattle.check_exec.proofs.Facts.{in_at, any_in}
 use Rattle.check_exec.proofs.Givens.{paths_apart}
-use Rattle.dep_order.specs.Results.{signal_at, TellsOrder}
-use Rattle.dep_order.proofs.Ready.{orders_are_accepted}
+use Rattle.place_core.specs.Orders.{signal_at, TellsOrder}
+use Rattle.check_exec.proofs.Orders.{orders_are_accepted}
 use Rattle.world_core.specs.declared.mode.Mode.{Mode}
 use Rattle.world_core.specs.Sites.{Site, slot_count, sites_of, sites_in_order, instances_with, Spot, spots_of, all_spots}
 use Rattle.world_core.specs.Kept.{enable_tree}
-use Rattle.world_core.proofs.Listing.{map_in, map_from, flat_in, from_in, from_length, no_more}
+use Rattle.list_core.proofs.Listing.{map_in, map_from, flat_in, from_in, from_length, no_more}
 use Rattle.world_laws.proofs.SitesOf.{order_slots, ordered}
 use Rattle.lower_core.specs.Shape.{gen_part, variant_part, instance_part, slot_part}
 use Rattle.trim_core.specs.Named.{named}

@@ -5,7 +5,7 @@ use Rattle.net_core.specs.Nets.{NetParts}
 use Rattle.symtab.specs.declared.parts.TableParts.{TableParts}
 use Rattle.symtab.specs.Shape.{IsTable}
 use Rattle.check_exec.specs.Premises.{IsSound}
-use Rattle.dep_order.specs.Results.{TellsOrder}
+use Rattle.place_core.specs.Orders.{TellsOrder}
 use Rattle.world_core.specs.declared.mode.Mode.{Mode}
 use Rattle.trim_core.specs.Trimmed.{IsKeptNet, TellsDesign}
 

@@ -1,1 +1,3 @@
 pub mod Laws
+pub mod KeptTables
+pub mod Sample

@@ -1,6 +1,6 @@
-//! The law that the table of a compiled design keeps every rule of a symbol table. This crate computes nothing.
+//! Laws: the table of a compiled design keeps every rule of a symbol table, and is the table of its design. This crate computes nothing.
 #![tactic(auto)]
 
 mod laws;
 
-pub use laws::trimmed_are_tables;
+pub use laws::{compiled_tables_are_kept, tells_the_sample, trimmed_are_tables};

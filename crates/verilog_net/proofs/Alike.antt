@@ -5,19 +5,20 @@ use Rattle.tree_core.specs.Tree.{Whole}
 use Rattle.exec_core.specs.Kept.{next_in}
 use Rattle.design_core.specs.declared.Ports.{Ports}
 use Rattle.design_core.specs.Design.{Design}
-use Rattle.design_core.specs.Slots.{from}
+use Rattle.list_core.specs.Lists.{from}
 use Rattle.design_core.specs.Ports.{ports_in, top_signals}
 use Rattle.design_exec.specs.Processes.{processes_of}
 use Rattle.net_core.specs.Nodes.{Shape, shape_at}
-use Rattle.net_core.specs.Nets.{NetParts}
+use Rattle.net_core.specs.Nets.{NetParts, next_node}
 use Rattle.check_exec.specs.Premises.{IsSound}
 use Rattle.world_core.specs.declared.mode.Mode.{Mode}
 use Rattle.trim_core.specs.Trimmed.{IsKeptNet}
 use Rattle.verilog_out.specs.Syntax.{Numbered, Step, Module}
 use Rattle.verilog_out.specs.Spelling.{module_text}
-use Rattle.verilog_out.specs.Printed.{identifier_at, declared, assigned, output_assigned, next_of, is_register, stepped, module_of, printed}
-use Rattle.verilog_net.specs.KeptNet.{net_of, top_outputs, kept_net, AreAlike, CompiledAreKept}
-use Rattle.verilog_net.proofs.Nodes.{nodes_are}
+use Rattle.verilog_out.specs.Printed.{identifier_at, declared, assigned, output_assigned, is_register, stepped, module_of, printed}
+use Rattle.trim_core.specs.KeptNet.{net_of, top_outputs, kept_net}
+use Rattle.verilog_net.specs.Printing.{AreAlike, CompiledAreKept}
+use Rattle.trim_table.proofs.Nodes.{nodes_are}
 use Rattle.verilog_net.proofs.Outputs.{outputs_are}
 use Rattle.verilog_net.proofs.Nexts.{nexts_are}
 
@@ -42,9 +43,9 @@ module _ (v w : NetParts) (ports : Ports) (alike : AreAlike v w) where
   unfolding step_by
   step_same i =
       by_test (is_register (shape_at v.nodes i)) refl
-      ∙ ap (λ (ns : List Shape). step_by (is_register (shape_at ns i)) ns i (next_of w.nexts i)) alike.nodes
+      ∙ ap (λ (ns : List Shape). step_by (is_register (shape_at ns i)) ns i (next_node w.nexts i)) alike.nodes
     where
-      by_test : (b : Bool) → is_register (shape_at v.nodes i) ≡ b → step_by b v.nodes i (next_of v.nexts i) ≡ step_by b v.nodes i (next_of w.nexts i)
+      by_test : (b : Bool) → is_register (shape_at v.nodes i) ≡ b → step_by b v.nodes i (next_node v.nexts i) ≡ step_by b v.nodes i (next_node w.nexts i)
       by_test true e = ap (λ k. step_by true v.nodes i k) (alike.nexts i e)
       by_test false e = refl
 

@@ -8,22 +8,23 @@ use Rattle.bv_core.specs.Value.{Bits}
 use Rattle.tree_core.specs.Tree as tree
 use Rattle.tree_core.specs.Tree.{Leaf, Origin, Whole, value_of}
 use Rattle.exec_core.specs.Block.{Name}
-use Rattle.exec_core.specs.Lists.{EachOf, IsIn}
+use Rattle.list_core.specs.Lists.{EachOf, IsIn}
 use Rattle.exec_core.specs.Whole.{Place}
 use Rattle.exec_core.specs.Design.{place}
 use Rattle.exec_core.specs.Run.{next_value}
 use Rattle.exec_core.specs.Accepted.{GivenFits}
 use Rattle.exec_core.specs.States.{CycleAgrees}
-use Rattle.exec_core.proofs.Lists.{each_member}
+use Rattle.list_core.proofs.Lists.{each_member}
 use Rattle.exec_core.proofs.Cycles.{settled_agrees}
 use Rattle.design_core.specs.declared.Ports.{Ports}
 use Rattle.design_core.specs.declared.design.Instance.{Instance}
 use Rattle.design_core.specs.declared.variant.Signal.{Signal}
 use Rattle.design_core.specs.Design.{Design}
-use Rattle.design_core.specs.Ports.{bits, is_port, ports_in, top_signals}
+use Rattle.design_core.specs.Ports.{is_port, ports_in, top_signals}
+use Rattle.design_core.specs.Widths.{bits}
 use Rattle.design_exec.specs.Processes.{processes_of, is_signal_of, signals_in}
-use Rattle.dep_order.specs.Results.{Pair, signal_at}
-use Rattle.dep_order.proofs.Ready.{orders_are_accepted}
+use Rattle.place_core.specs.Orders.{Pair, signal_at}
+use Rattle.check_exec.proofs.Orders.{orders_are_accepted}
 use Rattle.net_core.specs.Nodes.{Register, no_shape, node_tree, trees_of, tree_of}
 use Rattle.net_core.specs.Nets.{NetParts}
 use Rattle.net_core.proofs.TreeLists.{tree_is}

@@ -3,13 +3,14 @@ use Rattle.std.proofs.Common.{◌≡◌, ℕ, Bool, true, false, List, [], ◌�
 use Rattle.std.specs.Prelude.{slice_get}
 use Rattle.std.proofs.lemmas.List.{map-append}
 use Rattle.exec_core.specs.Block.{Name}
-use Rattle.exec_core.specs.Lists.{EachOf, IsIn, IsNotIn, AreApart}
+use Rattle.list_core.specs.Lists.{EachOf, IsIn, IsNotIn, AreApart}
 use Rattle.design_core.specs.declared.Ports.{Ports}
 use Rattle.design_core.specs.declared.variant.Signal.{Signal}
 use Rattle.design_core.specs.declared.variant.Kind.{Kind}
 use Rattle.design_core.specs.declared.variant.Kind.TheVariants as kind
 use Rattle.design_core.specs.Design.{Variant, Design}
-use Rattle.design_core.specs.Ports.{bits, is_port, ports_in, top_signals}
+use Rattle.design_core.specs.Ports.{is_port, ports_in, top_signals}
+use Rattle.design_core.specs.Widths.{bits}
 use Rattle.net_core.specs.Nodes.{Shape, width_at}
 use Rattle.net_core.specs.Nets.{NetParts}
 use Rattle.check_exec.specs.Premises.{IsSound}
@@ -17,11 +18,11 @@ use Rattle.check_exec.proofs.Instances.{Stands, clean}
 use Rattle.world_core.specs.declared.mode.Mode.{Mode}
 use Rattle.lower_core.specs.Lowered.{OutputsTold}
 use Rattle.trim_core.specs.Trimmed.{IsKeptNet}
-use Rattle.trim_table.proofs.Apart.{both_apart}
+use Rattle.list_core.proofs.Lists.{apart_both}
 use Rattle.trim_table.proofs.Scopes.{signals_apart}
 use Rattle.verilog_out.specs.Printed.{FitsPorts}
 use Rattle.design_net.proofs.Inputs.{inputs_among}
-use Rattle.verilog_net.specs.KeptNet.{HasPorts}
+use Rattle.verilog_net.specs.Printing.{HasPorts}
 
 abbrev Port : Type 0
 Port = Name × ℕ
@@ -101,7 +102,7 @@ top_apart d sound = by_variant (slice_get d.variants 0) refl
 ports_apart : (signals : List Signal) → AreApart (map signal_name signals) → AreApart (map port_name (ports_in false signals ++ ports_in true signals))
 ports_apart signals h =
     subst AreApart (sym (map-append port_name (ports_in false signals) (ports_in true signals)))
-    (both_apart (port_names false signals) (port_names true signals) (names_apart false signals h) (names_apart true signals h) (names_crossed signals h))
+    (apart_both (port_names false signals) (port_names true signals) (names_apart false signals h) (names_apart true signals h) (names_crossed signals h))
 
 -- ---- the outputs
 

@@ -1,5 +1,3 @@
-mod Numbers
-mod Nodes
 mod Outputs
 mod Nexts
 pub mod Alike

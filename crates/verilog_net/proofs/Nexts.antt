@@ -8,50 +8,49 @@ use Rattle.std.proofs.lemmas.Bool.Decides.{nat_tests}
 use Rattle.bv_core.specs.Value.{Bits}
 use Rattle.tree_core.specs.Tree as tree
 use Rattle.tree_core.specs.Tree.{Leaf, Origin, Whole}
-use Rattle.exec_core.specs.Lists.{IsIn}
+use Rattle.list_core.specs.Lists.{IsIn, from}
 use Rattle.exec_core.specs.Whole.{Place}
 use Rattle.exec_core.specs.Design.{next_tree, folded_tree}
 use Rattle.exec_core.specs.Kept.{next_if, next_in}
 use Rattle.exec_core.specs.States.{OverGivens}
-use Rattle.exec_core.proofs.Lists.{each_member}
+use Rattle.list_core.proofs.Lists.{each_member}
 use Rattle.exec_core.proofs.Running.{holder_found}
 use Rattle.design_core.specs.Design.{Design}
-use Rattle.design_core.specs.Slots.{from}
 use Rattle.design_exec.specs.Processes.{Given, processes_of}
 use Rattle.net_core.specs.Nodes.{Shape, Fixed, TopInput, Register, OfOne, OfTwo, OfMux, no_shape, shape_at, tree_at, node_tree, trees_of, tree_of}
 use Rattle.net_core.specs.Builder.{Stands}
-use Rattle.net_core.specs.Nets.{NetParts, NextsFit}
+use Rattle.net_core.specs.Nets.{NetParts, NextsFit, next_node}
 use Rattle.net_core.proofs.TreeLists.{trees_length, tree_is}
 use Rattle.check_exec.specs.Premises.{IsSound}
 use Rattle.check_exec.proofs.Givens.{givens_are_apart}
 use Rattle.world_core.specs.declared.mode.Mode.{Mode}
-use Rattle.world_core.proofs.Listing.{map_from}
+use Rattle.list_core.proofs.Listing.{map_from}
 use Rattle.walk_net.proofs.Nodes.{tree_in, one_node}
 use Rattle.lower_core.specs.Lowered.{HasNext}
 use Rattle.trim_core.specs.Trimmed.{IsKeptNet, NextKept}
-use Rattle.verilog_out.specs.Printed.{is_register, next_of}
+use Rattle.verilog_out.specs.Printed.{is_register}
 use Rattle.verilog_out.proofs.Members.{place_of, from_in}
 use Rattle.verilog_out.proofs.MeansNet as means
-use Rattle.verilog_net.specs.KeptNet.{number_of, origin_of, next_at}
-use Rattle.verilog_net.proofs.Outputs.{stands_at}
+use Rattle.trim_core.specs.KeptNet.{number_of, origin_of, next_at}
+use Rattle.trim_table.proofs.Nodes.{stands_at}
 
 -- ---- what stands beside a number
 
 -- in a list that names each number once
-beside : (ns : List Shape) (nexts : List (ℕ × ℕ)) → NextsFit ns nexts → (i n : ℕ) → IsIn (i, n) nexts → next_of nexts i ≡ n
+beside : (ns : List Shape) (nexts : List (ℕ × ℕ)) → NextsFit ns nexts → (i n : ℕ) → IsIn (i, n) nexts → next_node nexts i ≡ n
 beside ns nexts fit i n among =
     let p = place_of nexts (i, n) among in
-    let q = place_of nexts (i, next_of nexts i) (means.next_in nexts i n among) in
-    let place : q.place ≡ p.place = fit.once q.place p.place i (next_of nexts i) n q.at p.at in
-    let one : ◌≡◌ {A = Option (ℕ × ℕ)} (Some (i, next_of nexts i)) (Some (i, n)) = sym q.at ∙ ap (slice_get nexts) place ∙ p.at in
-    ap (λ (pair : ℕ × ℕ). pair.1) (same_Some (i, next_of nexts i) (i, n) one)
+    let q = place_of nexts (i, next_node nexts i) (means.next_in nexts i n among) in
+    let place : q.place ≡ p.place = fit.once q.place p.place i (next_node nexts i) n q.at p.at in
+    let one : ◌≡◌ {A = Option (ℕ × ℕ)} (Some (i, next_node nexts i)) (Some (i, n)) = sym q.at ∙ ap (slice_get nexts) place ∙ p.at in
+    ap (λ (pair : ℕ × ℕ). pair.1) (same_Some (i, next_node nexts i) (i, n) one)
 
 -- in a list of what numbers are given, each by its own number
-found : (f : ℕ → Option (ℕ × ℕ)) → ((j : ℕ) (pair : ℕ × ℕ) → f j ≡ Some pair → pair.0 ≡ j) → (js : List ℕ) (i n : ℕ) → IsIn i js → f i ≡ Some (i, n) → next_of (filter_map f js) i ≡ n
+found : (f : ℕ → Option (ℕ × ℕ)) → ((j : ℕ) (pair : ℕ × ℕ) → f j ≡ Some pair → pair.0 ≡ j) → (js : List ℕ) (i n : ℕ) → IsIn i js → f i ≡ Some (i, n) → next_node (filter_map f js) i ≡ n
 found f own [] i n m e = absurd m
 found f own (j ∷ js) i n m e = by_found (λ at. found f own js i n at e) (f j) refl m
   where
-    by_test : (IsIn i js → next_of (filter_map f js) i ≡ n) → (pair : ℕ × ℕ) → f j ≡ Some pair → (i ≡ j) ⊎ IsIn i js → (b : Bool) → (pair.0 == i) ≡ b → (if b then pair.1 else next_of (filter_map f js) i) ≡ n
+    by_test : (IsIn i js → next_node (filter_map f js) i ≡ n) → (pair : ℕ × ℕ) → f j ≡ Some pair → (i ≡ j) ⊎ IsIn i js → (b : Bool) → (pair.0 == i) ≡ b → (if b then pair.1 else next_node (filter_map f js) i) ≡ n
     by_test rest pair g k true t =
         let here : j ≡ i = sym (own j pair g) ∙ eqb-true pair.0 i t in
         let both : ◌≡◌ {A = Option (ℕ × ℕ)} (Some pair) (Some (i, n)) = sym g ∙ ap f here ∙ e in
@@ -59,7 +58,7 @@ found f own (j ∷ js) i n m e = by_found (λ at. found f own js i n at e) (f j)
     by_test rest pair g (inl same) false t = absurd (true≢false (sym (eq-eqb pair.0 i (own j pair g ∙ sym same)) ∙ t))
     by_test rest pair g (inr at) false t = rest at
 
-    by_found : (IsIn i js → next_of (filter_map f js) i ≡ n) → (o : Option (ℕ × ℕ)) → f j ≡ o → (i ≡ j) ⊎ IsIn i js → next_of (cons_option o (filter_map f js)) i ≡ n
+    by_found : (IsIn i js → next_node (filter_map f js) i ≡ n) → (o : Option (ℕ × ℕ)) → f j ≡ o → (i ≡ j) ⊎ IsIn i js → next_node (cons_option o (filter_map f js)) i ≡ n
     by_found rest None g (inl same) = absurd (none-some (i, n) (sym g ∙ ap f (sym same) ∙ e))
     by_found rest None g (inr at) = rest at
     by_found rest (Some pair) g k = by_test rest pair g k (pair.0 == i) refl
@@ -119,7 +118,7 @@ module _ (d : Design) (n : ℕ) (mode : Mode) (net : NetParts) (sound : IsSound 
     same : has.id ≡ i
     same = one_node net.nodes kept.is_net.shared has.id i has.register.within within (has.register.tree ∙ sym is)
 
-    left : next_of net.nexts i ≡ has.next
+    left : next_node net.nexts i ≡ has.next
     left = beside net.nodes net.nexts kept.is_net.nexts i has.next (subst (λ j. IsIn (j, has.next) net.nexts) same has.among)
 
     -- whatever stands beside the register's node stands for the tree that it takes next
@@ -132,13 +131,13 @@ module _ (d : Design) (n : ℕ) (mode : Mode) (net : NetParts) (sound : IsSound 
         ∙ ap (option_map (λ (u : Whole). (i, number_of ts u))) (next_is p instance name start there)
         ∙ ap (λ k. Some (i, k)) (stands_at net.nodes kept.is_net.shared has.next _ has.stands)
 
-    pub beside_same : next_of net.nexts i ≡ next_of (filter_map (next_at next ts) (from 0 (length ts))) i
+    pub beside_same : next_node net.nexts i ≡ next_node (filter_map (next_at next ts) (from 0 (length ts))) i
     beside_same =
         let inside : i < length ts = omega (arith, trees_length net.nodes, within) in
         left ∙ sym (found (next_at next ts) (own_number next ts) (from 0 (length ts)) i has.next (from_in 0 (length ts) i (omega arith) (omega (arith, inside))) given)
 
   -- each register of the net is one of the design
-  pub nexts_are : (i : ℕ) → is_register (shape_at net.nodes i) ≡ true → next_of net.nexts i ≡ next_of (filter_map (next_at next ts) (from 0 (length ts))) i
+  pub nexts_are : (i : ℕ) → is_register (shape_at net.nodes i) ≡ true → next_node net.nexts i ≡ next_node (filter_map (next_at next ts) (from 0 (length ts))) i
   nexts_are i e =
       let within = register_within net.nodes i e in
       let r = register_of (shape_at net.nodes i) e in

@@ -1,22 +1,15 @@
 -- The outputs of a net are told by their trees.
-use Rattle.std.proofs.Common.{◌≡◌, ℕ, ◌<◌, List, [], ◌∷◌, length, map, refl, sym, ap, ap₂, ◌∙◌, arith}
+use Rattle.std.proofs.Common.{◌≡◌, ℕ, List, [], ◌∷◌, map, refl, sym, ap₂}
 use Rattle.tree_core.specs.Tree.{Leaf, Whole}
 use Rattle.exec_core.specs.Block.{Name}
 use Rattle.exec_core.specs.Design.{place, folded_tree}
 use Rattle.design_core.specs.Design.{Design}
 use Rattle.design_exec.specs.Processes.{processes_of}
 use Rattle.net_core.specs.Nodes.{Shape, trees_of}
-use Rattle.net_core.specs.Builder.{Stands, AreShared}
-use Rattle.net_core.proofs.TreeLists.{trees_length}
+use Rattle.net_core.specs.Builder.{AreShared}
 use Rattle.lower_core.specs.Lowered.{OutputsTold}
-use Rattle.verilog_net.specs.KeptNet.{number_of}
-use Rattle.verilog_net.proofs.Numbers.{number_is}
-
--- a node that stands for a tree has its number
-pub stands_at : (ns : List Shape) → AreShared ns → (id : ℕ) (t : Whole) → Stands ns id t → number_of (trees_of ns) t ≡ id
-stands_at ns g id t s =
-    let inside : id < length (trees_of ns) = omega (arith, trees_length ns, s.within) in
-    ap (number_of (trees_of ns)) (sym s.tree) ∙ number_is (trees_of ns) g.trees.one_id id inside
+use Rattle.trim_core.specs.KeptNet.{number_of}
+use Rattle.trim_table.proofs.Nodes.{stands_at}
 
 abbrev with_tree : Design → ℕ → Name × ℕ → Name × Whole
 with_tree d n port = (port.0, folded_tree (processes_of d) n (Leaf (place 0 port.0)))

@@ -5,7 +5,7 @@ use Rattle.tree_core.specs.Tree as tree
 use Rattle.tree_core.specs.Tree.{Origin}
 use Rattle.tree_core.specs.Width.{GivesWidths}
 use Rattle.exec_core.specs.Block.{Name}
-use Rattle.exec_core.specs.Lists.{EachOf, IsIn}
+use Rattle.list_core.specs.Lists.{EachOf, IsIn}
 use Rattle.exec_core.specs.Whole.{Place}
 use Rattle.exec_core.specs.Design.{place}
 use Rattle.exec_core.specs.Run.{Settled, next_value}
@@ -13,7 +13,7 @@ use Rattle.exec_core.specs.States.{Gives}
 use Rattle.design_core.specs.declared.Ports.{Ports}
 use Rattle.design_core.specs.Design.{Design}
 use Rattle.design_exec.specs.Processes.{processes_of}
-use Rattle.dep_order.specs.Results.{Pair, TellsOrder}
+use Rattle.place_core.specs.Orders.{Pair, TellsOrder}
 use Rattle.net_core.specs.Nodes.{Register}
 use Rattle.net_core.specs.Nets.{NetParts}
 use Rattle.check_exec.specs.Premises.{IsSound}
@@ -25,7 +25,8 @@ use Rattle.verilog_out.specs.Printed.{printed}
 use Rattle.verilog_out.specs.Reading.{IsModule}
 use Rattle.verilog_out.specs.Meaning.{name_of, Meets}
 use Rattle.verilog_out.specs.ReadBack.{HaveNames, AreGiven}
-use Rattle.verilog_net.specs.KeptNet.{kept_net, HasPorts}
+use Rattle.trim_core.specs.KeptNet.{kept_net}
+use Rattle.verilog_net.specs.Printing.{HasPorts}
 
 -- an accepted design with an order, compiled; the ports of its top; and a module of Verilog that has the text of its net
 pub record IsPrintedAs (d : Design) (pairs : List Pair) (mode : Mode) (net : NetParts) (ports : Ports) (m : Module) : Type 0 where

@@ -1,3 +1,3 @@
-pub mod KeptNet
+pub mod Printing
 pub mod Cycles
 pub mod Sample

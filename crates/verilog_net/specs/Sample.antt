@@ -7,7 +7,7 @@ use Rattle.design_exec.specs.Sample.{elaborated}
 use Rattle.world_core.specs.declared.mode.Mode.TheVariants.{Opt}
 use Rattle.world_core.specs.Sample.{driven}
 use Rattle.verilog_out.specs.Printed.{printed}
-use Rattle.verilog_net.specs.KeptNet.{kept_net}
+use Rattle.trim_core.specs.KeptNet.{kept_net}
 
 pub top_names : have_names (codes "Top") ((codes "x", 4) ∷ []) ((codes "y", 4) ∷ []) ≡ true
 unfolding is_name

@@ -1,4 +1,4 @@
-ghost use Rattle.verilog_net.specs.KeptNet.{CompiledAreKept, DesignsMeanTheirNets};
+ghost use Rattle.verilog_net.specs.Printing.{CompiledAreKept, DesignsMeanTheirNets};
 ghost use Rattle.verilog_net.specs.Cycles.{ModulesComputeSources};
 ghost use Rattle.verilog_net.specs.Sample.{design_is_printed};
 

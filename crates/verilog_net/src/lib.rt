@@ -1,6 +1,6 @@
 //! The Verilog of an accepted design: the text of its compiled net.
 //!
-//! `specs/KeptNet` defines that net, by the trees that are kept.
+//! That net is defined by the trees that are kept, as `kept_net` of `trim_core`.
 #![tactic(auto)]
 
 mod laws;

@@ -1,17 +1,20 @@
+//! An accepted design as a module of Verilog: compiled, and printed with the ports of its top.
+
 ghost use Rattle.std.specs.Prelude.{◌≡◌, ◌≤◌, None, OnOk, OnErr, IsErrOf, length};
 ghost use Rattle.io_edge.specs.Faults.{Rose};
 ghost use Rattle.io_edge.specs.Taken.{Appends, AppendsFront};
 ghost use Rattle.design_core.specs.DesignView.{design_of};
 ghost use Rattle.check_core.specs.Verdict.{verdict};
-ghost use Rattle.dep_order.specs.Results.{TellsOrder};
+ghost use Rattle.place_core.specs.Orders.{TellsOrder};
 ghost use Rattle.verilog_out.specs.Printed.{printed};
-ghost use Rattle.verilog_net.specs.KeptNet.{kept_net, HasPorts};
+ghost use Rattle.trim_core.specs.KeptNet.{kept_net};
+ghost use Rattle.verilog_net.specs.Printing.{HasPorts};
 
-use dep_order::Order;
 use design_core::{Design, Ports};
 use design_net::compile;
 use io_edge::Sink;
 use lower_core::Mode;
+use place_core::Order;
 use sink_text::SinkEnd;
 use std::alloc::Global;
 use verilog_out::print_net;
@@ -34,6 +37,6 @@ pub fn write_verilog<S: Sink>(
     ensures failed { IsErrOf result SinkEnd.Failed → Rose (S.fault_count out.old) (S.fault_count out.new) }
     ensures later { S.fault_count out.old ≤ S.fault_count out.new }
 {
-    let (net, _table) = compile(alloc, design, order, mode)?;
-    print_net(alloc, &net, ports, out)
+    let compiled = compile(alloc, design, order, mode)?;
+    print_net(alloc, &compiled.net, ports, out)
 }

@@ -7,10 +7,9 @@ use Rattle.bv_core.specs.Value.{Bits}
 use Rattle.tree_core.specs.Tree as tree
 use Rattle.tree_core.specs.Width.{tree_width, IsWhole, GivesWidths}
 use Rattle.tree_core.proofs.Folding.{values_fit}
-use Rattle.exec_core.specs.Lists.{IsIn}
-use Rattle.exec_core.proofs.Lists.{each_member, each_from, in_left, in_right}
-use Rattle.exec_core.proofs.Folded.{map_in}
-use Rattle.design_core.specs.Slots.{from}
+use Rattle.list_core.specs.Lists.{IsIn, from}
+use Rattle.list_core.proofs.Lists.{each_member, each_from, in_left, in_right, in_cases}
+use Rattle.list_core.proofs.Listing.{map_in}
 use Rattle.design_core.specs.declared.ports.Ports.{Ports}
 use Rattle.net_core.specs.Nodes.{Shape, Fixed, TopInput, Register, OfOne, OfTwo, OfMux, no_shape, shape_at, node_tree, trees_of, tree_of, width_at, OperandsBelow}
 use Rattle.net_core.specs.Nets.{NetParts, IsNet, equation}
@@ -20,7 +19,7 @@ use Rattle.verilog_out.specs.Syntax.{Numbered, Expression, Literal, Choose, Decl
 use Rattle.verilog_out.specs.Printed.{identifier_of, identifier_at, one_printed, two_printed, expression_of, declaration_of, declared, assigned, output_assigned, module_of, FitsPorts}
 use Rattle.verilog_out.specs.Meaning.{name_of, meaning, ExpressionFits, declared_name, names_of, Holds, Meets}
 use Rattle.verilog_out.specs.ReadBack.{by_number, IsGiven, AreGiven, MeetsNet}
-use Rattle.verilog_out.proofs.Members.{in_joined, in_mapped, in_found, found_in, in_from, from_in, place_of}
+use Rattle.verilog_out.proofs.Members.{in_mapped, in_found, found_in, in_from, from_in, place_of}
 use Rattle.verilog_out.proofs.Once.{number_of}
 use Rattle.verilog_out.proofs.Values.{one_value, one_fits, two_value, two_fits}
 
@@ -208,9 +207,9 @@ module _ (net : NetParts) (ports : Ports) (is : IsNet net) (fits : FitsPorts net
       width_of_name : (p : List ℕ × ℕ) → IsIn p (names_of m) → (W p.0).width ≡ p.1
       width_of_name p h =
           ⊎_elim
-          (λ i. ⊎_elim (λ a. each_member (λ (port : List ℕ × ℕ). (W port.0).width ≡ port.1) ports.inputs meets.inputs p a) (λ b. output_width p b) (in_joined p ports.inputs ports.outputs i))
+          (λ i. ⊎_elim (λ a. each_member (λ (port : List ℕ × ℕ). (W port.0).width ≡ port.1) ports.inputs meets.inputs p a) (λ b. output_width p b) (in_cases p ports.inputs ports.outputs i))
           (λ d. declared_width p d)
-          (in_joined p (ports.inputs ++ ports.outputs) _ h)
+          (in_cases p (ports.inputs ++ ports.outputs) _ h)
 
       node_holds : (a : Assignment) → IsIn a (filter_map (assigned ns) numbers) → Holds m W a
       node_holds a h =
@@ -240,5 +239,5 @@ module _ (net : NetParts) (ports : Ports) (is : IsNet net) (fits : FitsPorts net
       pub to_module : Meets m W
       to_module = record {
         widths = each_from _ (names_of m) width_of_name;
-        assignments = each_from _ m.assignments (λ a h. ⊎_elim (node_holds a) (output_holds a) (in_joined a (filter_map (assigned ns) numbers) _ h));
+        assignments = each_from _ m.assignments (λ a h. ⊎_elim (node_holds a) (output_holds a) (in_cases a (filter_map (assigned ns) numbers) _ h));
       }

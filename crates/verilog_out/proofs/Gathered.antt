@@ -6,7 +6,7 @@ use Rattle.io_edge.specs.Taken.{Appends, AppendsFront}
 use Rattle.sink_text.specs.Waiting.{Passes}
 use Rattle.sink_text.proofs.Passing.{front_first, end_passes, end_front}
 use Rattle.bv_core.specs.declared.reference.NodeId.{NodeId}
-use Rattle.design_core.specs.Slots.{from}
+use Rattle.list_core.specs.Lists.{from}
 use Rattle.design_core.specs.declared.ports.Ports.{Ports}
 use Rattle.net_core.specs.Nodes.{Shape}
 use Rattle.net_core.specs.Nets.{NetParts, outputs_of, OutputsFit}

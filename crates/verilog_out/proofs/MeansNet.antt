@@ -5,16 +5,15 @@ use Rattle.std.proofs.lemmas.Option.{slice_get-get_or, get_or_from_slice_get, sl
 use Rattle.bv_core.specs.Value.{Bits}
 use Rattle.tree_core.specs.Tree as tree
 use Rattle.tree_core.specs.Width.{tree_width}
-use Rattle.exec_core.specs.Lists.{IsIn}
-use Rattle.exec_core.proofs.Folded.{map_in}
-use Rattle.design_core.specs.Slots.{from}
+use Rattle.list_core.specs.Lists.{IsIn, from}
+use Rattle.list_core.proofs.Listing.{map_in}
 use Rattle.design_core.specs.declared.ports.Ports.{Ports}
 use Rattle.net_core.specs.Nodes.{Shape, Fixed, TopInput, Register, OfOne, OfTwo, OfMux, no_shape, shape_at, node_tree, trees_of, tree_of, width_at}
 use Rattle.net_core.specs.Nets as nets
-use Rattle.net_core.specs.Nets.{NetParts, IsNet}
+use Rattle.net_core.specs.Nets.{NetParts, IsNet, next_node}
 use Rattle.net_core.proofs.TreeLists.{tree_is}
 use Rattle.verilog_out.specs.Syntax.{Numbered, Reg, Step}
-use Rattle.verilog_out.specs.Printed.{identifier_at, declaration_of, declared, next_of, is_register, stepped, module_of, printed, FitsPorts}
+use Rattle.verilog_out.specs.Printed.{identifier_at, declaration_of, declared, is_register, stepped, module_of, printed, FitsPorts}
 use Rattle.verilog_out.specs.ReadBack.{HaveNames, Means, PrintedMeansNet}
 use Rattle.verilog_out.proofs.Members.{in_mapped, in_found, found_in, in_from, from_in, at_place, place_of}
 use Rattle.verilog_out.proofs.Once.{declared_once}
@@ -46,18 +45,18 @@ declared_start j w i width start (OfMux c a b) e = cc
 
 record SteppedAs (ns : List Shape) (nexts : List (ℕ × ℕ)) (i : ℕ) (b : Bool) (step : Step) : Type 0 where
   register : b ≡ true
-  is : step ≡ record { register = Numbered i; next = identifier_at ns (next_of nexts i) }
+  is : step ≡ record { register = Numbered i; next = identifier_at ns (next_node nexts i) }
 
-stepped_as : (ns : List Shape) (nexts : List (ℕ × ℕ)) (i : ℕ) (b : Bool) (step : Step) → (if b then Some (record { register = Numbered i; next = identifier_at ns (next_of nexts i) }) else None) ≡ Some step → SteppedAs ns nexts i b step
-stepped_as ns nexts i true step e = record { register = refl; is = let same : ◌≡◌ {A = Step} (record { register = Numbered i; next = identifier_at ns (next_of nexts i) }) step = cc in sym same }
+stepped_as : (ns : List Shape) (nexts : List (ℕ × ℕ)) (i : ℕ) (b : Bool) (step : Step) → (if b then Some (record { register = Numbered i; next = identifier_at ns (next_node nexts i) }) else None) ≡ Some step → SteppedAs ns nexts i b step
+stepped_as ns nexts i true step e = record { register = refl; is = let same : ◌≡◌ {A = Step} (record { register = Numbered i; next = identifier_at ns (next_node nexts i) }) step = cc in sym same }
 stepped_as ns nexts i false step e = cc
 
-beside_in : (pair : ℕ × ℕ) (nexts : List (ℕ × ℕ)) (i : ℕ) (b : Bool) → (pair.0 == i) ≡ b → ((b ≡ false) → IsIn (i, next_of nexts i) nexts) → IsIn (i, if b then pair.1 else next_of nexts i) (pair ∷ nexts)
+beside_in : (pair : ℕ × ℕ) (nexts : List (ℕ × ℕ)) (i : ℕ) (b : Bool) → (pair.0 == i) ≡ b → ((b ≡ false) → IsIn (i, next_node nexts i) nexts) → IsIn (i, if b then pair.1 else next_node nexts i) (pair ∷ nexts)
 beside_in pair nexts i true e rest = inl (λ k. (sym (eqb-true pair.0 i e) k, pair.1))
 beside_in pair nexts i false e rest = inr (rest refl)
 
 -- what stands beside a number stands there in the list
-pub next_in : (nexts : List (ℕ × ℕ)) (i n : ℕ) → IsIn (i, n) nexts → IsIn (i, next_of nexts i) nexts
+pub next_in : (nexts : List (ℕ × ℕ)) (i n : ℕ) → IsIn (i, n) nexts → IsIn (i, next_node nexts i) nexts
 next_in [] i n h = absurd h
 next_in (pair ∷ nexts) i n (inl e) =
     beside_in pair nexts i (pair.0 == i) refl (λ f. absurd (true≢false (sym (eq-eqb pair.0 i (ap (λ (p : ℕ × ℕ). p.0) (sym e))) ∙ f)))
@@ -110,7 +109,7 @@ module _ (net : NetParts) (ports : Ports) (is : IsNet net) (fits : FitsPorts net
       let r = stepped_as net.nodes net.nexts f.one (is_register (shape_at net.nodes f.one)) step f.is in
       let pair = is.nexts.each f.one l (sym (same_register f.one l) ∙ r.register) in
       let among = next_in net.nexts f.one pair.1.0 (at_place net.nexts pair.0 (f.one, pair.1.0) pair.1.1) in
-      subst (λ s. IsIn s (map step_for net.nexts)) (sym r.is) (map_in step_for net.nexts (f.one, next_of net.nexts f.one) among)
+      subst (λ s. IsIn s (map step_for net.nexts)) (sym r.is) (map_in step_for net.nexts (f.one, next_node net.nexts f.one) among)
 
   step_in : (step : Step) → IsIn step (map step_for net.nexts) → IsIn step (filter_map (stepped net) all_numbers)
   step_in step h =
@@ -118,13 +117,13 @@ module _ (net : NetParts) (ports : Ports) (is : IsNet net) (fits : FitsPorts net
       let p = place_of net.nexts r.one r.among in
       let next = is.nexts.registers p.place r.one p.at in
       let l = next.within in
-      let q = place_of net.nexts (r.one.0, next_of net.nexts r.one.0) (next_in net.nexts r.one.0 r.one.1 r.among) in
-      let place : q.place ≡ p.place = is.nexts.once q.place p.place r.one.0 (next_of net.nexts r.one.0) r.one.1 q.at p.at in
-      let one : Some (r.one.0, next_of net.nexts r.one.0) ≡ Some r.one = sym q.at ∙ ap (slice_get net.nexts) place ∙ p.at in
-      let beside : next_of net.nexts r.one.0 ≡ r.one.1 = cc in
+      let q = place_of net.nexts (r.one.0, next_node net.nexts r.one.0) (next_in net.nexts r.one.0 r.one.1 r.among) in
+      let place : q.place ≡ p.place = is.nexts.once q.place p.place r.one.0 (next_node net.nexts r.one.0) r.one.1 q.at p.at in
+      let one : Some (r.one.0, next_node net.nexts r.one.0) ≡ Some r.one = sym q.at ∙ ap (slice_get net.nexts) place ∙ p.at in
+      let beside : next_node net.nexts r.one.0 ≡ r.one.1 = cc in
       let register : is_register (shape_at net.nodes r.one.0) ≡ true = same_register r.one.0 l ∙ next.register in
       found_in (stepped net) all_numbers r.one.0 step (from_in 0 (length net.nodes) r.one.0 (omega arith) (omega arith))
-      (ap (λ b. if b then Some (record { register = Numbered r.one.0; next = identifier_at net.nodes (next_of net.nexts r.one.0) }) else None) register
+      (ap (λ b. if b then Some (record { register = Numbered r.one.0; next = identifier_at net.nodes (next_node net.nexts r.one.0) }) else None) register
       ∙ ap (λ n. Some (record { register = Numbered r.one.0; next = identifier_at net.nodes n })) beside
       ∙ ap Some (sym r.is))
 

@@ -1,14 +1,8 @@
 -- Elements of lists that are made of others.
 use Rattle.std.proofs.Common.{◌≡◌, ℕ, zero, suc, ◌+◌, ◌<◌, ◌≤◌, List, [], ◌∷◌, ◌++◌, Option, Some, None, map, slice_get, ◌⊎◌, inl, inr, ⊎_elim, refl, sym, ap, ◌∙◌, subst, arith}
 use Rattle.std.specs.List.{filter_map, cons_option}
-use Rattle.exec_core.specs.Lists.{IsIn, IsNotIn, AreApart}
-use Rattle.exec_core.proofs.Lists.{not_in}
-use Rattle.design_core.specs.Slots.{from}
-
-pub in_joined : {A : Type 0} (x : A) (xs ys : List A) → IsIn x (xs ++ ys) → IsIn x xs ⊎ IsIn x ys
-in_joined x [] ys h = inr h
-in_joined x (z ∷ xs) ys (inl e) = inl (inl e)
-in_joined x (z ∷ xs) ys (inr h) = ⊎_elim (λ i. inl (inr i)) (λ i. inr i) (in_joined x xs ys h)
+use Rattle.list_core.specs.Lists.{IsIn, AreApart, from}
+use Rattle.list_core.proofs.Lists.{not_in, in_cases, none_in}
 
 -- what is mapped comes of an element
 pub record FromOne {A B : Type 0} (f : A → B) (xs : List A) (y : B) : Type 0 where
@@ -75,12 +69,7 @@ place_of [] x h = absurd h
 place_of (y ∷ xs) x (inl e) = record { place = 0; at = ap Some (sym e) }
 place_of (y ∷ xs) x (inr h) = let r = place_of xs x h in record { place = suc r.place; at = r.at }
 
--- elements that differ
-pub none_in : {A : Type 0} (x : A) (ys : List A) → (IsIn x ys → ⊥) → IsNotIn x ys
-none_in x [] h = tt
-none_in x (y ∷ ys) h = (λ e. h (inl (sym e)), none_in x ys (λ i. h (inr i)))
-
-pub apart_joined : {A : Type 0} (xs ys : List A) → AreApart xs → AreApart ys → ((x : A) → IsIn x xs → IsIn x ys → ⊥) → AreApart (xs ++ ys)
-apart_joined [] ys a b h = b
-apart_joined (x ∷ xs) ys a b h =
-    (none_in x (xs ++ ys) (λ i. ⊎_elim (λ l. not_in x xs a.0 l) (λ r. h x (inl refl) r) (in_joined x xs ys i)), apart_joined xs ys a.1 b (λ z i. h z (inr i)))
+pub apart_beside : {A : Type 0} (xs ys : List A) → AreApart xs → AreApart ys → ((x : A) → IsIn x xs → IsIn x ys → ⊥) → AreApart (xs ++ ys)
+apart_beside [] ys a b h = b
+apart_beside (x ∷ xs) ys a b h =
+    (none_in x (xs ++ ys) (λ i. ⊎_elim (λ l. not_in x xs a.0 l) (λ r. h x (inl refl) r) (in_cases x xs ys i)), apart_beside xs ys a.1 b (λ z i. h z (inr i)))

@@ -1,60 +1,27 @@
 -- The next values by the numbers of their registers' nodes.
-use Rattle.std.proofs.Common.{◌≡◌, ℕ, zero, suc, ◌+◌, ◌<◌, Bool, true, false, ◌==◌, List, [], ◌∷◌, length, drop, get_or, set, Some, None, slice_get, if◌then◌else◌, refl, sym, ap, ◌∙◌, arith, eqb-true, eq-eqb, true≢false}
-use Rattle.std.proofs.lemmas.List.{get_or-set_same, get_or-set_other}
-use Rattle.bv_core.specs.declared.reference.NodeId.{NodeId}
+use Rattle.std.proofs.Common.{◌≡◌, ℕ, zero, suc, ◌+◌, ◌<◌, Bool, true, false, ◌==◌, List, [], ◌∷◌, length, Some, None, slice_get, if◌then◌else◌, refl, sym, ap, ◌∙◌, arith, true≢false}
 use Rattle.net_core.specs.Nodes.{Shape, shape_at}
-use Rattle.net_core.specs.Nets.{NetParts, nexts_of, NextsFit}
+use Rattle.net_core.specs.Nets.{NetParts, NextsFit, next_node}
 use Rattle.verilog_out.specs.Syntax.{Numbered}
 use Rattle.verilog_out.specs.Spelling.{step_text}
-use Rattle.verilog_out.specs.Printed.{identifier_at, next_of, is_register, stepped}
+use Rattle.verilog_out.specs.Printed.{identifier_at, is_register, stepped}
 use Rattle.verilog_out.specs.Lines.{line_of}
-
--- one pair more in front
-pub place_next : (nexts : List (ℕ × ℕ)) (k r m : ℕ) (old : List ℕ) → slice_get nexts k ≡ Some (r, m) → r < length old
-    → ((i : ℕ) → i < length old → get_or old i 0 ≡ next_of (drop (k + 1) nexts) i) → (i : ℕ) → i < length old → get_or (set old r m) i 0 ≡ next_of (drop k nexts) i
-place_next nexts k r m old at below known i l = by_test (r == i) refl ∙ sym (ap (λ l. next_of l i) (split nexts k at))
-  where
-    split : (nexts : List (ℕ × ℕ)) (k : ℕ) → slice_get nexts k ≡ Some (r, m) → drop k nexts ≡ (r, m) ∷ drop (k + 1) nexts
-    split [] k e = cc
-    split (pair ∷ pairs) zero e = let same : pair ≡ (r, m) = cc in ap (λ p. p ∷ pairs) same
-    split (pair ∷ pairs) (suc k) e = split pairs k e ∙ ap (λ i. (r, m) ∷ drop i (pair ∷ pairs)) (let one : suc (k + 1) ≡ suc k + 1 = omega arith in one)
-
-    by_test : (b : Bool) → (r == i) ≡ b → get_or (set old r m) i 0 ≡ (if r == i then m else next_of (drop (k + 1) nexts) i)
-    by_test true e =
-        let same : r ≡ i = eqb-true r i e in
-        ap (λ j. get_or (set old r m) j 0) (sym same) ∙ get_or-set_same old r m 0 below ∙ sym (ap (λ c. if c then m else next_of (drop (k + 1) nexts) i) e)
-    by_test false e =
-        get_or-set_other old r i m 0 (λ same. true≢false (sym (eq-eqb r i (sym same)) ∙ e))
-        ∙ known i l
-        ∙ sym (ap (λ c. if c then m else next_of (drop (k + 1) nexts) i) e)
-
--- the pair at a place
-pub pair_at : (pairs : List (NodeId × NodeId)) (nexts : List (ℕ × ℕ)) (k : ℕ) (d : NodeId × NodeId) → nexts_of pairs ≡ nexts → k < length pairs → slice_get nexts k ≡ Some ((get_or pairs k d).0.0, (get_or pairs k d).1.0)
-pair_at pairs nexts k d e l = ap (λ n. slice_get n k) (sym e) ∙ found pairs k l
-  where
-    found : (pairs : List (NodeId × NodeId)) (k : ℕ) → k < length pairs → slice_get (nexts_of pairs) k ≡ Some ((get_or pairs k d).0.0, (get_or pairs k d).1.0)
-    found [] k l = absurd (omega arith)
-    found (pair ∷ pairs) zero l = refl
-    found (pair ∷ pairs) (suc k) l = found pairs k (omega arith)
-
-pub pair_within : (ns : List Shape) (nexts : List (ℕ × ℕ)) (k r m : ℕ) → NextsFit ns nexts → slice_get nexts k ≡ Some (r, m) → r < length ns
-pair_within ns nexts k r m fit at = (fit.registers k (r, m) at).within
 
 beside : (b : Bool) (m next n : ℕ) → m < n → next < n → (if b then m else next) < n
 beside true m next n h l = h
 beside false m next n h l = l
 
-all_below : (n : ℕ) → 0 < n → (nexts : List (ℕ × ℕ)) → ((k : ℕ) (pair : ℕ × ℕ) → slice_get nexts k ≡ Some pair → pair.1 < n) → (i : ℕ) → next_of nexts i < n
+all_below : (n : ℕ) → 0 < n → (nexts : List (ℕ × ℕ)) → ((k : ℕ) (pair : ℕ × ℕ) → slice_get nexts k ≡ Some pair → pair.1 < n) → (i : ℕ) → next_node nexts i < n
 all_below n some [] h i = some
-all_below n some (pair ∷ nexts) h i = beside (pair.0 == i) pair.1 (next_of nexts i) n (h zero pair refl) (all_below n some nexts (λ k p at. h (suc k) p at) i)
+all_below n some (pair ∷ nexts) h i = beside (pair.0 == i) pair.1 (next_node nexts i) n (h zero pair refl) (all_below n some nexts (λ k p at. h (suc k) p at) i)
 
 -- what stands beside a number is a node
-pub next_within : (ns : List Shape) (nexts : List (ℕ × ℕ)) → NextsFit ns nexts → (i : ℕ) → i < length ns → next_of nexts i < length ns
+pub next_within : (ns : List Shape) (nexts : List (ℕ × ℕ)) → NextsFit ns nexts → (i : ℕ) → i < length ns → next_node nexts i < length ns
 next_within ns nexts fit i l = all_below (length ns) (omega arith) nexts (λ k pair at. (fit.registers k pair at).next) i
 
 -- the line of a register
-pub step_line : (net : NetParts) (i next : ℕ) → next ≡ next_of net.nexts i → is_register (shape_at net.nodes i) ≡ true
+pub step_line : (net : NetParts) (i next : ℕ) → next ≡ next_node net.nexts i → is_register (shape_at net.nodes i) ≡ true
     → step_text (record { register = Numbered i; next = identifier_at net.nodes next }) ≡ line_of step_text (stepped net i)
 step_line net i next e r =
     ap (λ n. step_text (record { register = Numbered i; next = identifier_at net.nodes n })) e
-    ∙ ap (λ b. line_of step_text (if b then Some (record { register = Numbered i; next = identifier_at net.nodes (next_of net.nexts i) }) else None)) (sym r)
+    ∙ ap (λ b. line_of step_text (if b then Some (record { register = Numbered i; next = identifier_at net.nodes (next_node net.nexts i) }) else None)) (sym r)

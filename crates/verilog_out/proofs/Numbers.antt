@@ -2,7 +2,7 @@
 use Rattle.std.proofs.Common.{◌≡◌, ℕ, zero, suc, ◌+◌, ◌-◌, ◌<◌, List, ◌∷◌, ◌++◌, ap, ◌∙◌, arith, append-nil}
 use Rattle.std.specs.List.{flat_map}
 use Rattle.std.proofs.lemmas.List.Concat.{flat_map-append}
-use Rattle.design_core.specs.Slots.{from}
+use Rattle.list_core.specs.Lists.{from}
 
 from_joined : (a m n : ℕ) → from a (m + n) ≡ from a m ++ from (a + m) n
 from_joined a zero n = ap (from a) (let e : 0 + n ≡ n = omega arith in e) ∙ ap (λ b. from b n) (let e : a ≡ a + 0 = omega arith in e)

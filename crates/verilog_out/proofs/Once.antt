@@ -5,9 +5,8 @@ use Rattle.std.specs.List.{filter_map, cons_option}
 use Rattle.std.proofs.lemmas.Fmt.{decimal_injective}
 use Rattle.gen_token.specs.declared.Keyword.TheVariants as keyword
 use Rattle.gen_token.specs.Spelling.{IsName, is_name_text}
-use Rattle.exec_core.specs.Lists.{IsIn, AreApart}
-use Rattle.exec_core.proofs.Lists.{each_member}
-use Rattle.design_core.specs.Slots.{from}
+use Rattle.list_core.specs.Lists.{IsIn, AreApart, from}
+use Rattle.list_core.proofs.Lists.{each_member, in_cases, none_in}
 use Rattle.design_core.specs.declared.ports.Ports.{Ports}
 use Rattle.net_core.specs.Nodes.{Shape, Fixed, TopInput, Register, OfOne, OfTwo, OfMux, shape_at, width_at}
 use Rattle.net_core.specs.Nets.{NetParts}
@@ -15,7 +14,7 @@ use Rattle.verilog_out.specs.Syntax.{Numbered, Declaration, Wire, Reg}
 use Rattle.verilog_out.specs.Printed.{declared, declaration_of, module_of, FitsPorts}
 use Rattle.verilog_out.specs.Meaning.{name_of, declared_name, AreDeclaredOnce}
 use Rattle.verilog_out.specs.ReadBack.{HaveNames}
-use Rattle.verilog_out.proofs.Members.{in_joined, in_mapped, in_found, in_from, none_in, apart_joined}
+use Rattle.verilog_out.proofs.Members.{in_mapped, in_found, in_from, apart_beside}
 
 -- the name of a declaration
 abbrev declared_text : Declaration → List ℕ
@@ -85,9 +84,9 @@ declared_once net ports few fits names =
     let few_enough : 0 + length net.nodes ≤ 2 ^ 64 = omega arith in
     let port_name : (x : List ℕ) → IsIn x (map (λ (port : List ℕ × ℕ). port.0) all) → IsName x = λ x i.
     let r = in_mapped (λ (port : List ℕ × ℕ). port.0) all x i in subst IsName (sym r.is) (each_member (λ (port : List ℕ × ℕ). IsName port.0) all names.port_names r.one r.among) in
-    let body = apart_joined (map (λ (port : List ℕ × ℕ). port.0) all) (map declared_text ds) fits.apart (declared_apart net.nodes 0 (length net.nodes) few_enough)
+    let body = apart_beside (map (λ (port : List ℕ × ℕ). port.0) all) (map declared_text ds) fits.apart (declared_apart net.nodes 0 (length net.nodes) few_enough)
     (λ x i j. not_numbered x _ (port_name x i) (numbered_in net.nodes 0 (length net.nodes) x j).is) in
-    let clock = none_in (codes "clk") (map (λ (port : List ℕ × ℕ). port.0) all ++ map declared_text ds) (λ h. by_side (port_name (codes "clk")) (numbered_in net.nodes 0 (length net.nodes) (codes "clk")) (in_joined (codes "clk") _ _ h)) in
+    let clock = none_in (codes "clk") (map (λ (port : List ℕ × ℕ). port.0) all ++ map declared_text ds) (λ h. by_side (port_name (codes "clk")) (numbered_in net.nodes 0 (length net.nodes) (codes "clk")) (in_cases (codes "clk") _ _ h)) in
     subst (λ l. AreApart (codes "clk" ∷ l)) (sym (names_are all ds)) (clock, body)
   where
     by_side : (IsIn (codes "clk") (map (λ (port : List ℕ × ℕ). port.0) (ports.inputs ++ ports.outputs)) → IsName (codes "clk"))

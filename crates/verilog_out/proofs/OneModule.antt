@@ -7,12 +7,12 @@ use Rattle.std.proofs.lemmas.List.Concat.{flat_map-append}
 use Rattle.bv_core.specs.Text.{shown}
 use Rattle.gen_token.specs.Bytes.{is_name_byte}
 use Rattle.gen_token.specs.Spelling.{IsName}
-use Rattle.exec_core.specs.Lists.{EachOf, IsIn}
-use Rattle.exec_core.proofs.Lists.{each_member, each_from}
+use Rattle.list_core.specs.Lists.{EachOf, IsIn}
+use Rattle.list_core.proofs.Lists.{each_member, each_from, in_cases}
 use Rattle.verilog_out.specs.Syntax.{Given, Declaration, Wire, Reg, Assignment, Step, Module}
 use Rattle.verilog_out.specs.Spelling.{escaped, identifier_text, expression_text, declaration_text, assignment_text, edge_text, step_text, listed_text, port_text, module_text}
 use Rattle.verilog_out.specs.Reading.{IsDeclaration, IsAssignment, IsStep, IsPort, IsModule, TextsTellModules}
-use Rattle.verilog_out.proofs.Members.{in_mapped, in_joined}
+use Rattle.verilog_out.proofs.Members.{in_mapped}
 use Rattle.verilog_out.proofs.Gathered.{mapped}
 use Rattle.verilog_out.proofs.Alike.{Alike, runs, name_bytes, number_alike, identifier_alike, value_alike}
 use Rattle.verilog_out.proofs.Expressions.{expression_alike}
@@ -199,7 +199,7 @@ abbrev port_names : Module → List (List ℕ)
 port_names m = map (λ (port : List ℕ × ℕ). port.0) m.inputs ++ map (λ (port : List ℕ × ℕ). port.0) m.outputs
 
 names_named : (m : Module) → IsModule m → EachOf IsName (port_names m)
-names_named m is = each_from IsName (port_names m) (λ x h. ⊎_elim (of m.inputs is.each_input x) (of m.outputs is.each_output x) (in_joined x _ _ h))
+names_named m is = each_from IsName (port_names m) (λ x h. ⊎_elim (of m.inputs is.each_input x) (of m.outputs is.each_output x) (in_cases x _ _ h))
   where
     of : (list : List (List ℕ × ℕ)) → EachOf IsPort list → (x : List ℕ) → IsIn x (map (λ (port : List ℕ × ℕ). port.0) list) → IsName x
     of list each x h = let r = in_mapped (λ (port : List ℕ × ℕ). port.0) list x h in subst IsName (sym r.is) (each_member IsPort list each r.one r.among).called

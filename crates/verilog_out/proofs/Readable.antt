@@ -8,21 +8,20 @@ use Rattle.bv_core.specs.declared.operators.Op2.{Op2}
 use Rattle.bv_core.specs.declared.operators.Op2.TheVariants.{Add, Sub, Mul, And, Or, Xor, Eq, Ne, Lt, Le, Shl, Shr, Cat}
 use Rattle.bv_core.specs.Operators.{Fits1}
 use Rattle.gen_token.specs.Spelling.{IsName}
-use Rattle.exec_core.specs.Lists.{EachOf, IsIn}
-use Rattle.exec_core.proofs.Lists.{each_member, each_from, in_left, in_right}
-use Rattle.exec_core.proofs.Folded.{map_in}
-use Rattle.design_core.specs.Slots.{from}
+use Rattle.list_core.specs.Lists.{EachOf, IsIn, from}
+use Rattle.list_core.proofs.Lists.{each_member, each_from, in_left, in_right, in_cases}
+use Rattle.list_core.proofs.Listing.{map_in}
 use Rattle.design_core.specs.Ports.{has_width}
 use Rattle.design_core.specs.declared.ports.Ports.{Ports}
 use Rattle.net_core.specs.Nodes.{Shape, Fixed, TopInput, Register, OfOne, OfTwo, OfMux, no_shape, shape_at, width_at, OperandsBelow}
-use Rattle.net_core.specs.Nets.{NetParts, IsNet}
+use Rattle.net_core.specs.Nets.{NetParts, IsNet, next_node}
 use Rattle.verilog_out.specs.Syntax.{Identifier, Numbered, Expression, Declaration, Wire, Reg, Assignment, Step, Literal, Copy, Pad, Choose}
-use Rattle.verilog_out.specs.Printed.{identifier_of, identifier_at, one_printed, two_printed, expression_of, declaration_of, declared, assigned, output_assigned, next_of, is_register, stepped, module_of, FitsPorts}
+use Rattle.verilog_out.specs.Printed.{identifier_of, identifier_at, one_printed, two_printed, expression_of, declaration_of, declared, assigned, output_assigned, is_register, stepped, module_of, FitsPorts}
 use Rattle.verilog_out.specs.Reading.{IsIdentifier, IsExpression, IsDeclaration, IsAssignment, IsStep, IsPort, IsModule}
 use Rattle.verilog_out.specs.ReadBack.{HaveNames}
 use Rattle.verilog_out.proofs.Widths.{node_some, node_most, port_fits}
 use Rattle.verilog_out.proofs.NextValues.{next_within}
-use Rattle.verilog_out.proofs.Members.{in_joined, in_mapped, in_found}
+use Rattle.verilog_out.proofs.Members.{in_mapped, in_found}
 use Rattle.verilog_out.proofs.Equations.{whole_at, inside, output_node, assigned_as}
 use Rattle.verilog_out.proofs.Alike.{and_left, and_right}
 
@@ -142,9 +141,9 @@ module _ (net : NetParts) (ports : Ports) (few : length net.nodes < 2 ^ 64) (is 
     each_declaration = each_from IsDeclaration _ (λ d h.
         let f = in_found (declared net.nodes) counted d h in
         declaration_is f.one (inside net ports is fits f.one f.among) (shape_at net.nodes f.one) refl d f.is);
-    each_assignment = each_from IsAssignment _ (λ a h. ⊎_elim (node_assignment a) (output_assignment a) (in_joined a (filter_map (assigned net.nodes) counted) _ h));
+    each_assignment = each_from IsAssignment _ (λ a h. ⊎_elim (node_assignment a) (output_assignment a) (in_cases a (filter_map (assigned net.nodes) counted) _ h));
     each_step = each_from IsStep _ (λ s h.
         let f = in_found (stepped net) counted s h in
         let l = inside net ports is fits f.one f.among in
-        step_next net.nodes f.one (next_of net.nexts f.one) (is_register (shape_at net.nodes f.one)) s (number_few f.one l) (identifier_is (next_of net.nexts f.one) (next_within net.nodes net.nexts is.nexts f.one l)) f.is);
+        step_next net.nodes f.one (next_node net.nexts f.one) (is_register (shape_at net.nodes f.one)) s (number_few f.one l) (identifier_is (next_node net.nexts f.one) (next_within net.nodes net.nexts is.nexts f.one l)) f.is);
   }

@@ -8,10 +8,9 @@ use Rattle.gen_token.specs.Spelling.{IsName}
 use Rattle.tree_core.specs.Tree as tree
 use Rattle.tree_core.specs.Width.{GivesWidths, tree_width}
 use Rattle.tree_core.proofs.Folding.{values_fit}
-use Rattle.exec_core.specs.Lists.{IsIn, AreApart}
-use Rattle.exec_core.proofs.Lists.{each_member, each_from, in_left, in_right, not_in, apart_split}
-use Rattle.exec_core.proofs.Folded.{map_in}
-use Rattle.design_core.specs.Slots.{from}
+use Rattle.list_core.specs.Lists.{IsIn, AreApart, from}
+use Rattle.list_core.proofs.Lists.{each_member, each_from, in_left, in_right, not_in, apart_split, in_cases}
+use Rattle.list_core.proofs.Listing.{map_in}
 use Rattle.design_core.specs.declared.ports.Ports.{Ports}
 use Rattle.net_core.specs.Nodes.{Shape, Fixed, TopInput, Register, OfOne, OfTwo, OfMux, no_shape, shape_at, node_tree, trees_of, tree_of, width_at, OperandsBelow}
 use Rattle.net_core.specs.Nets.{NetParts, IsNet, Solves, equation}
@@ -21,7 +20,7 @@ use Rattle.verilog_out.specs.Syntax.{Numbered}
 use Rattle.verilog_out.specs.Printed.{identifier_of, identifier_at, module_of, FitsPorts}
 use Rattle.verilog_out.specs.Meaning.{name_of, zeros_of}
 use Rattle.verilog_out.specs.ReadBack.{by_number, IsGiven, AreGiven, HaveNames, IsSatisfied}
-use Rattle.verilog_out.proofs.Members.{in_joined, in_mapped, in_from, from_in}
+use Rattle.verilog_out.proofs.Members.{in_mapped, in_from, from_in}
 use Rattle.verilog_out.proofs.Once.{one_number, not_numbered}
 use Rattle.verilog_out.proofs.Equations.{to_module, output_node}
 
@@ -203,7 +202,7 @@ module _ (net : NetParts) (ports : Ports) (few : length net.nodes < 2 ^ 64) (is 
         ap (λ (p : List ℕ × Bits). p.1) r.is ∙ ap value_at (one_node r.one i (within r.one r.among) l (sym (ap (λ (p : List ℕ × Bits). p.0) r.is) ∙ e)))
         (λ o. let r = in_mapped output_pair net.outputs pair o in
         absurd (node_not_output i l r.one r.among (sym e ∙ ap (λ (p : List ℕ × Bits). p.0) r.is)))
-        (in_joined pair (map node_pair count_all) (map output_pair net.outputs) h))
+        (in_cases pair (map node_pair count_all) (map output_pair net.outputs) h))
         (value_at i) (in_left _ (map node_pair count_all) (map output_pair net.outputs) (map_in node_pair count_all i (from_in 0 (length net.nodes) i (omega arith) (omega arith))))
 
     output_has : (o : List ℕ × ℕ) → IsIn o net.outputs → values o.0 ≡ value_at o.1
@@ -215,7 +214,7 @@ module _ (net : NetParts) (ports : Ports) (few : length net.nodes < 2 ^ 64) (is 
         absurd (node_not_output r.one (within r.one r.among) o m (sym (ap (λ (p : List ℕ × Bits). p.0) r.is) ∙ e)))
         (λ q. let r = in_mapped output_pair net.outputs pair q in
         ap (λ (p : List ℕ × Bits). p.1) r.is ∙ ap (λ (x : List ℕ × ℕ). value_at x.1) (outputs_of_name r.one o r.among m (sym (ap (λ (p : List ℕ × Bits). p.0) r.is) ∙ e)))
-        (in_joined pair (map node_pair count_all) (map output_pair net.outputs) h))
+        (in_cases pair (map node_pair count_all) (map output_pair net.outputs) h))
         (value_at o.1) (in_right _ (map node_pair count_all) (map output_pair net.outputs) (map_in output_pair net.outputs o m))
 
     unused_width : (p : List ℕ × ℕ) → IsIn p ports.inputs → (unused p.0).width ≡ p.1
@@ -245,7 +244,7 @@ module _ (net : NetParts) (ports : Ports) (few : length net.nodes < 2 ^ 64) (is 
         ap (λ (x : List ℕ × Bits). x.1.width) r.is ∙ input_width r.one (within r.one r.among) p m (sym (ap (λ (x : List ℕ × Bits). x.0) r.is) ∙ e))
         (λ o. let r = in_mapped output_pair net.outputs pair o in
         absurd (input_not_output p r.one m r.among (sym e ∙ ap (λ (x : List ℕ × Bits). x.0) r.is)))
-        (in_joined pair (map node_pair count_all) (map output_pair net.outputs) h))
+        (in_cases pair (map node_pair count_all) (map output_pair net.outputs) h))
         (unused_width p m)
 
     given_as : (i : ℕ) → i < length net.nodes → (s : Shape) → shape_at net.nodes i ≡ s → IsGiven E (values (called i)) s

@@ -9,7 +9,7 @@ use Rattle.bv_core.specs.declared.operators.Op2.TheVariants.{Add, Sub, Mul, And,
 use Rattle.bv_core.specs.Operators.{Fits1, Fits2, width1_of, width2_of}
 use Rattle.tree_core.specs.Tree.{Whole, Const, Leaf, One, Two, Mux, Input, Register}
 use Rattle.tree_core.specs.Width.{tree_width, IsWhole}
-use Rattle.exec_core.specs.Lists.{IsIn}
+use Rattle.list_core.specs.Lists.{IsIn}
 use Rattle.design_core.specs.Ports.{has_width}
 use Rattle.net_core.specs.Nodes.{trees_of, width_at}
 use Rattle.net_core.specs.Nets.{NetParts, IsNet}

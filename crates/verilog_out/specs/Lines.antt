@@ -1,14 +1,14 @@
 -- The lines of a node in the parts of a module, and the next values by number.
-use Rattle.std.specs.Prelude.{◌≡◌, ℕ, ◌<◌, List, [], ◌++◌, length, get_or, Option, Some, None}
+use Rattle.std.specs.Prelude.{ℕ, List, [], ◌++◌, length, Option, Some, None}
 use Rattle.std.specs.List.{flat_map}
-use Rattle.design_core.specs.Slots.{from}
+use Rattle.list_core.specs.Lists.{from}
 use Rattle.bv_core.specs.declared.reference.NodeId.{NodeId}
 use Rattle.net_core.specs.Nodes.{Shape}
 use Rattle.net_core.specs.Nets.{NetParts}
 use Rattle.verilog_out.specs.declared.part.Part.{Part}
 use Rattle.verilog_out.specs.declared.part.Part.TheVariants.{Declarations, Assignments, Steps}
 use Rattle.verilog_out.specs.Spelling.{declaration_text, assignment_text, step_text}
-use Rattle.verilog_out.specs.Printed.{declared, assigned, output_assigned, stepped, next_of}
+use Rattle.verilog_out.specs.Printed.{declared, assigned, output_assigned, stepped}
 
 -- the line of what there is, or none
 abbrev pub line_of : {A : Type 0} → (A → List ℕ) → Option A → List ℕ
@@ -20,11 +20,6 @@ abbrev pub part_line : NetParts → Part → ℕ → List ℕ
 part_line net Declarations i = line_of declaration_text (declared net.nodes i)
 part_line net Assignments i = line_of assignment_text (assigned net.nodes i)
 part_line net Steps i = line_of step_text (stepped net i)
-
--- at each number that which stands beside it among the next values
-pub record AreNexts (nodes : ℕ) (nexts : List (ℕ × ℕ)) (found : List ℕ) : Type 0 where
-  pub count : length found ≡ nodes
-  pub each : (i : ℕ) → i < nodes → get_or found i 0 ≡ next_of nexts i
 
 -- the lines of all nodes in a part, those of the outputs, and what stands behind the ports
 abbrev pub part_text : NetParts → Part → List ℕ

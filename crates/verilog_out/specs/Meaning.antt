@@ -5,7 +5,7 @@ use Rattle.bv_core.specs.Value.{Bits}
 use Rattle.bv_core.specs.Operators.{apply1_of, apply2_of, choose_of}
 use Rattle.bv_core.specs.declared.operators.Op1.TheVariants as one
 use Rattle.bv_core.specs.declared.operators.Op2.TheVariants as two
-use Rattle.exec_core.specs.Lists.{EachOf, IsIn, AreApart}
+use Rattle.list_core.specs.Lists.{EachOf, IsIn, AreApart}
 use Rattle.verilog_out.specs.Syntax.{Identifier, Given, Numbered, Prefix, Invert, AllOf, AnyOf, ParityOf, Infix, Plus, Minus, Times, BitAnd, BitOr, BitXor, Equal, Unequal, Less, AtMost, ShiftLeft, ShiftRight, Expression, Literal, Copy, Before, Between, Join, Pad, Select, Choose, Declaration, Wire, Reg, Assignment, Module}
 
 -- the name that an identifier stands for: an escaped one is the plain name

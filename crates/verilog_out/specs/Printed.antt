@@ -5,11 +5,10 @@ use Rattle.bv_core.specs.declared.operators.Op1.{Op1}
 use Rattle.bv_core.specs.declared.operators.Op1.TheVariants.{Not, All, Any, Parity, Slice, Zext}
 use Rattle.bv_core.specs.declared.operators.Op2.{Op2}
 use Rattle.bv_core.specs.declared.operators.Op2.TheVariants.{Add, Sub, Mul, And, Or, Xor, Eq, Ne, Lt, Le, Shl, Shr, Cat}
-use Rattle.exec_core.specs.Lists.{IsIn, AreApart}
-use Rattle.design_core.specs.Slots.{from}
+use Rattle.list_core.specs.Lists.{IsIn, AreApart, from}
 use Rattle.design_core.specs.declared.ports.Ports.{Ports}
 use Rattle.net_core.specs.Nodes.{Shape, Fixed, TopInput, Register, OfOne, OfTwo, OfMux, shape_at, width_at}
-use Rattle.net_core.specs.Nets.{NetParts}
+use Rattle.net_core.specs.Nets.{NetParts, next_node}
 use Rattle.verilog_out.specs.Syntax.{Identifier, Given, Numbered, Invert, AllOf, AnyOf, ParityOf, Plus, Minus, Times, BitAnd, BitOr, BitXor, Equal, Unequal, Less, AtMost, ShiftLeft, ShiftRight, Expression, Literal, Copy, Before, Between, Join, Pad, Select, Choose, Declaration, Wire, Reg, Assignment, Step, Module}
 use Rattle.verilog_out.specs.Spelling.{module_text}
 
@@ -78,11 +77,6 @@ assigned ns i = option_map (λ e. record { target = Numbered i; value = e }) (ex
 abbrev pub output_assigned : List Shape → List ℕ × ℕ → Assignment
 output_assigned ns output = record { target = Given output.0; value = Copy (identifier_at ns output.1) }
 
--- the node that stands beside a register's node
-abbrev pub next_of : List (ℕ × ℕ) → ℕ → ℕ
-next_of [] i = 0
-next_of (pair ∷ nexts) i = if pair.0 == i then pair.1 else next_of nexts i
-
 -- whether a node is a register
 abbrev pub is_register : Shape → Bool
 is_register (TopInput name width) = false
@@ -94,7 +88,7 @@ is_register (OfMux c a b) = false
 
 -- a register takes its next value
 abbrev pub stepped : NetParts → ℕ → Option Step
-stepped net i = if is_register (shape_at net.nodes i) then Some (record { register = Numbered i; next = identifier_at net.nodes (next_of net.nexts i) }) else None
+stepped net i = if is_register (shape_at net.nodes i) then Some (record { register = Numbered i; next = identifier_at net.nodes (next_node net.nexts i) }) else None
 
 -- declarations, assignments and steps by number, and the outputs behind the other assignments
 abbrev pub module_of : NetParts → Ports → Module

@@ -4,7 +4,7 @@ use Rattle.bv_core.specs.Value.{Bits}
 use Rattle.gen_token.specs.Spelling.{IsName}
 use Rattle.tree_core.specs.Tree as tree
 use Rattle.tree_core.specs.Width.{GivesWidths}
-use Rattle.exec_core.specs.Lists.{EachOf, IsIn}
+use Rattle.list_core.specs.Lists.{EachOf, IsIn}
 use Rattle.design_core.specs.declared.ports.Ports.{Ports}
 use Rattle.net_core.specs.Nodes.{Shape, Fixed, TopInput, Register, OfOne, OfTwo, OfMux, shape_at}
 use Rattle.net_core.specs.Nets.{NetParts, Solves, IsNet}

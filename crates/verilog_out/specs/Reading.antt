@@ -2,7 +2,7 @@
 use Rattle.std.specs.Prelude.{◌≡◌, ℕ, ◌^◌, ◌<◌, ◌≤◌, List}
 use Rattle.bv_core.specs.Value.{IsBits}
 use Rattle.gen_token.specs.Spelling.{IsName}
-use Rattle.exec_core.specs.Lists.{EachOf}
+use Rattle.list_core.specs.Lists.{EachOf}
 use Rattle.verilog_out.specs.Syntax.{Identifier, Given, Numbered, Expression, Literal, Copy, Before, Between, Join, Pad, Select, Choose, Declaration, Wire, Reg, Assignment, Step, Module}
 use Rattle.verilog_out.specs.Spelling.{module_text}
 

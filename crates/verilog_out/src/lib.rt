@@ -8,7 +8,6 @@ mod head;
 mod laws;
 mod line;
 mod name;
-mod nexts;
 mod part;
 mod print;
 

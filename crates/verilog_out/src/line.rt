@@ -1,12 +1,12 @@
 //! The lines of nodes and outputs.
 
-ghost use Rattle.std.specs.Prelude.{◌≡◌, ◌<◌, ◌≤◌, ◌++◌, OnOk, length, is_some, get_or};
-ghost use Rattle.net_core.specs.Nodes.{shape_of, OperandsBelow};
-ghost use Rattle.net_core.specs.Nets.{IsNet};
+ghost use Rattle.std.specs.Prelude.{◌≡◌, ◌<◌, ◌≤◌, ◌++◌, OnOk, length, is_some};
+ghost use Rattle.net_core.specs.Nodes.{shape_of};
+ghost use Rattle.net_core.specs.Nets.{IsNet, StandBeside};
 ghost use Rattle.verilog_out.specs.Syntax.{Wire, Reg, Numbered};
 ghost use Rattle.verilog_out.specs.Spelling.{range_text, declaration_text, assignment_text, edge_text, step_text};
 ghost use Rattle.verilog_out.specs.Printed.{identifier_at, declaration_of, declared, expression_of, assigned, output_assigned, is_register, stepped};
-ghost use Rattle.verilog_out.specs.Lines.{line_of, part_line, AreNexts};
+ghost use Rattle.verilog_out.specs.Lines.{line_of, part_line};
 
 use crate::expression::{push_literal, push_value};
 use crate::name::{push_escaped, push_name, push_numbered};
@@ -168,7 +168,7 @@ fn push_step(
     id: NodeId,
 ) -> Result<(), NoMemory>
     requires net { IsNet net.now }
-    requires nexts { AreNexts (length net.now.nodes) net.now.nexts nexts.now }
+    requires nexts { StandBeside (length net.now.nodes) net.now.nexts nexts.now }
     requires node { id.0 < length net.now.nodes }
     ensures { OnOk result (text.new.items ≡ text.old.items ++ line_of step_text (stepped net.now id.0)) }
 {
@@ -190,7 +190,7 @@ pub(crate) fn push_line(
     id: NodeId,
 ) -> Result<(), NoMemory>
     requires net { IsNet net.now }
-    requires nexts { AreNexts (length net.now.nodes) net.now.nexts nexts.now }
+    requires nexts { StandBeside (length net.now.nodes) net.now.nexts nexts.now }
     requires node { id.0 < length net.now.nodes }
     ensures { OnOk result (text.new.items ≡ text.old.items ++ part_line net.now part id.0) }
 {

@@ -5,20 +5,17 @@ ghost use Rattle.std.specs.List.{flat_map};
 ghost use Rattle.io_edge.specs.Faults.{Rose};
 ghost use Rattle.io_edge.specs.Taken.{Appends, AppendsFront};
 ghost use Rattle.sink_text.specs.Waiting.{Passes};
-ghost use Rattle.design_core.specs.Slots.{from};
-ghost use Rattle.net_core.specs.Nets.{outputs_of, OutputsFit, IsNet};
-ghost use Rattle.verilog_out.specs.Spelling.{front_text};
+ghost use Rattle.net_core.specs.Nets.{outputs_of, OutputsFit, IsNet, StandBeside};
 ghost use Rattle.verilog_out.specs.Printed.{printed, FitsPorts};
-ghost use Rattle.verilog_out.specs.Lines.{part_line, part_text, output_line, body_text, AreNexts};
+ghost use Rattle.verilog_out.specs.Lines.{part_line, part_text, output_line, body_text};
 
 use crate::head::push_front;
 use crate::line::{push_line, push_output};
-use crate::nexts::nexts_by_number;
 use crate::part::Part;
 use bv_core::NodeId;
 use design_core::Ports;
 use io_edge::Sink;
-use net_core::Net;
+use net_core::{Net, nexts_by_number};
 use sink_text::{SinkEnd, put_all, put_long};
 use std::alloc::Global;
 use text_core::Text;
@@ -34,7 +31,7 @@ fn write_line<S: Sink>(
     out: &mut S,
 ) -> Result<(), SinkEnd>
     requires net { IsNet net.now }
-    requires nexts { AreNexts (length net.now.nodes) net.now.nexts nexts.now }
+    requires nexts { StandBeside (length net.now.nodes) net.now.nexts nexts.now }
     requires node { id.0 < length net.now.nodes }
     ensures ok { OnOk result (Passes (S.taken out.old) (S.taken out.new) text.old.items text.new.items (part_line net.now part id.0)) }
     ensures front { OnErr result (AppendsFront (S.taken out.old) (S.taken out.new) (text.old.items ++ part_line net.now part id.0)) }
@@ -55,7 +52,7 @@ fn write_part<S: Sink>(
     out: &mut S,
 ) -> Result<(), SinkEnd>
     requires net { IsNet net.now }
-    requires nexts { AreNexts (length net.now.nodes) net.now.nexts nexts.now }
+    requires nexts { StandBeside (length net.now.nodes) net.now.nexts nexts.now }
     ensures ok { OnOk result (Passes (S.taken out.old) (S.taken out.new) text.old.items text.new.items (part_text net.now part)) }
     ensures front { OnErr result (AppendsFront (S.taken out.old) (S.taken out.new) (text.old.items ++ part_text net.now part)) }
     ensures failed { IsErrOf result SinkEnd.Failed → Rose (S.fault_count out.old) (S.fault_count out.new) }
@@ -114,7 +111,7 @@ fn write_body<S: Sink>(
     out: &mut S,
 ) -> Result<(), SinkEnd>
     requires net { IsNet net.now }
-    requires nexts { AreNexts (length net.now.nodes) net.now.nexts nexts.now }
+    requires nexts { StandBeside (length net.now.nodes) net.now.nexts nexts.now }
     ensures ok { OnOk result (Passes (S.taken out.old) (S.taken out.new) text.old.items text.new.items (body_text net.now)) }
     ensures front { OnErr result (AppendsFront (S.taken out.old) (S.taken out.new) (text.old.items ++ body_text net.now)) }
     ensures failed { IsErrOf result SinkEnd.Failed → Rose (S.fault_count out.old) (S.fault_count out.new) }

@@ -9,7 +9,7 @@ use Rattle.bv_core.specs.declared.reference.NodeId.{NodeId}
 use Rattle.tree_core.specs.Tree as tree
 use Rattle.tree_core.specs.Width.{IsWhole}
 use Rattle.tree_core.specs.Fold.{folded}
-use Rattle.exec_core.specs.Lists.{EachOf, IsIn}
+use Rattle.list_core.specs.Lists.{EachOf, IsIn}
 use Rattle.exec_core.specs.Kept.{has_number, add}
 use Rattle.net_core.specs.Nodes.{Shape, Fixed, TopInput, Register, OfOne, OfTwo, OfMux, shape_at, node_tree, trees_of, tree_of, OperandsBelow}
 use Rattle.net_core.specs.Builder.{Stands, AreShared, Keeps, Adds}

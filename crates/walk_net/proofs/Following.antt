@@ -5,11 +5,12 @@ use Rattle.std.proofs.lemmas.List.{length-map}
 use Rattle.std.proofs.Math.Seq.{take-append_seam}
 use Rattle.bv_core.specs.declared.reference.NodeId.{NodeId}
 use Rattle.tree_core.specs.Tree.{Origin, Whole}
-use Rattle.exec_core.specs.Lists.{EachOf, IsIn, IsNotIn, AreApart}
+use Rattle.list_core.specs.Lists.{EachOf, IsIn}
+use Rattle.list_core.proofs.Listing.{no_more}
 use Rattle.net_core.specs.Nodes.{Shape, tree_at, trees_of, tree_of}
 use Rattle.net_core.specs.Nets.{NetParts}
 use Rattle.net_core.proofs.TreeLists.{trees_length}
-use Rattle.walk_net.specs.Next.{tree_by, trees_by, next_of, next_tree}
+use Rattle.walk_net.specs.Next.{tree_by, trees_by, next_whole, next_tree}
 use Rattle.walk_net.specs.Renaming.{id_at, IsNode, AreCopies}
 use Rattle.walk_net.specs.Registers.{Ends, passed, walked, followed, AreNextIds}
 use Rattle.walk_net.proofs.Nodes.{tree_in, trees_apart}
@@ -17,34 +18,6 @@ use Rattle.walk_net.proofs.Nodes.{tree_in, trees_apart}
 -- what is written through a slice of a vector
 pub written_back : {A : Type 0} (xs ys : List A) (n : ℕ) → length xs ≡ n → take n (xs ++ drop (length xs) ys) ≡ xs
 written_back xs ys n e = subst (λ k. take k (xs ++ drop (length xs) ys) ≡ xs) e (take-append_seam xs (drop (length xs) ys))
-
--- lists whose elements differ and stand in another are no longer than it
-record Without {A : Type 0} (x : A) (ys : List A) : Type 0 where
-  rest : List A
-  one_less : length ys ≡ suc (length rest)
-  others : (z : A) → IsIn z ys → (x ≡ z → ⊥) → IsIn z rest
-
-without : {A : Type 0} (x : A) (ys : List A) → IsIn x ys → Without x ys
-without x [] i = absurd i
-without x (y ∷ ys) (inl e) = record { rest = ys; one_less = refl; others = λ z i n. ⊎_elim (λ s. absurd (n (e ∙ sym s))) (λ m. m) i }
-without x (y ∷ ys) (inr i) =
-    let w = without x ys i in
-    record { rest = y ∷ w.rest; one_less = ap suc w.one_less; others = λ z j n. ⊎_elim (λ s. inl s) (λ m. inr (w.others z m n)) j }
-
-in_not : {A : Type 0} (x z : A) (xs : List A) → IsNotIn x xs → IsIn z xs → x ≡ z → ⊥
-in_not x z [] n i e = i
-in_not x z (y ∷ ys) n (inl s) e = n.0 (sym s ∙ sym e)
-in_not x z (y ∷ ys) n (inr i) e = in_not x z ys n.1 i e
-
-pub no_more : {A : Type 0} (xs ys : List A) → AreApart xs → ((z : A) → IsIn z xs → IsIn z ys) → length xs ≤ length ys
-no_more [] ys a h = omega arith
-no_more (x ∷ xs) ys a h =
-    let w = without x ys (h x (inl refl)) in
-    let less = no_more xs w.rest a.1 (λ z i. w.others z (h z (inr i)) (λ e. in_not x z xs a.0 i e)) in
-    suc_more (length xs) (length w.rest) (length ys) less w.one_less
-  where
-    suc_more : (m k n : ℕ) → m ≤ k → n ≡ suc k → suc m ≤ n
-    suc_more m k n p q = omega arith
 
 pub map_at : (ns : List Shape) (ids : List NodeId) (k : ℕ) (d : NodeId) → k < length ids → tree_at (trees_by ns ids) k ≡ tree_by ns (get_or ids k d)
 map_at ns [] k d l = absurd (omega arith)
@@ -86,10 +59,10 @@ ends_step next k ts us None l e h = passed k ts us l e h
 ends_step next k ts us (Some t) l e h = walked k ts us t l e h
 
 -- the walk at a place
-pub at_place : (net : NetParts) (new : List Shape) (ids : List (Option NodeId)) (origins : List NodeId) (nexts : List (Option NodeId)) → AreCopies net.nodes new ids origins → AreNextIds net nexts → (k : ℕ) (id : NodeId) → k < length origins → get_or origins k id ≡ id → (now us : List Whole) → now ≡ followed (option_map (tree_by net.nodes) (id_at nexts id.0)) (trees_of new) → Ends (next_of net) (k + 1) now us → Ends (next_of net) k (trees_of new) us
+pub at_place : (net : NetParts) (new : List Shape) (ids : List (Option NodeId)) (origins : List NodeId) (nexts : List (Option NodeId)) → AreCopies net.nodes new ids origins → AreNextIds net nexts → (k : ℕ) (id : NodeId) → k < length origins → get_or origins k id ≡ id → (now us : List Whole) → now ≡ followed (option_map (tree_by net.nodes) (id_at nexts id.0)) (trees_of new) → Ends (next_whole net) (k + 1) now us → Ends (next_whole net) k (trees_of new) us
 at_place net new ids origins nexts c n k id l e now us w h =
     let inside = node_there net.nodes new ids origins c k id l e in
-    ends_step (next_of net) k (trees_of new) us (option_map (tree_by net.nodes) (id_at nexts id.0))
+    ends_step (next_whole net) k (trees_of new) us (option_map (tree_by net.nodes) (id_at nexts id.0))
     (omega (arith, long net.nodes new ids origins c))
-    (ap (next_tree (next_of net)) (tree_there net.nodes new ids origins c k id l e) ∙ sym (n.next id.0 inside))
-    (subst (λ ts. Ends (next_of net) (k + 1) ts us) w h)
+    (ap (next_tree (next_whole net)) (tree_there net.nodes new ids origins c k id l e) ∙ sym (n.next id.0 inside))
+    (subst (λ ts. Ends (next_whole net) (k + 1) ts us) w h)

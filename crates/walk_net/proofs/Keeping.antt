@@ -5,15 +5,15 @@ use Rattle.std.proofs.lemmas.List.{length-map}
 use Rattle.bv_core.specs.declared.reference.NodeId.{NodeId}
 use Rattle.tree_core.specs.Tree as tree
 use Rattle.tree_core.specs.Width.{tree_width}
-use Rattle.exec_core.specs.Lists.{EachOf, IsIn, IsNotIn, AreApart}
+use Rattle.list_core.specs.Lists.{EachOf, IsIn, IsNotIn, AreApart}
 use Rattle.exec_core.specs.Kept.{IsKept, root, of_register, walk_all, numbered, rounds, NumberedAreKept}
-use Rattle.exec_core.proofs.Lists.{each_from, in_left, in_right, not_in}
+use Rattle.list_core.proofs.Lists.{each_from, in_left, in_right, not_in}
 use Rattle.exec_core.proofs.Keeping.{walk_keeps}
 use Rattle.net_core.specs.Nodes.{Shape, trees_of, tree_of}
 use Rattle.net_core.specs.Builder.{Stands, AreShared}
 use Rattle.net_core.specs.Nets.{NetParts, is_register, IsNext, NextsFit, OutputsFit, IsNet}
 use Rattle.net_core.proofs.TreeLists.{no_trees, trees_length}
-use Rattle.walk_net.specs.Next.{trees_by, next_of, HasEach}
+use Rattle.walk_net.specs.Next.{trees_by, next_whole, HasEach}
 use Rattle.walk_net.specs.Renaming.{id_at, IsIdOf, IsNode, AreCopies}
 use Rattle.walk_net.specs.Registers.{Ends}
 use Rattle.walk_net.specs.Answer.{IsRoot, IsKeptAs, AreIds, OutputsStand, NextStands}
@@ -97,7 +97,7 @@ mapped ns (p ∷ ps) pair o (inl e) r = inl (ap origin_of (sym r) ∙ ap (λ (q 
 mapped ns (p ∷ ps) pair o (inr i) r = inr (mapped ns ps pair o i r)
 
 module _ (net : NetParts) (is : IsNet net) where
-  among : HasEach (next_of net) (registers net)
+  among : HasEach (next_whole net) (registers net)
   unfolding registers
   among o t e = let b = beside net.nodes is.shared net.nexts is.nexts o t net.nexts e in mapped net.nodes net.nexts b.pair o b.among b.register
 
@@ -106,12 +106,12 @@ module _ (net : NetParts) (is : IsNet net) where
   many = length-map net.nexts (λ (pair : ℕ × ℕ). origin_of (tree_of net.nodes pair.0))
 
   -- after it, the trees are the numbered ones
-  pub walked_all : (roots : List tree.Whole) (first rooted new : List Shape) (ids : List (Option NodeId)) (origins : List NodeId) → first ≡ [] → trees_of rooted ≡ walk_all roots (trees_of first) → Ends (next_of net) 0 (trees_of rooted) (trees_of new) → AreCopies net.nodes new ids origins → IsWalked net roots new ids
+  pub walked_all : (roots : List tree.Whole) (first rooted new : List Shape) (ids : List (Option NodeId)) (origins : List NodeId) → first ≡ [] → trees_of rooted ≡ walk_all roots (trees_of first) → Ends (next_whole net) 0 (trees_of rooted) (trees_of new) → AreCopies net.nodes new ids origins → IsWalked net roots new ids
   walked_all roots first rooted new ids origins e w ends c = record {
     shared = c.shared;
     trees = λ given each.
-        in_rounds (next_of net) given each (trees_of rooted) (trees_of new) ends (trees_apart (trees_of new) c.shared.trees.one_id)
-        ∙ ap (rounds (next_of net) (length given) []) (w ∙ ap (walk_all roots) (ap trees_of e ∙ no_trees));
+        in_rounds (next_whole net) given each (trees_of rooted) (trees_of new) ends (trees_apart (trees_of new) c.shared.trees.one_id)
+        ∙ ap (rounds (next_whole net) (length given) []) (w ∙ ap (walk_all roots) (ap trees_of e ∙ no_trees));
     among = λ t i. by_in net.nodes origins c.nodes t (subst (IsIn t) (sym c.trees) i);
     long = c.long;
     each = c.each;
@@ -119,23 +119,23 @@ module _ (net : NetParts) (is : IsNet net) where
 
   module _ (roots : List tree.Whole) (new : List Shape) (ids : List (Option NodeId)) (w : IsWalked net roots new ids) where
     abbrev Kept : tree.Whole → Type 0
-    Kept t = IsKept roots (next_of net) t
+    Kept t = IsKept roots (next_whole net) t
 
-    pub trees_numbered : trees_of new ≡ numbered roots (next_of net) (length net.nexts)
-    trees_numbered = w.trees (registers net) among ∙ ap (numbered roots (next_of net)) many
+    pub trees_numbered : trees_of new ≡ numbered roots (next_whole net) (length net.nexts)
+    trees_numbered = w.trees (registers net) among ∙ ap (numbered roots (next_whole net)) many
 
-    pub kept : NumberedAreKept roots (next_of net) (trees_of new)
-    kept = subst (NumberedAreKept roots (next_of net)) (sym (w.trees (registers net) among)) (walk_keeps roots (next_of net) (registers net) among)
+    pub kept : NumberedAreKept roots (next_whole net) (trees_of new)
+    kept = subst (NumberedAreKept roots (next_whole net)) (sym (w.trees (registers net) among)) (walk_keeps roots (next_whole net) (registers net) among)
 
-    id_kept : (t : tree.Whole) (known : Option NodeId) → IsIdOf new t known → IsKeptAs roots (next_of net) new t known
+    id_kept : (t : tree.Whole) (known : Option NodeId) → IsIdOf new t known → IsKeptAs roots (next_whole net) new t known
     id_kept t None h = λ k. h ((kept.kept t).1 k)
     id_kept t (Some id) h = ((kept.kept t).0 (stands_in new id.0 t h), h)
 
-    pub are_ids : AreIds roots (next_of net) net.nodes new ids
+    pub are_ids : AreIds roots (next_whole net) net.nodes new ids
     are_ids = record { long = w.long; each = λ j l. id_kept (tree_of net.nodes j) (id_at ids j) (w.each j l) }
 
     -- a kept tree's node has an id
-    kept_id : (j : ℕ) → j < length net.nodes → IsKept roots (next_of net) (tree_of net.nodes j) → Has new (tree_of net.nodes j) (id_at ids j)
+    kept_id : (j : ℕ) → j < length net.nodes → IsKept roots (next_whole net) (tree_of net.nodes j) → Has new (tree_of net.nodes j) (id_at ids j)
     kept_id j l k = has new (tree_of net.nodes j) (id_at ids j) (w.each j l) ((kept.kept (tree_of net.nodes j)).1 k)
 
     -- ---- outputs
@@ -193,7 +193,7 @@ module _ (net : NetParts) (is : IsNet net) where
     from_net : (now : ℕ × ℕ) → IsIn now (kept_nexts ids net.nexts) → From now net.nexts
     from_net now i = from net.nexts (λ p k. k) now i
 
-    next_stands : (now : ℕ × ℕ) → IsIn now (kept_nexts ids net.nexts) → NextStands (next_of net) new now
+    next_stands : (now : ℕ × ℕ) → IsIn now (kept_nexts ids net.nexts) → NextStands (next_whole net) new now
     next_stands now i =
         let f = from_net now i in
         let n = is_next net.nodes is.shared net.nexts is.nexts f.pair f.among in
@@ -206,8 +206,8 @@ module _ (net : NetParts) (is : IsNet net) where
           stands = f.is_kept.next;
         }
 
-    pub nexts_stand : EachOf (NextStands (next_of net) new) (kept_nexts ids net.nexts)
-    nexts_stand = each_from (NextStands (next_of net) new) (kept_nexts ids net.nexts) next_stands
+    pub nexts_stand : EachOf (NextStands (next_whole net) new) (kept_nexts ids net.nexts)
+    nexts_stand = each_from (NextStands (next_whole net) new) (kept_nexts ids net.nexts) next_stands
 
     -- ---- what a net keeps of them
 

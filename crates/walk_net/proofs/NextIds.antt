@@ -7,8 +7,8 @@ use Rattle.bv_core.specs.declared.reference.NodeId.{NodeId}
 use Rattle.tree_core.specs.Tree as tree
 use Rattle.tree_core.specs.Fold.{same_tree, same_origin}
 use Rattle.tree_core.proofs.Same.{tests_trees}
-use Rattle.exec_core.specs.Lists.{EachOf, IsIn}
-use Rattle.exec_core.proofs.Lists.{each_from}
+use Rattle.list_core.specs.Lists.{EachOf, IsIn}
+use Rattle.list_core.proofs.Lists.{each_from}
 use Rattle.net_core.specs.Nodes.{Shape, tree_of}
 use Rattle.net_core.specs.Nets.{NetParts, nexts_of, is_register, IsNext, NextsFit, IsNet}
 use Rattle.net_core.specs.Builder.{AreShared}

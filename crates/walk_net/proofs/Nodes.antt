@@ -3,7 +3,7 @@ use Rattle.std.proofs.Common.{◌≡◌, ℕ, suc, ◌<◌, List, [], ◌∷◌,
 use Rattle.tree_core.specs.Tree as tree
 use Rattle.tree_core.specs.Width.{IsWhole}
 use Rattle.tree_core.specs.Fold.{folded}
-use Rattle.exec_core.specs.Lists.{IsIn, IsNotIn, AreApart}
+use Rattle.list_core.specs.Lists.{IsIn, IsNotIn, AreApart}
 use Rattle.net_core.specs.Nodes.{Shape, Fixed, TopInput, Register, OfOne, OfTwo, OfMux, shape_at, tree_at, node_tree, trees_of, tree_of, OperandsBelow, AreNumbered}
 use Rattle.net_core.specs.Builder.{Stands, HaveOneIdEach, AreShared}
 use Rattle.net_core.proofs.TreeLists.{trees_length, tree_is}

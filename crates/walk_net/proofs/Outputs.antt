@@ -3,8 +3,8 @@ use Rattle.std.proofs.Common.{◌≡◌, ℕ, ◌<◌, List, [], ◌∷◌, ◌+
 use Rattle.std.specs.Prelude.{map}
 use Rattle.bv_core.specs.declared.reference.NodeId.{NodeId}
 use Rattle.tree_core.specs.Tree.{Whole}
-use Rattle.exec_core.specs.Lists.{EachOf, IsIn}
-use Rattle.exec_core.proofs.Lists.{each_from, in_left}
+use Rattle.list_core.specs.Lists.{EachOf, IsIn}
+use Rattle.list_core.proofs.Lists.{each_from, in_left}
 use Rattle.net_core.specs.Nodes.{Shape, tree_of}
 use Rattle.net_core.specs.Nets.{outputs_of, OutputsFit}
 use Rattle.walk_net.specs.Next.{trees_by}

@@ -4,15 +4,15 @@ use Rattle.std.proofs.Math.Seq.{get_or-append_seam}
 use Rattle.tree_core.specs.Tree.{Const, Leaf, One, Two, Mux, Origin, Whole}
 use Rattle.tree_core.specs.Fold.{same_origin}
 use Rattle.tree_core.proofs.Same.{same_origin-sound, same_origin-refl}
-use Rattle.exec_core.specs.Lists.{IsIn, IsNotIn, AreApart}
+use Rattle.list_core.specs.Lists.{IsIn, IsNotIn, AreApart}
 use Rattle.exec_core.specs.Design.{or_else}
 use Rattle.exec_core.specs.Kept.{walk, was_walked, waits, pending, go_on, rounds}
-use Rattle.exec_core.proofs.Lists.{in_left, in_right, apart_split, not_in}
+use Rattle.list_core.proofs.Lists.{in_left, in_right, apart_split, not_in}
+use Rattle.list_core.proofs.Listing.{no_more}
 use Rattle.net_core.specs.Nodes.{tree_at}
 use Rattle.walk_net.specs.Next.{next_tree, HasEach}
 use Rattle.walk_net.specs.Registers.{Ends, ended, passed, walked}
 use Rattle.walk_net.proofs.Walking.{or_left, or_right, or_split, GoesOn, same_list, further, walk_grows}
-use Rattle.walk_net.proofs.Following.{no_more}
 
 -- ---- registers whose next-value tree was walked
 

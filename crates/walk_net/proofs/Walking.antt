@@ -3,9 +3,9 @@ use Rattle.std.proofs.Common.{◌≡◌, ℕ, zero, suc, ◌<◌, Bool, true, fa
 use Rattle.tree_core.specs.Tree.{Const, Leaf, One, Two, Mux, Whole}
 use Rattle.tree_core.specs.Fold.{same_tree, same_origin}
 use Rattle.tree_core.proofs.Same.{tests_trees}
-use Rattle.exec_core.specs.Lists.{IsIn}
+use Rattle.list_core.specs.Lists.{IsIn}
 use Rattle.exec_core.specs.Kept.{has_number, add, walk}
-use Rattle.exec_core.proofs.Lists.{in_left, in_right}
+use Rattle.list_core.proofs.Lists.{in_left, in_right}
 use Rattle.net_core.specs.Nodes.{tree_at}
 use Rattle.net_core.specs.Builder.{has_tree, with_tree}
 use Rattle.walk_net.specs.Tasks.{OperandsIn}

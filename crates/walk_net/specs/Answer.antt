@@ -2,7 +2,7 @@
 use Rattle.std.specs.Prelude.{◌≡◌, ℕ, ◌<◌, List, [], ◌∷◌, length, map, Option, Some, None}
 use Rattle.bv_core.specs.declared.reference.NodeId.{NodeId}
 use Rattle.tree_core.specs.Tree.{Leaf, Origin, Whole}
-use Rattle.exec_core.specs.Lists.{IsIn}
+use Rattle.list_core.specs.Lists.{IsIn}
 use Rattle.exec_core.specs.Kept.{IsKept, numbered}
 use Rattle.net_core.specs.Nodes.{Shape, tree_of}
 use Rattle.net_core.specs.Builder.{Stands}

@@ -3,7 +3,7 @@ use Rattle.std.specs.Prelude.{◌≡◌, ℕ, List, [], ◌∷◌, Option, Some,
 use Rattle.bv_core.specs.declared.reference.NodeId.{NodeId}
 use Rattle.tree_core.specs.Tree.{Const, Leaf, One, Two, Mux, Origin, Whole}
 use Rattle.tree_core.specs.Fold.{same_tree, same_origin}
-use Rattle.exec_core.specs.Lists.{IsIn}
+use Rattle.list_core.specs.Lists.{IsIn}
 use Rattle.net_core.specs.Nodes.{Shape, tree_of}
 use Rattle.net_core.specs.Nets.{NetParts}
 
@@ -19,8 +19,8 @@ abbrev pub next_among : List Shape → List (ℕ × ℕ) → Origin → Option W
 next_among ns [] o = None
 next_among ns (pair ∷ pairs) o = if same_tree same_origin (Leaf o) (tree_of ns pair.0) then Some (tree_of ns pair.1) else next_among ns pairs o
 
-abbrev pub next_of : NetParts → Origin → Option Whole
-next_of net o = next_among net.nodes net.nexts o
+abbrev pub next_whole : NetParts → Origin → Option Whole
+next_whole net o = next_among net.nodes net.nexts o
 
 -- that of a tree, if it is a register
 abbrev pub next_tree : (Origin → Option Whole) → Whole → Option Whole

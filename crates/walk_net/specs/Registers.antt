@@ -5,7 +5,7 @@ use Rattle.tree_core.specs.Tree.{Origin, Whole}
 use Rattle.exec_core.specs.Kept.{walk}
 use Rattle.net_core.specs.Nodes.{tree_at, tree_of}
 use Rattle.net_core.specs.Nets.{NetParts}
-use Rattle.walk_net.specs.Next.{tree_by, next_of, next_tree}
+use Rattle.walk_net.specs.Next.{tree_by, next_whole, next_tree}
 use Rattle.walk_net.specs.Renaming.{id_at}
 
 -- what numbered trees come to: from a number on, the next-value tree of each register is walked
@@ -32,4 +32,4 @@ HasPlace count pair = pair.0.0 < count
 pub record AreNextIds (net : NetParts) (ids : List (Option NodeId)) : Type 0 where
   pub long : length ids ≡ length net.nodes
   pub within : (j : ℕ) (id : NodeId) → id_at ids j ≡ Some id → id.0 < length net.nodes
-  pub next : (j : ℕ) → j < length net.nodes → option_map (tree_by net.nodes) (id_at ids j) ≡ next_tree (next_of net) (tree_of net.nodes j)
+  pub next : (j : ℕ) → j < length net.nodes → option_map (tree_by net.nodes) (id_at ids j) ≡ next_tree (next_whole net) (tree_of net.nodes j)

@@ -2,18 +2,18 @@
 use Rattle.std.specs.Prelude.{◌≡◌, ℕ, ◌<◌, List, [], ◌∷◌, ◌++◌, length, map, Option, Some, None}
 use Rattle.bv_core.specs.declared.reference.NodeId.{NodeId}
 use Rattle.tree_core.specs.Tree.{Whole}
-use Rattle.exec_core.specs.Lists.{IsIn}
+use Rattle.list_core.specs.Lists.{IsIn}
 use Rattle.net_core.specs.Nodes.{Shape, trees_of, tree_of}
 use Rattle.net_core.specs.Builder.{AreShared}
 use Rattle.net_core.specs.Nets.{NetParts}
-use Rattle.walk_net.specs.Next.{next_of}
+use Rattle.walk_net.specs.Next.{next_whole}
 use Rattle.walk_net.specs.Renaming.{id_at, IsIdOf}
 use Rattle.walk_net.specs.Answer.{AreNumbers}
 
 -- what the walk over a net comes to: its trees, numbered, and for each of its nodes the number of its tree, if it has one
 pub record IsWalked (net : NetParts) (roots : List Whole) (new : List Shape) (ids : List (Option NodeId)) : Type 0 where
   pub shared : AreShared new
-  pub trees : AreNumbers roots (next_of net) (trees_of new)
+  pub trees : AreNumbers roots (next_whole net) (trees_of new)
   pub among : (t : Whole) → IsIn t (trees_of new) → IsIn t (trees_of net.nodes)
   pub long : length ids ≡ length net.nodes
   pub each : (j : ℕ) → j < length net.nodes → IsIdOf new (tree_of net.nodes j) (id_at ids j)

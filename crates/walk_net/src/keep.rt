@@ -1,10 +1,12 @@
+//! What roots need of a net, with the next values of the registers among it, as a net of its own.
+
 ghost use Rattle.std.specs.Prelude.{◌≡◌, ◌<◌, ℕ, [], length, IfOk, OnOk, None};
 ghost use Rattle.net_core.specs.Nodes.{trees_of};
 ghost use Rattle.net_core.specs.Builder.{AreShared};
 ghost use Rattle.net_core.specs.Nets.{IsNet};
-ghost use Rattle.exec_core.specs.Lists.{EachOf};
+ghost use Rattle.list_core.specs.Lists.{EachOf};
 ghost use Rattle.exec_core.specs.Kept.{numbered, NumberedAreKept};
-ghost use Rattle.walk_net.specs.Next.{trees_by, next_of};
+ghost use Rattle.walk_net.specs.Next.{trees_by, next_whole};
 ghost use Rattle.walk_net.specs.Renaming.{id_at, IsNode};
 ghost use Rattle.walk_net.specs.Answer.{IsRoot, AreIds, AreNumbers, OutputsStand, NextStands};
 ghost use Rattle.walk_net.specs.Walked.{IsWalked};
@@ -74,12 +76,12 @@ fn walked_ids(
 pub fn keep_nodes(alloc: Global, net: &Net, roots: &[NodeId]) -> Result<Walked, NoMemory>
     requires roots { EachOf (IsNode net.now.nodes) roots.now }
     requires outputs { EachOf (IsRoot net.now.nodes (trees_by net.now.nodes roots.now)) net.now.outputs }
-    ensures nodes { IfOk result (λ walked. trees_of walked.net.nodes ≡ numbered (trees_by net.now.nodes roots.now) (next_of net.now) (length net.now.nexts)) }
-    ensures rounds { IfOk result (λ walked. AreNumbers (trees_by net.now.nodes roots.now) (next_of net.now) (trees_of walked.net.nodes)) }
-    ensures kept { IfOk result (λ walked. NumberedAreKept (trees_by net.now.nodes roots.now) (next_of net.now) (trees_of walked.net.nodes)) }
-    ensures ids { IfOk result (λ walked. AreIds (trees_by net.now.nodes roots.now) (next_of net.now) net.now.nodes walked.net.nodes walked.ids) }
+    ensures nodes { IfOk result (λ walked. trees_of walked.net.nodes ≡ numbered (trees_by net.now.nodes roots.now) (next_whole net.now) (length net.now.nexts)) }
+    ensures rounds { IfOk result (λ walked. AreNumbers (trees_by net.now.nodes roots.now) (next_whole net.now) (trees_of walked.net.nodes)) }
+    ensures kept { IfOk result (λ walked. NumberedAreKept (trees_by net.now.nodes roots.now) (next_whole net.now) (trees_of walked.net.nodes)) }
+    ensures ids { IfOk result (λ walked. AreIds (trees_by net.now.nodes roots.now) (next_whole net.now) net.now.nodes walked.net.nodes walked.ids) }
     ensures outputs { IfOk result (λ walked. OutputsStand net.now.nodes walked.net.nodes net.now.outputs walked.net.outputs) }
-    ensures nexts { IfOk result (λ walked. EachOf (NextStands (next_of net.now) walked.net.nodes) walked.net.nexts) }
+    ensures nexts { IfOk result (λ walked. EachOf (NextStands (next_whole net.now) walked.net.nodes) walked.net.nexts) }
     ensures net { IfOk result (λ walked. IsNet walked.net) }
 {
     let mut builder = NetBuilder::new(alloc)?;

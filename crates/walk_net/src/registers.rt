@@ -1,8 +1,10 @@
+//! The next values of the registers that were kept, walked in the order of the new nodes, until none is left.
+
 ghost use Rattle.std.specs.Prelude.{◌≡◌, ◌<◌, [], length, IfOk, IfSome, OnOk, option_map, Some, None, slice_set, ℕ};
 ghost use Rattle.net_core.specs.Nodes.{trees_of};
 ghost use Rattle.net_core.specs.Builder.{AreShared};
-ghost use Rattle.exec_core.specs.Lists.{EachOf};
-ghost use Rattle.walk_net.specs.Next.{tree_by, next_of};
+ghost use Rattle.list_core.specs.Lists.{EachOf};
+ghost use Rattle.walk_net.specs.Next.{tree_by, next_whole};
 ghost use Rattle.walk_net.specs.Renaming.{AreCopies, IsNode, id_at};
 ghost use Rattle.walk_net.specs.Registers.{Ends, followed, with_nexts, HasPlace, AreNextIds};
 
@@ -85,7 +87,7 @@ pub(crate) fn walk_nexts(
     requires copies { AreCopies net.now.nodes builder.old ids.old origins.old.items }
     requires nexts { AreNextIds net.now nexts.now }
     ensures copies { OnOk result (AreCopies net.now.nodes builder.new ids.new origins.new.items) }
-    ensures ends { OnOk result (Ends (next_of net.now) 0 (trees_of builder.old) (trees_of builder.new)) }
+    ensures ends { OnOk result (Ends (next_whole net.now) 0 (trees_of builder.old) (trees_of builder.new)) }
 {
     let mut tasks = Vec::new(alloc);
     let mut place = 0;

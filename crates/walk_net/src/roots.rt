@@ -1,6 +1,7 @@
+//! The first roots of what is kept: the outputs.
+
 ghost use Rattle.std.specs.Prelude.{◌≡◌, IfOk};
-ghost use Rattle.exec_core.specs.Lists.{EachOf};
-ghost use Rattle.net_core.specs.Nets.{outputs_of as net_outputs};
+ghost use Rattle.list_core.specs.Lists.{EachOf};
 ghost use Rattle.walk_net.specs.Next.{trees_by};
 ghost use Rattle.walk_net.specs.Renaming.{IsNode};
 ghost use Rattle.walk_net.specs.Answer.{IsRoot, output_trees};

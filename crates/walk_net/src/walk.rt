@@ -1,7 +1,9 @@
+//! A walk from a node over its operands, with a stack in place of recursion.
+
 ghost use Rattle.std.specs.Prelude.{◌≡◌, ◌<◌, [], length, OnOk};
 ghost use Rattle.net_core.specs.Nodes.{trees_of, tree_of};
 ghost use Rattle.net_core.specs.Builder.{AreShared};
-ghost use Rattle.exec_core.specs.Lists.{EachOf};
+ghost use Rattle.list_core.specs.Lists.{EachOf};
 ghost use Rattle.exec_core.specs.Kept.{walk, walk_all};
 ghost use Rattle.walk_net.specs.Next.{trees_by};
 ghost use Rattle.walk_net.specs.Tasks.{did, all_done, CanDo, CanDoAll, Stacked};

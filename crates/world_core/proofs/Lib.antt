@@ -1,3 +1,4 @@
-pub mod Listing
 pub mod Status
 pub mod Trails
+pub mod Seen
+pub mod Kept

@@ -2,7 +2,8 @@
 use Rattle.std.specs.Prelude.{ℕ, Bool, true, false, ◌==◌, ◌&&◌, ◌||◌, not, List, length, map, filter}
 use Rattle.std.specs.List.{enumerate_from, flat_map}
 use Rattle.design_core.specs.Design.{Gens, Block, Variant, Design}
-use Rattle.design_core.specs.Slots.{heads, scope, from}
+use Rattle.design_core.specs.Slots.{heads, scope}
+use Rattle.list_core.specs.Lists.{from}
 use Rattle.design_core.specs.WellFormed.{all_slots}
 use Rattle.exec_core.specs.Block as blocks
 use Rattle.exec_core.specs.Block.{Name, Key, Now, same_key, own}

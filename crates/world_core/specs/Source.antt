@@ -9,11 +9,11 @@ use Rattle.exec_core.specs.Exec.{Env}
 use Rattle.exec_core.specs.Whole.{Place}
 use Rattle.exec_core.specs.Run.{thread_of}
 use Rattle.design_core.specs.Design.{Design}
-use Rattle.design_core.specs.Slots.{from}
+use Rattle.list_core.specs.Lists.{from}
 use Rattle.design_exec.specs.Processes.{processes_of}
 use Rattle.world_core.specs.declared.mode.Mode.{Mode}
 use Rattle.world_core.specs.Sites.{Site, sites_at, sites_in_order, site_body, instances_with, is_unset}
-use Rattle.world_core.specs.World.{Status, IsUnset, IsRemoved, HasWidth, Shows, World}
+use Rattle.world_core.specs.World.{Status, IsUnset, IsRemoved, HasWidth, shown_by, Shows, World}
 use Rattle.world_core.specs.Kept.{name_tree, is_kept}
 
 -- the settled values of a cycle of a run; it has no others
@@ -54,8 +54,12 @@ status_at d n mode k i x = if unset_at d k x then IsUnset else kept_status (is_k
 abbrev pub shows_of : Design → Site → Shows
 shows_of d s = record { line = s.line; gens = s.gens; names = s.names; instances = instances_with d s.variant }
 
--- the world of a run: an instance is a thread of a slot in a cycle where it executes the slot's statement, and each name has there
--- what it has before the statement. What was kept says only what is removed
+-- what a name has before a slot's statement, where an instance executes it in a cycle
+abbrev pub value_before : Design → List (Place → Bits) → ℕ → ℕ → ℕ → Name → Option Bits
+value_before d run t k i x = option_and_then (λ env. env (Now x)) (visit_in d run t k i)
+
+-- the world of a run: an instance is a thread of a slot in a cycle where it executes the slot's statement, and of each name that is
+-- shown there is what it has before the statement. What was kept says only what is removed
 abbrev pub source_world : Design → ℕ → Mode → List (Place → Bits) → World
 source_world d n mode run = record {
   cycles = length run;
@@ -63,7 +67,7 @@ source_world d n mode run = record {
   slots = map (shows_of d) (sites_in_order d);
   status = status_at d n mode;
   threads = λ t k. filter (λ i. is_some (visit_in d run t k i)) (from 0 (length d.instances));
-  value = λ t k i x. option_and_then (λ env. env (Now x)) (visit_in d run t k i);
+  shown = λ t k i x. shown_by (status_at d n mode k i x) (value_before d run t k i x);
 }
 
 -- ---- the rows of a stimulus as what the inputs have

@@ -5,9 +5,8 @@ use Rattle.std.specs.Fmt.{decimal, signed_decimal}
 use Rattle.bv_core.specs.Value.{Bits}
 use Rattle.bv_core.specs.Text as text
 use Rattle.exec_core.specs.Block.{Name}
-use Rattle.exec_core.specs.Lists.{IsIn}
+use Rattle.list_core.specs.Lists.{IsIn, from}
 use Rattle.design_core.specs.Design.{Gens}
-use Rattle.design_core.specs.Slots.{from}
 
 -- what a name stands for at a statement of an instance, whatever the cycle: nothing, as some path to the statement does not assign
 -- it; an expression that was not kept; or a value of this width
@@ -24,18 +23,7 @@ pub record Shows : Type 0 where
   pub names : List Name
   pub instances : List ℕ
 
--- a world: how many cycles there are; the paths of the instances, in preorder; the statements, in the order of their slots; the
--- status of each name at a statement of an instance; the instances that are threads of a slot in a cycle, in preorder; and the value
--- of a name there, if it is known
-pub record World : Type 0 where
-  pub cycles : ℕ
-  pub paths : List Name
-  pub slots : List Shows
-  pub status : (slot instance : ℕ) → Name → Status
-  pub threads : (cycle slot : ℕ) → List ℕ
-  pub value : (cycle slot instance : ℕ) → Name → Option Bits
-
--- what is shown of a name
+-- what is shown of a name: by its status, and by its value, if that is known
 pub data Shown : Type 0 where
   Value : Bits → Shown
   Unknown : Shown
@@ -48,8 +36,23 @@ shown_by IsRemoved v = Removed
 shown_by (HasWidth width) (Some bits) = Value bits
 shown_by (HasWidth width) None = Unknown
 
-abbrev pub shown_in : World → (cycle slot instance : ℕ) → Name → Shown
-shown_in w t k i x = shown_by (w.status k i x) (w.value t k i x)
+-- the value that is shown, where one is
+abbrev pub value_shown : Shown → Option Bits
+value_shown (Value bits) = Some bits
+value_shown Unknown = None
+value_shown Unset = None
+value_shown Removed = None
+
+-- a world: how many cycles there are; the paths of the instances, in preorder; the statements, in the order of their slots; the
+-- status of each name at a statement of an instance; the instances that are threads of a slot in a cycle, in preorder; and what is
+-- shown of a name there
+pub record World : Type 0 where
+  pub cycles : ℕ
+  pub paths : List Name
+  pub slots : List Shows
+  pub status : (slot instance : ℕ) → Name → Status
+  pub threads : (cycle slot : ℕ) → List ℕ
+  pub shown : (cycle slot instance : ℕ) → Name → Shown
 
 -- ---- worlds that differ in nothing that can be seen
 
@@ -73,7 +76,7 @@ pub record AreSame (v w : World) : Type 0 where
   pub slots : v.slots ≡ w.slots
   pub status : (k i : ℕ) (x : Name) → HasStatement w k i → IsInScope w k x → v.status k i x ≡ w.status k i x
   pub threads : (t k : ℕ) → t < w.cycles → k < length w.slots → v.threads t k ≡ w.threads t k
-  pub shown : (t k i : ℕ) (x : Name) → t < w.cycles → IsIn i (w.threads t k) → IsInScope w k x → shown_in v t k i x ≡ shown_in w t k i x
+  pub shown : (t k i : ℕ) (x : Name) → t < w.cycles → IsIn i (w.threads t k) → IsInScope w k x → v.shown t k i x ≡ w.shown t k i x
 
 -- ---- the text of a trail
 
@@ -101,7 +104,7 @@ path_in w i = slice_index_or w.paths i (codes "")
 
 -- a position: a line for each of its threads
 abbrev pub position_text : World → ℕ → ℕ × Shows → List ℕ
-position_text w cycle slot = flat_map (λ i. trail_line cycle slot.1 (path_in w i) (shown_in w cycle slot.0 i)) (w.threads cycle slot.0)
+position_text w cycle slot = flat_map (λ i. trail_line cycle slot.1 (path_in w i) (w.shown cycle slot.0 i)) (w.threads cycle slot.0)
 
 -- a cycle: the slots in the order of their numbers
 abbrev pub cycle_text : World → ℕ → List ℕ

@@ -1,4 +1,7 @@
+//! Laws of worlds and of what is kept.
+
 ghost use Rattle.world_core.specs.World.{SameTrails};
+ghost use Rattle.world_core.specs.Seen.{SameWorldsAreSeenAlike, SeenWorldsAreSame, SeenWorldsKeepTrails};
 ghost use Rattle.world_core.specs.Kept.{KeptAreLeast};
 ghost use Rattle.world_core.specs.Sample.{sample_is_walked, sample_is_kept};
 
@@ -16,4 +19,12 @@ pub fn kept_are_least()
 pub fn walks_the_sample()
     ensures walked { sample_is_walked }
     ensures kept { sample_is_kept }
+{}
+
+/// Worlds that differ in nothing that can be seen are equal as they are seen; what is seen of a world is the same world, and has the
+/// same trail. Computes nothing.
+pub fn same_worlds_are_seen_alike()
+    ensures alike { SameWorldsAreSeenAlike }
+    ensures same { SeenWorldsAreSame }
+    ensures trails { SeenWorldsKeepTrails }
 {}

@@ -7,5 +7,7 @@
 mod laws;
 mod mode;
 
-pub use laws::{kept_are_least, same_worlds_same_trails, walks_the_sample};
+pub use laws::{
+    kept_are_least, same_worlds_are_seen_alike, same_worlds_same_trails, walks_the_sample,
+};
 pub use mode::Mode;

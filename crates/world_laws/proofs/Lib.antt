@@ -1,3 +1,4 @@
 pub mod SitesOf
 pub mod RowsFit
 pub mod Spots
+pub mod Valued

@@ -1,5 +1,5 @@
 -- A row of a stimulus gives each input of the top a value of its width, and what is looked up of it is the input of that name.
-use Rattle.std.proofs.Common.{◌≡◌, ℕ, ◌==◌, Bool, true, false, ℤ, pos, negsuc, bytes_eq, List, [], ◌∷◌, ◌++◌, map, Option, Some, None, option_map, unwrap_or, if◌then◌else◌, inl, inr, refl, sym, ap, ◌∙◌, subst, eqb-true}
+use Rattle.std.proofs.Common.{◌≡◌, ℕ, ◌==◌, Bool, true, false, ℤ, bytes_eq, List, [], ◌∷◌, ◌++◌, map, Option, Some, None, option_map, unwrap_or, if◌then◌else◌, inl, inr, refl, sym, ap, ◌∙◌, subst, eqb-true}
 use Rattle.std.specs.Prelude.{slice_get, All}
 use Rattle.std.specs.List.{flat_map}
 use Rattle.std.proofs.lemmas.Option.{none-some, same_Some}
@@ -8,7 +8,7 @@ use Rattle.bv_core.specs.Value.{Bits, IsBits}
 use Rattle.tree_core.specs.Tree.{Origin, Input, Register}
 use Rattle.tree_core.specs.Width.{IsOf}
 use Rattle.exec_core.specs.Block.{Name}
-use Rattle.exec_core.specs.Lists.{EachOf, IsIn}
+use Rattle.list_core.specs.Lists.{EachOf, IsIn}
 use Rattle.exec_core.specs.Design.{place}
 use Rattle.exec_core.specs.States.{InputFits, RowFits}
 use Rattle.design_core.specs.declared.design.Instance.{Instance}
@@ -17,19 +17,20 @@ use Rattle.design_core.specs.declared.variant.Kind.{Kind}
 use Rattle.design_core.specs.declared.variant.Kind.TheVariants as kind
 use Rattle.design_core.specs.Design.{Variant, Design}
 use Rattle.design_core.specs.Ports as ports
-use Rattle.design_core.specs.Ports.{ports_in, one_port, is_port, top_signals}
+use Rattle.design_core.specs.Ports.{ports_in, is_port, top_signals}
 use Rattle.design_exec.specs.Processes as processes
-use Rattle.design_exec.specs.Processes.{Numbered, Given, processes_of, given_by, givens_at, signals_in}
-use Rattle.check_core.specs.Known.{Known, none, with}
+use Rattle.design_exec.specs.Processes.{Numbered, Given, processes_of, given_by, givens_at}
+use Rattle.names.specs.Known.{Known, none, with}
 use Rattle.check_core.specs.Names.{signal_thing}
 use Rattle.check_exec.specs.Premises.{IsSound}
 use Rattle.gen_token.specs.Spelling.{is_name_text, IsName}
 use Rattle.design_core.specs.WellFormed.{IfPort, IsVariant}
-use Rattle.exec_core.proofs.Lists.{each_member}
+use Rattle.list_core.proofs.Lists.{each_member}
 use Rattle.check_exec.proofs.Facts.{each_at, each_flat, name_same, eq_turned}
 use Rattle.check_exec.proofs.Instances.{Stands, clean, each_instance}
 use Rattle.check_exec.proofs.Names.{Differ, other_behind, signals_differ}
 use Rattle.world_core.specs.Source.{value_named, rows_named}
+use Rattle.design_core.specs.Widths.{bits}
 
 abbrev pub Port : Type 0
 Port = Name × ℕ
@@ -57,39 +58,35 @@ value_fits (p ∷ ps) (v ∷ row) x w e long bits =
     by_test false more width good later = later more
 
 -- the signals of inputs, each of which has another name
-pub input_first : (taken : Known) (signals : List Signal) → Differ taken (map signal_thing signals) → (s : Signal) → IsIn s signals → s.kind ≡ kind.Input → first_width (ports_in false signals) s.name ≡ Some (ports.bits s.width)
+pub input_first : (taken : Known) (signals : List Signal) → Differ taken (map signal_thing signals) → (s : Signal) → IsIn s signals → s.kind ≡ kind.Input → first_width (ports_in false signals) s.name ≡ Some (bits s.width)
 input_first taken [] d s at e = absurd at
 input_first taken (t ∷ signals) d s (inl same) e =
-    subst (λ (z : Signal). first_width (ports_in false (z ∷ signals)) s.name ≡ Some (ports.bits s.width)) same
-    (ap (λ k. first_width ((if is_port false k then (s.name, ports.bits s.width) ∷ [] else []) ++ ports_in false signals) s.name) e
-    ∙ ap (λ b. if b then Some (ports.bits s.width) else first_width (ports_in false signals) s.name) (name_same s.name s.name refl))
+    subst (λ (z : Signal). first_width (ports_in false (z ∷ signals)) s.name ≡ Some (bits s.width)) same
+    (ap (λ k. first_width ((if is_port false k then (s.name, bits s.width) ∷ [] else []) ++ ports_in false signals) s.name) e
+    ∙ ap (λ b. if b then Some (bits s.width) else first_width (ports_in false signals) s.name) (name_same s.name s.name refl))
 input_first taken (t ∷ signals) d s (inr at) e =
     passed (is_port false t.kind) (eq_turned t.name s.name ∙ other_behind taken t signals d.1 s at) ∙ input_first (with t.name taken) signals d.1 s at e
   where
-    passed : (b : Bool) → bytes_eq t.name s.name ≡ false → first_width ((if b then (t.name, ports.bits t.width) ∷ [] else []) ++ ports_in false signals) s.name ≡ first_width (ports_in false signals) s.name
-    passed true differs = ap (λ c. if c then Some (ports.bits t.width) else first_width (ports_in false signals) s.name) differs
+    passed : (b : Bool) → bytes_eq t.name s.name ≡ false → first_width ((if b then (t.name, bits t.width) ∷ [] else []) ++ ports_in false signals) s.name ≡ first_width (ports_in false signals) s.name
+    passed true differs = ap (λ c. if c then Some (bits t.width) else first_width (ports_in false signals) s.name) differs
     passed false differs = refl
 
 -- and each is among the inputs
-pub input_among : (signals : List Signal) (s : Signal) → IsIn s signals → s.kind ≡ kind.Input → IsIn (s.name, ports.bits s.width) (ports_in false signals)
+pub input_among : (signals : List Signal) (s : Signal) → IsIn s signals → s.kind ≡ kind.Input → IsIn (s.name, bits s.width) (ports_in false signals)
 input_among [] s at e = absurd at
 input_among (t ∷ signals) s (inl same) e =
-    subst (λ (z : Signal). IsIn (s.name, ports.bits s.width) (ports_in false (z ∷ signals))) same
-    (subst (λ k. IsIn (s.name, ports.bits s.width) ((if is_port false k then (s.name, ports.bits s.width) ∷ [] else []) ++ ports_in false signals)) (sym e) (inl refl))
+    subst (λ (z : Signal). IsIn (s.name, bits s.width) (ports_in false (z ∷ signals))) same
+    (subst (λ k. IsIn (s.name, bits s.width) ((if is_port false k then (s.name, bits s.width) ∷ [] else []) ++ ports_in false signals)) (sym e) (inl refl))
 input_among (t ∷ signals) s (inr at) e = behind (is_port false t.kind) (input_among signals s at e)
   where
-    behind : (b : Bool) → IsIn (s.name, ports.bits s.width) (ports_in false signals) → IsIn (s.name, ports.bits s.width) ((if b then (t.name, ports.bits t.width) ∷ [] else []) ++ ports_in false signals)
+    behind : (b : Bool) → IsIn (s.name, bits s.width) (ports_in false signals) → IsIn (s.name, bits s.width) ((if b then (t.name, bits t.width) ∷ [] else []) ++ ports_in false signals)
     behind true i = inr i
     behind false i = i
 
 -- ---- what is given by a design
 
-pub same_bits : (n : ℤ) → ports.bits n ≡ processes.bits n
-same_bits (pos n) = refl
-same_bits (negsuc n) = refl
-
 abbrev of_signal : Numbered → Signal → List Given
-of_signal q s = given_by q s.name (processes.bits s.width) s.kind
+of_signal q s = given_by q s.name (bits s.width) s.kind
 
 givens_none : (d : Design) (i : ℕ) (r : Instance) → slice_get d.variants r.variant ≡ None → givens_at d (i, r) ≡ []
 givens_none d i r e = ap (λ o. flat_map (of_signal (i, r)) (unwrap_or (option_map (λ (w : Variant). w.signals) o) [])) e
@@ -110,15 +107,15 @@ abbrev Of : (Name → ℕ → Type 0) → Origin → Type 0
 Of P (Input name width) = P name width
 Of P (Register instance name start) = Unit {0}
 
-module _ (d : Design) (sound : IsSound d) (P : Name → ℕ → Type 0) (h : (s : Signal) → IsIn s (top_signals d) → Differ none (map signal_thing (top_signals d)) → s.kind ≡ kind.Input → P s.name (ports.bits s.width)) where
-  given_one : (i : ℕ) (r : Instance) (v : Variant) → Stands d i r v → (s : Signal) → IsIn s v.signals → (k : Kind) → s.kind ≡ k → EachOf (λ (given : Given). Of P given.1) (given_by (i, r) s.name (processes.bits s.width) k)
+module _ (d : Design) (sound : IsSound d) (P : Name → ℕ → Type 0) (h : (s : Signal) → IsIn s (top_signals d) → Differ none (map signal_thing (top_signals d)) → s.kind ≡ kind.Input → P s.name (bits s.width)) where
+  given_one : (i : ℕ) (r : Instance) (v : Variant) → Stands d i r v → (s : Signal) → IsIn s v.signals → (k : Kind) → s.kind ≡ k → EachOf (λ (given : Given). Of P given.1) (given_by (i, r) s.name (bits s.width) k)
   given_one i r v stands s at kind.Input e = by_top (i == 0) refl
     where
-      by_top : (b : Bool) → (i == 0) ≡ b → EachOf (λ (given : Given). Of P given.1) (if b then (place i s.name, Input s.name (processes.bits s.width)) ∷ [] else [])
+      by_top : (b : Bool) → (i == 0) ≡ b → EachOf (λ (given : Given). Of P given.1) (if b then (place i s.name, Input s.name (bits s.width)) ∷ [] else [])
       by_top true z =
           let top = top_is d sound i r v stands (eqb-true i 0 z) in
           let differ = signals_differ v (clean d sound.accepted i r v stands).apart in
-          (subst (P s.name) (same_bits s.width) (h s (subst (λ l. IsIn s l) (sym top) at) (subst (λ l. Differ none (map signal_thing l)) (sym top) differ) e), tt)
+          ((h s (subst (λ l. IsIn s l) (sym top) at) (subst (λ l. Differ none (map signal_thing l)) (sym top) differ) e), tt)
       by_top false z = tt
   given_one i r v stands s at kind.Output e = tt
   given_one i r v stands s at kind.Wire e = tt

@@ -4,16 +4,16 @@ use Rattle.std.specs.Prelude.{slice_get, filter}
 use Rattle.std.specs.List.{enumerate_from, flat_map}
 use Rattle.std.proofs.lemmas.List.{map-append}
 use Rattle.std.proofs.lemmas.Option.{slice_get-map}
-use Rattle.exec_core.specs.Lists.{EachOf, IsIn, IsNotIn, AreApart}
-use Rattle.exec_core.proofs.Lists.{each_member}
+use Rattle.list_core.specs.Lists.{EachOf, IsIn, IsNotIn, AreApart, from}
+use Rattle.list_core.proofs.Lists.{each_member, not_in}
 use Rattle.design_core.specs.declared.design.Instance.{Instance}
 use Rattle.design_core.specs.Design.{Block, Variant, Design}
-use Rattle.design_core.specs.Slots.{Head, heads, scope, slots_of, from}
+use Rattle.design_core.specs.Slots.{Head, heads, scope, slots_of}
 use Rattle.design_core.specs.WellFormed.{IsDesign, all_slots}
 use Rattle.design_exec.specs.Processes.{Numbered, instances_of}
 use Rattle.check_exec.proofs.Facts.{each_map, each_flat, from_zero, in_index}
 use Rattle.world_core.specs.Sites.{Site, sites_in_block, sites_in, sites_of, slot_count, has_slot, sites_at, sites_in_order, instances_with, Spot, spots_of, all_spots}
-use Rattle.world_core.proofs.Listing.{map_in, map_from, flat_in, flat_from, filter_from, at_number, in_not_in, from_in, from_at, all_there}
+use Rattle.list_core.proofs.Listing.{map_in, map_from, flat_in, flat_from, filter_from, at_number, from_in, from_at, all_there}
 
 -- ---- a statement
 
@@ -110,7 +110,7 @@ one_at k (s ∷ sites) apart (inr i) =
       site = found.site;
       is =
           ap (λ b. cond b (s ∷ filter (has_slot k) sites) (filter (has_slot k) sites))
-          (ne_eqb s.slot k (λ e. in_not_in s.slot (map site_slot sites) apart.0 (subst (λ j. IsIn j (map site_slot sites)) (sym e) i)))
+          (ne_eqb s.slot k (λ e. not_in s.slot (map site_slot sites) apart.0 (subst (λ j. IsIn j (map site_slot sites)) (sym e) i)))
           ∙ found.is;
       among = inr found.among;
       slot = found.slot;

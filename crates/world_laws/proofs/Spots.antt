@@ -10,14 +10,14 @@ use Rattle.bv_core.specs.Operators.{flag_of}
 use Rattle.tree_core.specs.Tree.{Tree}
 use Rattle.exec_core.specs.Block.{Name, Key, Now, own, body_assigns, assigns, body_slots, slots}
 use Rattle.exec_core.specs.Exec.{Env}
-use Rattle.exec_core.specs.Lists.{IsIn, IsNotIn}
+use Rattle.list_core.specs.Lists.{IsIn, IsNotIn}
 use Rattle.exec_core.specs.Trees.{Row, row_at}
 use Rattle.exec_core.specs.Agree.{Shows, TellsVisit}
 use Rattle.exec_core.specs.Paths.{known_in}
 use Rattle.exec_core.specs.Design.{Process, place, signals_of}
 use Rattle.exec_core.specs.Run.{slots_in}
-use Rattle.exec_core.proofs.Slots.{some_if}
-use Rattle.exec_core.proofs.Lists.{filter_member}
+use Rattle.list_core.proofs.Options.{some_if}
+use Rattle.list_core.proofs.Lists.{filter_member, none_in, in_cases}
 use Rattle.design_core.specs.declared.design.Instance.{Instance}
 use Rattle.design_core.specs.declared.variant.Signal.{Signal}
 use Rattle.design_core.specs.Design as design
@@ -25,10 +25,10 @@ use Rattle.design_core.specs.Design.{Variant, Block, Design}
 use Rattle.design_core.specs.Slots.{Head, heads, stmt_heads, else_heads, slots_of, lets_of, let_of, else_lets, scope}
 use Rattle.design_core.specs.WellFormed.{IsDesign}
 use Rattle.design_exec.specs.Processes.{instances_of, process, processes_at, processes_of, body_of, stmt_of, else_of, signals_in, blocks_in, is_signal_of}
-use Rattle.check_exec.proofs.Facts.{in_parts, in_any, name_same}
+use Rattle.check_exec.proofs.Facts.{in_any, name_same}
 use Rattle.check_exec.proofs.Instances.{Stands, signals_are}
 use Rattle.world_core.specs.Sites.{Site, sites_of, sites_in_order}
-use Rattle.world_core.proofs.Listing.{map_in, map_from, flat_in, flat_from, filter_from, at_number, not_in_from}
+use Rattle.list_core.proofs.Listing.{map_in, map_from, flat_in, flat_from, filter_from, at_number}
 use Rattle.world_laws.proofs.SitesOf.{SiteOf, site_of, ordered, at_numbers}
 
 -- ---- the names in scope are known
@@ -38,14 +38,14 @@ mutual
   let_set c x (design.Assign slot line gens y e) i = absurd i
   let_set c x (design.Let slot line gens y e) (inl same) = name_same y x (sym same)
   let_set c x (design.Let slot line gens y e) (inr i) = absurd i
-  let_set c x (design.If slot line gens t first second) i = elim (in_parts x (lets_of first) (else_lets second) i) [
+  let_set c x (design.If slot line gens t first second) i = elim (in_cases x (lets_of first) (else_lets second) i) [
     | inl h ↦ or_left (body_assigns (body_of c first) (Now x)) (body_assigns (else_of c second) (Now x)) (lets_set c x first h)
     | inr h ↦ or_right (body_assigns (body_of c first) (Now x)) (body_assigns (else_of c second) (Now x)) (else_set c x second h)
   ]
 
   lets_set : (c : Bool) (x : Name) (b : design.Body) → IsIn x (lets_of b) → body_assigns (body_of c b) (Now x) ≡ true
   lets_set c x design.Done i = absurd i
-  lets_set c x (design.Then s rest) i = elim (in_parts x (let_of s) (lets_of rest) i) [
+  lets_set c x (design.Then s rest) i = elim (in_cases x (let_of s) (lets_of rest) i) [
     | inl h ↦ or_left (assigns (stmt_of c s) (Now x)) (body_assigns (body_of c rest) (Now x)) (let_set c x s h)
     | inr h ↦ or_right (assigns (stmt_of c s) (Now x)) (body_assigns (body_of c rest) (Now x)) (lets_set c x rest h)
   ]
@@ -56,7 +56,7 @@ mutual
 
 pub scope_known : (d : Design) (i : ℕ) (r : Instance) (v : Variant) → Stands d i r v → (b : Block) (x : Name) → IsIn x (scope v b)
     → known_in (signals_of (processes_of d) (process i v.signals b)) (body_of b.clocked b.body) x ≡ true
-scope_known d i r v stands b x at = elim (in_parts x (map (λ (s : Signal). s.name) v.signals) (lets_of b.body) at) [
+scope_known d i r v stands b x at = elim (in_cases x (map (λ (s : Signal). s.name) v.signals) (lets_of b.body) at) [
   | inl h ↦
       let s = map_from (λ (s : Signal). s.name) v.signals x h in
       or_right (own (body_of b.clocked b.body) x) (is_signal_of d (place i x))
@@ -114,7 +114,7 @@ slot_site d i k r at h =
     subst (λ (z : Instance). SiteOf d k z.variant) same (site_of d q.0.1.variant v.0 block.0 k v.1.0 v.1.1 slot)
 
 pub not_there : (d : Design) → IsDesign d → (s : Site) → IsIn s (sites_in_order d) → (i : ℕ) (r : Instance) → slice_get d.instances i ≡ Some r → (r.variant == s.variant) ≡ false → IsNotIn s.slot (slots_in (processes_of d) i)
-not_there d kept s among i r at other = not_in_from s.slot (slots_in (processes_of d) i) (λ h.
+not_there d kept s among i r at other = none_in s.slot (slots_in (processes_of d) i) (λ h.
     let site = slot_site d i s.slot r at h in
     let mine = ordered d kept s among in
     let same : site.site ≡ s = by_one site.site s (subst (λ l. IsIn site.site l) mine.alone (passed site.site (sites_of d) site.among site.slot_is)) in

@@ -1,6 +1,6 @@
 -- Laws of the statements of a well-formed design.
 use Rattle.std.specs.Prelude.{◌≡◌, Some, slice_get}
-use Rattle.exec_core.specs.Lists.{IsIn}
+use Rattle.list_core.specs.Lists.{IsIn}
 use Rattle.design_core.specs.Design.{Design}
 use Rattle.design_core.specs.WellFormed.{IsDesign}
 use Rattle.world_core.specs.Sites.{Site, sites_of, sites_in_order}

@@ -1,6 +1,6 @@
-//! Laws of the statements of a design by their slots. This crate computes nothing.
+//! Laws of the statements of a design by their slots, and of what names have at them in a run. This crate computes nothing.
 #![tactic(auto)]
 
 mod laws;
 
-pub use laws::statements_are_placed;
+pub use laws::{names_have_values, statements_are_placed};

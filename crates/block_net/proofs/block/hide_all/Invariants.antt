@@ -1,5 +1,5 @@
 use Rattle.std.proofs.Common.{◌≡◌, take}
-use Rattle.check_core.specs.Maps.{value_of}
+use Rattle.names.specs.Maps.{value_of}
 use Rattle.block_net.specs.Blocks.{hidden}
 use Rattle.block_net.specs.Walks.{among}
 use Rattle.block_net.proofs.block.hide_all.Given as goal

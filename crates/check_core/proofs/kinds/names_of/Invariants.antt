@@ -1,5 +1,5 @@
 use Rattle.std.proofs.Common.{◌≡◌, drop}
-use Rattle.check_core.specs.Known.{has, either}
+use Rattle.names.specs.Known.{has, either}
 use Rattle.check_core.specs.Names.{kinds_of, named}
 use Rattle.check_core.proofs.kinds.names_of.Given as goal
 

@@ -1,5 +1,5 @@
 use Rattle.std.proofs.Common.{◌≡◌, ◌++◌, drop}
-use Rattle.check_core.specs.Statements.{stmts_at}
+use Rattle.design_core.specs.Statements.{stmts_at}
 use Rattle.check_core.specs.Names.{lets_in}
 use Rattle.check_names.specs.Things.{things_at}
 use Rattle.check_names.proofs.duplicate.lets_of.Given as goal

@@ -1,5 +1,5 @@
 use Rattle.std.proofs.Common.{◌≡◌, drop}
-use Rattle.check_core.specs.Known.{has, either}
+use Rattle.names.specs.Known.{has, either}
 use Rattle.check_core.specs.Names.{taken_twice}
 use Rattle.check_names.specs.Things.{things_at}
 use Rattle.check_names.proofs.duplicate.taken_twice.Given as goal

@@ -1,7 +1,7 @@
 use Rattle.std.proofs.Common.{subst, map, ap, ◌∙◌}
 use Rattle.design_core.specs.View.{variant_of}
 use Rattle.check_core.specs.Names.{named, is_child_output}
-use Rattle.check_core.specs.Known.{Known}
+use Rattle.names.specs.Known.{Known}
 use Rattle.check_core.specs.Faults.{Tells}
 use Rattle.check_core.specs.Ports.{unknown_port_among}
 use Rattle.check_names.proofs.ports.unknown_port.Goals as goal

@@ -1,6 +1,6 @@
 use Rattle.std.proofs.Common.{◌≡◌, drop, map}
 use Rattle.design_core.specs.View.{conn_of}
-use Rattle.check_core.specs.Known.{has}
+use Rattle.names.specs.Known.{has}
 use Rattle.check_core.specs.Faults.{first_of}
 use Rattle.check_core.specs.Ports.{unknown_port_at}
 use Rattle.check_names.proofs.ports.unknown_port_in_conns.Given as goal

@@ -1,6 +1,6 @@
 use Rattle.std.proofs.Common.{◌≡◌, drop}
-use Rattle.check_core.specs.Statements.{stmts_at}
-use Rattle.check_core.specs.Known.{has}
+use Rattle.design_core.specs.Statements.{stmts_at}
+use Rattle.names.specs.Known.{has}
 use Rattle.check_core.specs.Faults.{first_of}
 use Rattle.check_core.specs.Ports.{unknown_port_in}
 use Rattle.check_names.proofs.ports.unknown_port_in_stmts.Given as goal

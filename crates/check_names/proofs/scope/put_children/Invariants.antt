@@ -1,6 +1,6 @@
 use Rattle.std.proofs.Common.{◌≡◌, drop, map}
 use Rattle.design_core.specs.View.{child_of}
-use Rattle.check_core.specs.Known.{has, either}
+use Rattle.names.specs.Known.{has, either}
 use Rattle.check_core.specs.Names.{child_named}
 use Rattle.check_names.proofs.scope.put_children.Given as goal
 

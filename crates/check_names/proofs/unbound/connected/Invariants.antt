@@ -1,6 +1,6 @@
 use Rattle.std.proofs.Common.{◌≡◌, drop, map}
 use Rattle.design_core.specs.View.{conn_of}
-use Rattle.check_core.specs.Known.{has, either}
+use Rattle.names.specs.Known.{has, either}
 use Rattle.check_core.specs.Ports.{connected}
 use Rattle.check_names.proofs.unbound.connected.Given as goal
 

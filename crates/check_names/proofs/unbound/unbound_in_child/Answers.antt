@@ -6,4 +6,4 @@ use Rattle.check_names.proofs.ConnNames.{unbound_as}
 use Rattle.check_names.proofs.unbound.unbound_in_child.Goals as goal
 
 pub returns : goal.returns
-returns c = subst (λ o. Tells c.unbound_among.result o) (unbound_as _ _ _ _ _ _ _ c.bytes.ensures (c.in_ok-ports.ensures ∙ ap (λ l. connected (map conn_of l)) c.deref.ensures.value) c.signals_at-signals.ensures) c.unbound_among.ensures
+returns c = subst (λ o. Tells c.unbound_among.result o) (unbound_as _ _ _ _ _ _ _ c.bytes.ensures (c.in_ok-ports.ensures ∙ ap (λ l. connected (map conn_of l)) c.deref.ensures.value) c.signals_of-signals.ensures) c.unbound_among.ensures

@@ -1,6 +1,6 @@
 use Rattle.std.proofs.Common.{◌≡◌, drop}
-use Rattle.check_core.specs.Known.{has, none}
-use Rattle.check_core.specs.Statements.{stmts_at}
+use Rattle.names.specs.Known.{has, none}
+use Rattle.design_core.specs.Statements.{stmts_at}
 use Rattle.check_core.specs.Names.{unknown_among}
 use Rattle.check_names.specs.Scopes.{scope_in}
 use Rattle.check_names.proofs.unknown.unknown_among.Given as goal

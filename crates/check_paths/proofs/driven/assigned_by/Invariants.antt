@@ -1,6 +1,6 @@
 use Rattle.std.proofs.Common.{◌≡◌, drop, map}
 use Rattle.design_core.specs.View.{block_of}
-use Rattle.check_core.specs.Known.{has, either}
+use Rattle.names.specs.Known.{has, either}
 use Rattle.check_core.specs.Drivers.{is_assigned}
 use Rattle.check_paths.proofs.driven.assigned_by.Given as goal
 

@@ -1,6 +1,6 @@
 use Rattle.std.proofs.Common.{◌≡◌, drop}
-use Rattle.check_core.specs.Known.{has, either}
-use Rattle.check_core.specs.Statements.{stmts_at}
+use Rattle.names.specs.Known.{has, either}
+use Rattle.design_core.specs.Statements.{stmts_at}
 use Rattle.check_core.specs.Drivers.{assignments, drives}
 use Rattle.check_paths.proofs.driven.put_targets.Given as goal
 

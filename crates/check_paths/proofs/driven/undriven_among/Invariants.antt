@@ -1,5 +1,5 @@
 use Rattle.std.proofs.Common.{◌≡◌, drop}
-use Rattle.check_core.specs.Known.{has}
+use Rattle.names.specs.Known.{has}
 use Rattle.check_core.specs.Faults.{first_of}
 use Rattle.check_core.specs.Drivers.{undriven_at}
 use Rattle.check_paths.proofs.driven.undriven_among.Given as goal

@@ -8,7 +8,7 @@ use Rattle.check_paths.proofs.early.early_in_block.Goals as goal
 pub returns-in_err-walk : goal.returns-in_err-walk
 returns-in_err-walk c =
     let p = err_from_is_err_and c.from_residual-in_err-walk.result c.from_residual-in_err-walk.ensures.1 in
-    err_told _ _ _ (p.1 ∙ ap (λ x. Err x) p.2) (λ known. sym (walk_of _ _ (block_of c.args.block.now) _ c.in_ok-own.ensures c.new-assigned.ensures (ap body_of c.deref.ensures.value)) ∙ c.in_err-walk.ensures.told known)
+    err_told _ _ _ (p.1 ∙ ap (λ x. Err x) p.2) (λ known. sym (walk_of _ _ (block_of c.args.block.now) _ c.in_ok-own.ensures c.new-assigned.ensures.known (ap body_of c.deref.ensures.value)) ∙ c.in_err-walk.ensures.told known)
 
 pub returns : goal.returns
-returns c = sym (walk_of _ _ (block_of c.args.block.now) _ c.in_ok-own.ensures c.new-assigned.ensures (ap body_of c.deref.ensures.value)) ∙ c.in_ok-walk.ensures.told
+returns c = sym (walk_of _ _ (block_of c.args.block.now) _ c.in_ok-own.ensures c.new-assigned.ensures.known (ap body_of c.deref.ensures.value)) ∙ c.in_ok-walk.ensures.told

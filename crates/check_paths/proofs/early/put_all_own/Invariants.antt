@@ -1,6 +1,6 @@
 use Rattle.std.proofs.Common.{◌≡◌, drop}
-use Rattle.check_core.specs.Known.{has}
-use Rattle.check_core.specs.Statements.{stmts_at}
+use Rattle.names.specs.Known.{has}
+use Rattle.design_core.specs.Statements.{stmts_at}
 use Rattle.check_paths.specs.Walked.{own_among}
 use Rattle.check_paths.proofs.early.put_all_own.Given as goal
 

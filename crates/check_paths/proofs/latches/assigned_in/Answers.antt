@@ -9,7 +9,7 @@ pub returns-in_err-walk-clause-told : goal.returns-in_err-walk-clause-told
 returns-in_err-walk-clause-told c =
     let p = err_from_is_err_and c.from_residual.result c.from_residual.ensures.1 in
     err_told _ _ _ (p.1 ∙ ap (λ x. Err x) p.2)
-    (λ known. sym (nothing_told _ _ (body_of c.args.stmts.now) c.new-watched.ensures) ∙ c.in_err-walk.ensures.told known)
+    (λ known. sym (nothing_told _ _ (body_of c.args.stmts.now) c.new-watched.ensures.known) ∙ c.in_err-walk.ensures.told known)
 
 pub returns-clause-assigned : goal.returns-clause-assigned
-returns-clause-assigned c = all_of_nothing _ _ (body_of c.args.stmts.now) c.new-assigned.ensures c.in_ok-walk.ensures.assigned
+returns-clause-assigned c = all_of_nothing _ _ (body_of c.args.stmts.now) c.new-assigned.ensures.known c.in_ok-walk.ensures.assigned

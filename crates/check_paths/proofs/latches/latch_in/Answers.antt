@@ -1,7 +1,7 @@
 use Rattle.std.proofs.Common.{◌∙◌, sym, ap, Err}
 use Rattle.std.proofs.lemmas.Result.{err_from_is_err_and}
 use Rattle.design_core.specs.View.{block_of, body_of}
-use Rattle.check_core.specs.Statements.{statements, stmts_at}
+use Rattle.design_core.specs.Statements.{statements, stmts_at}
 use Rattle.check_core.specs.Drivers.{assignments}
 use Rattle.check_paths.specs.Walked.{assigned_in}
 use Rattle.check_paths.proofs.Drives.{err_told}

@@ -1,7 +1,7 @@
 use Rattle.std.proofs.Common.{◌≡◌, drop}
-use Rattle.check_core.specs.Known.{has}
+use Rattle.names.specs.Known.{has}
 use Rattle.check_core.specs.Faults.{first_of}
-use Rattle.check_core.specs.Statements.{stmts_at}
+use Rattle.design_core.specs.Statements.{stmts_at}
 use Rattle.check_core.specs.Drivers.{assignments}
 use Rattle.check_paths.specs.Walked.{left_out}
 use Rattle.check_paths.proofs.latches.left_out_among.Given as goal

@@ -1,6 +1,6 @@
 use Rattle.std.proofs.Common.{◌≡◌, drop, map}
 use Rattle.design_core.specs.View.{conn_of}
-use Rattle.check_core.specs.Maps.{value_of}
+use Rattle.names.specs.Maps.{value_of}
 use Rattle.check_core.specs.Drivers.{connected_twice}
 use Rattle.check_paths.proofs.twice.connected_among.Given as goal
 

@@ -1,6 +1,6 @@
 use Rattle.std.proofs.Common.{◌≡◌, drop}
-use Rattle.check_core.specs.Maps.{value_of}
-use Rattle.check_core.specs.Statements.{stmts_at}
+use Rattle.names.specs.Maps.{value_of}
+use Rattle.design_core.specs.Statements.{stmts_at}
 use Rattle.check_core.specs.Drivers.{all_driven, assignments}
 use Rattle.check_paths.proofs.twice.note_stmts.Given as goal
 

@@ -1,7 +1,7 @@
 use Rattle.std.proofs.Common.{◌≡◌, drop}
-use Rattle.check_core.specs.Maps.{value_of}
+use Rattle.names.specs.Maps.{value_of}
 use Rattle.check_core.specs.Faults.{first_of}
-use Rattle.check_core.specs.Statements.{stmts_at}
+use Rattle.design_core.specs.Statements.{stmts_at}
 use Rattle.check_core.specs.Drivers.{assignments, second_drive}
 use Rattle.check_paths.proofs.twice.second_stmts.Given as goal
 

@@ -1,6 +1,6 @@
 use Rattle.std.proofs.Common.{◌∙◌, sym, ap, Err, arith}
 use Rattle.std.proofs.lemmas.Result.{err_from_is_err_and}
-use Rattle.check_core.proofs.Sets.{begins_both}
+use Rattle.names.proofs.Sets.{begins_both}
 use Rattle.design_core.specs.View.{body_of, else_of}
 use Rattle.check_paths.proofs.Drives.{err_told}
 use Rattle.check_paths.proofs.Walks.{size_next, early_next, early_at, early_end, after_next, after_end, both_assigned, apart_of, nothing_apart, assigned_by_assign, assigned_by_let, assigned_by_if}
@@ -34,7 +34,7 @@ walk_both-returns-clause-assigned t c =
     both_assigned _ _ _ _ _ _ (body_of c.args.yes.now) (else_of c.args.no.now) c.in_ok-first.ensures.kept c.in_ok-second.ensures.kept c.in_ok-first.ensures.apart c.in_ok-second.ensures.apart c.in_ok-insert_common.ensures.known
 
 pub walk_else-returns-in-None-clause-apart : goal.walk_else-returns-in-None-clause-apart
-walk_else-returns-in-None-clause-apart t c = rw c.in-None.is (nothing_apart _ _ c.new.ensures)
+walk_else-returns-in-None-clause-apart t c = rw c.in-None.is (nothing_apart _ _ c.new.ensures.known)
 
 pub walk_stmt-returns-in_ok-assign-in-Assign-clause-assigned :
     goal.walk_stmt-returns-in_ok-assign-in-Assign-clause-assigned

@@ -1,7 +1,7 @@
 use Rattle.std.proofs.Common.{◌≡◌, ◌+◌, ◌*◌, ◌≤◌, drop}
 use Rattle.design_core.specs.View.{body_of, else_of, stmt_of}
 use Rattle.design_core.specs.Slots.{size, stmt_size, else_size}
-use Rattle.check_core.specs.Known.{Begins, has}
+use Rattle.names.specs.Known.{Begins, has}
 use Rattle.check_core.specs.Paths.{early_in}
 use Rattle.check_paths.specs.Walked.{after_body, missing}
 use Rattle.check_paths.proofs.walk.+walking.Given as goal

@@ -1,5 +1,5 @@
 use Rattle.std.proofs.Common.{◌≡◌, drop}
-use Rattle.check_core.specs.Statements.{stmts_at}
+use Rattle.design_core.specs.Statements.{stmts_at}
 use Rattle.check_core.specs.Faults.{first_of}
 use Rattle.check_core.specs.Widths.{bad_stmt}
 use Rattle.check_widths.proofs.bad.bad_stmts.Given as goal

@@ -1,5 +1,5 @@
 use Rattle.std.proofs.Common.{ap}
-use Rattle.check_core.specs.Statements.{stmts_at}
+use Rattle.design_core.specs.Statements.{stmts_at}
 use Rattle.check_core.specs.Widths.{Widths, mismatch_among}
 use Rattle.check_widths.proofs.MapSteps.{lets_none}
 use Rattle.check_widths.proofs.mismatch.mismatch_among.Goals as goal

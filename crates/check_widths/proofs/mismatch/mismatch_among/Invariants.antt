@@ -1,5 +1,5 @@
 use Rattle.std.proofs.Common.{◌≡◌, drop}
-use Rattle.check_core.specs.Statements.{stmts_at}
+use Rattle.design_core.specs.Statements.{stmts_at}
 use Rattle.check_core.specs.Widths.{mismatch_among}
 use Rattle.check_widths.specs.WidthMaps.{widths_at, widths_in}
 use Rattle.check_widths.proofs.mismatch.mismatch_among.Given as goal

@@ -1,11 +1,13 @@
-use Rattle.std.proofs.Common.{◌≡◌, ◌∙◌, Bool, ◌||◌, length, sym, subst, ap, arith}
+use Rattle.std.proofs.Common.{◌≡◌, ◌∙◌, Bool, ◌||◌, List, length, sym, subst, ap, arith}
 use Rattle.design_core.specs.View.{body_of, else_of, expr_of}
+use Rattle.std.proofs.lemmas.List.{take_all}
 use Rattle.exec_core.specs.Block.{Name}
-use Rattle.check_core.specs.Known.{Known, either, has}
-use Rattle.check_core.specs.Maps.{value_of}
-use Rattle.check_core.proofs.InOrder.{size_next}
-use Rattle.dep_order.specs.Names.{names_at}
-use Rattle.dep_order.specs.Blocks.{Followed, Versions, assigned_else, assigned_in, sets, step_else, step_set, version_of}
+use Rattle.design_core.specs.declared.Stmt as code_stmt
+use Rattle.names.specs.Known.{Known, either, has}
+use Rattle.names.specs.Maps.{value_of}
+use Rattle.design_core.proofs.InOrder.{size_next}
+use Rattle.place_core.specs.Assigned.{names_at, assigned_else, assigned_in}
+use Rattle.dep_order.specs.Blocks.{Followed, Versions, sets, step_else, step_in, step_set, version_of}
 use Rattle.dep_order.proofs.Branches.{put_back}
 use Rattle.dep_order.proofs.Following.{assign_followed, assign_own, assigned_at, clocked_followed, else_followed, followed_if, followed_next, if_assigns, if_followed, if_size, let_followed, is_right, let_own, more_vertices, not_left, ready_grown, ready_same, saved_vertices}
 use Rattle.dep_order.proofs.block.+following.Goals as goal
@@ -146,3 +148,8 @@ pub follow_stmt-returns-in_ok-follow_if-in-If : goal.follow_stmt-returns-in_ok-f
 follow_stmt-returns-in_ok-follow_if-in-If t c =
     if_followed (has c.args.own.now) (value_of c.args.numbers.now) c.args.graph.now c.follow_if.new.graph (version_of c.args.versions.now) (version_of c.follow_if.new.versions) c.args.clocked c.args.stmt.now _ _ _ _ _ c.in-If.no c.deref.result.now
     c.in-If.is c.deref.ensures.value c.in_ok-follow_if-in-If.ensures
+
+pub follow_body-returns : goal.follow_body-returns
+follow_body-returns t c =
+    subst (λ (l : List code_stmt.Stmt). Followed (has c.args.own.now) (value_of c.args.numbers.now) c.args.graph.now (version_of c.args.versions.now) c.loop-stmt.graph (version_of c.loop-stmt.versions) (assigned_in c.args.clocked (body_of l)) (step_in c.args.clocked (body_of l)))
+    (take_all c.loop-stmt.stmt-index c.args.body.now c.loop-stmt-test.false) c.loop-stmt.invariant.followed

@@ -1,9 +1,10 @@
 use Rattle.std.proofs.Common.{◌+◌, ◌*◌, ◌≤◌, take, drop}
 use Rattle.design_core.specs.View.{body_of, else_of, stmt_of}
 use Rattle.design_core.specs.Slots.{size, stmt_size, else_size}
-use Rattle.check_core.specs.Known.{has}
-use Rattle.check_core.specs.Maps.{value_of}
-use Rattle.dep_order.specs.Blocks.{Followed, assigned_in, step_in, version_of}
+use Rattle.names.specs.Known.{has}
+use Rattle.names.specs.Maps.{value_of}
+use Rattle.dep_order.specs.Blocks.{Followed, step_in, version_of}
+use Rattle.place_core.specs.Assigned.{assigned_in}
 use Rattle.dep_order.proofs.block.+following.Given as goal
 
 abbrev pub invariant-follow_body-loop-stmt : goal.invariant-follow_body-loop-stmt

@@ -1,9 +1,10 @@
 use Rattle.std.proofs.Common.{◌∙◌, List, sym, subst, ap}
 use Rattle.design_core.specs.declared.statement.Stmt as code_stmt
 use Rattle.design_core.specs.View.{block_of, body_of}
-use Rattle.check_core.specs.Known.{Known, has}
-use Rattle.check_core.specs.Maps.{value_of}
-use Rattle.dep_order.specs.Blocks.{Followed, assigned_in, step_in, version_of}
+use Rattle.names.specs.Known.{Known, has}
+use Rattle.names.specs.Maps.{value_of}
+use Rattle.dep_order.specs.Blocks.{Followed, step_in, version_of}
+use Rattle.place_core.specs.Assigned.{assigned_in}
 use Rattle.dep_order.proofs.Blocks.{end_vertices, ends_stand, start_ready}
 use Rattle.dep_order.proofs.block.follow_own.Goals as goal
 

@@ -1,5 +1,5 @@
 use Rattle.std.proofs.Common.{sym, ◌∙◌}
-use Rattle.check_core.specs.Known.{has}
+use Rattle.names.specs.Known.{has}
 use Rattle.dep_order.proofs.Blocks.{next_name, last_name}
 use Rattle.dep_order.proofs.block.put_names.Goals as goal
 

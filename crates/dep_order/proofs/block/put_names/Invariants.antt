@@ -1,6 +1,6 @@
 use Rattle.std.proofs.Common.{◌≡◌, drop}
-use Rattle.check_core.specs.Known.{either, has}
-use Rattle.dep_order.specs.Names.{names_at}
+use Rattle.names.specs.Known.{either, has}
+use Rattle.place_core.specs.Assigned.{names_at}
 use Rattle.dep_order.proofs.block.put_names.Given as goal
 
 abbrev pub invariant-loop-name : goal.invariant-loop-name

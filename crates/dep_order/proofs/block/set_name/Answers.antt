@@ -1,6 +1,6 @@
 use Rattle.design_core.specs.View.{expr_of}
-use Rattle.check_core.specs.Known.{has}
-use Rattle.check_core.specs.Maps.{value_of}
+use Rattle.names.specs.Known.{has}
+use Rattle.names.specs.Maps.{value_of}
 use Rattle.dep_order.specs.Blocks.{version_of}
 use Rattle.dep_order.proofs.Following.{followed_set}
 use Rattle.dep_order.proofs.block.set_name.Goals as goal

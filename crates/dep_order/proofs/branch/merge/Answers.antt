@@ -2,7 +2,7 @@ use Rattle.std.proofs.Common.{◌<◌, ◌≤◌, List, length, subst, arith}
 use Rattle.std.specs.Borrow.{Bor}
 use Rattle.std.proofs.lemmas.List.{take_all}
 use Rattle.exec_core.specs.Block.{Name}
-use Rattle.dep_order.specs.Names.{names_at}
+use Rattle.place_core.specs.Assigned.{names_at}
 use Rattle.dep_order.specs.Blocks.{Merged, version_of}
 use Rattle.dep_order.proofs.Growing.{grown_after}
 use Rattle.dep_order.proofs.Branches.{merged_step}

@@ -1,5 +1,5 @@
 use Rattle.std.proofs.Common.{◌≡◌, drop}
-use Rattle.dep_order.specs.Names.{names_at}
+use Rattle.place_core.specs.Assigned.{names_at}
 use Rattle.dep_order.specs.Blocks.{version_of, put_all}
 use Rattle.dep_order.proofs.branch.put_all.Given as goal
 

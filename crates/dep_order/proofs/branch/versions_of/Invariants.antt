@@ -1,5 +1,5 @@
 use Rattle.std.proofs.Common.{◌≡◌, map, take}
-use Rattle.dep_order.specs.Names.{names_at}
+use Rattle.place_core.specs.Assigned.{names_at}
 use Rattle.dep_order.specs.Blocks.{version_of}
 use Rattle.dep_order.proofs.branch.versions_of.Given as goal
 

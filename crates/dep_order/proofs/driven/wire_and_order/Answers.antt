@@ -1,6 +1,6 @@
 use Rattle.std.proofs.Common.{refl, length, arith}
 use Rattle.design_core.specs.DesignView.{design_of}
-use Rattle.dep_order.specs.Numbering.{numbers_of, number_in}
+use Rattle.place_core.specs.Numbering.{numbers_of, number_in}
 use Rattle.dep_order.proofs.Started.{all_below, are_numbers, maps_count, start_layered, start_wired}
 use Rattle.dep_order.proofs.driven.wire_and_order.Goals as goal
 

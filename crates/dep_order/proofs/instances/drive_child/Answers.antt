@@ -2,9 +2,9 @@ use Rattle.std.proofs.Common.{length, map, sym, subst}
 use Rattle.std.proofs.lemmas.Result.{on_ok_weaker}
 use Rattle.design_core.specs.View.{child_of, conn_of}
 use Rattle.design_exec.specs.Processes.{conn_link, none_or}
-use Rattle.check_core.specs.Maps.{value_of}
+use Rattle.names.specs.Maps.{value_of}
 use Rattle.dep_order.specs.Wiring.{DrivesConns}
-use Rattle.dep_order.specs.Numbering.{numbers_of}
+use Rattle.place_core.specs.Numbering.{numbers_of}
 use Rattle.dep_order.specs.Linking.{DrivesLinks}
 use Rattle.dep_order.proofs.Layers.{all_one}
 use Rattle.dep_order.proofs.Linked.{below_at, conns_links, links_none, map_at}

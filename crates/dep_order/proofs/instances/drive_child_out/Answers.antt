@@ -5,9 +5,9 @@ use Rattle.tree_core.specs.Tree.{Leaf}
 use Rattle.exec_core.specs.Block.{Name}
 use Rattle.exec_core.specs.Design.{place}
 use Rattle.design_exec.specs.Processes.{none_or}
-use Rattle.dep_order.specs.Wiring.{Link}
-use Rattle.dep_order.specs.Numbering.{numbers_of}
-use Rattle.dep_order.specs.Linking.{DrivesLinks, link_of_output}
+use Rattle.place_core.specs.Linking.{Link, link_of_output}
+use Rattle.place_core.specs.Numbering.{numbers_of}
+use Rattle.dep_order.specs.Linking.{DrivesLinks}
 use Rattle.dep_order.proofs.Linked.{links_passed, no_link}
 use Rattle.dep_order.proofs.instances.drive_child_out.Goals as goal
 

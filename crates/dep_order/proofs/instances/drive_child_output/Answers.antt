@@ -3,8 +3,8 @@ use Rattle.std.proofs.lemmas.Result.{on_ok_weaker}
 use Rattle.tree_core.specs.Tree.{Leaf}
 use Rattle.exec_core.specs.Design.{place}
 use Rattle.design_exec.specs.Processes.{none_or}
-use Rattle.check_core.specs.Maps.{value_of}
-use Rattle.dep_order.specs.Numbering.{numbers_of}
+use Rattle.names.specs.Maps.{value_of}
+use Rattle.place_core.specs.Numbering.{numbers_of}
 use Rattle.dep_order.specs.Linking.{DrivesLinks}
 use Rattle.dep_order.proofs.Layers.{all_one}
 use Rattle.dep_order.proofs.Linked.{below_at, output_links, links_none, map_at}

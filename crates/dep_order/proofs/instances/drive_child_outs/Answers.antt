@@ -2,9 +2,9 @@ use Rattle.std.proofs.Common.{◌≤◌, ◌∙◌, List, length, take, sym, sub
 use Rattle.std.specs.List.{flat_map}
 use Rattle.std.proofs.lemmas.List.{take_all}
 use Rattle.design_core.specs.declared.variant.Signal.{Signal}
-use Rattle.dep_order.specs.Wiring.{Link}
-use Rattle.dep_order.specs.Numbering.{numbers_of}
-use Rattle.dep_order.specs.Linking.{DrivesLinks, link_of_output}
+use Rattle.place_core.specs.Linking.{Link, link_of_output}
+use Rattle.place_core.specs.Numbering.{numbers_of}
+use Rattle.dep_order.specs.Linking.{DrivesLinks}
 use Rattle.dep_order.proofs.Layers.{all_both}
 use Rattle.dep_order.proofs.Linked.{links_both, signals_more}
 use Rattle.dep_order.proofs.instances.drive_child_outs.Goals as goal

@@ -2,8 +2,9 @@ use Rattle.std.proofs.Common.{◌≡◌, length, take}
 use Rattle.std.specs.List.{flat_map}
 use Rattle.design_core.specs.declared.variant.Signal.{Signal}
 use Rattle.graph_order.specs.Graphs.{IsGraph}
-use Rattle.dep_order.specs.Numbering.{numbers_of}
-use Rattle.dep_order.specs.Linking.{AllLayered, DrivesLinks, link_of_output}
+use Rattle.place_core.specs.Numbering.{numbers_of}
+use Rattle.dep_order.specs.Linking.{AllLayered, DrivesLinks}
+use Rattle.place_core.specs.Linking.{link_of_output}
 use Rattle.dep_order.proofs.instances.drive_child_outs.Given as goal
 
 abbrev pub invariant-loop-signal : goal.invariant-loop-signal

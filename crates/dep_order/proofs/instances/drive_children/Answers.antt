@@ -5,9 +5,9 @@ use Rattle.design_core.specs.declared.variant.Child as code_child
 use Rattle.design_core.specs.View.{child_of}
 use Rattle.design_core.specs.Design as design
 use Rattle.design_exec.specs.Processes.{conn_link, none_or}
-use Rattle.dep_order.specs.Wiring.{Link}
-use Rattle.dep_order.specs.Numbering.{numbers_of}
-use Rattle.dep_order.specs.Linking.{DrivesLinks, links_of_child}
+use Rattle.place_core.specs.Linking.{Link, links_of_child}
+use Rattle.place_core.specs.Numbering.{numbers_of}
+use Rattle.dep_order.specs.Linking.{DrivesLinks}
 use Rattle.dep_order.proofs.Layers.{all_both}
 use Rattle.dep_order.proofs.Linked.{links_both, children_more}
 use Rattle.dep_order.proofs.instances.drive_children.Goals as goal

@@ -2,8 +2,9 @@ use Rattle.std.proofs.Common.{◌≡◌, length, map, take}
 use Rattle.std.specs.List.{enumerate_from, flat_map}
 use Rattle.design_core.specs.View.{child_of}
 use Rattle.graph_order.specs.Graphs.{IsGraph}
-use Rattle.dep_order.specs.Numbering.{numbers_of}
-use Rattle.dep_order.specs.Linking.{AllLayered, DrivesLinks, links_of_child}
+use Rattle.place_core.specs.Numbering.{numbers_of}
+use Rattle.dep_order.specs.Linking.{AllLayered, DrivesLinks}
+use Rattle.place_core.specs.Linking.{links_of_child}
 use Rattle.dep_order.proofs.instances.drive_children.Given as goal
 
 abbrev pub invariant-loop-place : goal.invariant-loop-place

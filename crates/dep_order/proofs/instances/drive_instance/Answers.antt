@@ -2,7 +2,7 @@ use Rattle.std.proofs.Common.{◌∙◌, arith, length, map, ap}
 use Rattle.design_core.specs.View.{child_of, variant_of}
 use Rattle.design_core.specs.DesignView.{design_of}
 use Rattle.design_core.specs.WellFormed.{children_at, signals_at}
-use Rattle.dep_order.specs.Numbering.{numbers_of}
+use Rattle.place_core.specs.Numbering.{numbers_of}
 use Rattle.dep_order.proofs.Layers.{all_both}
 use Rattle.dep_order.proofs.Linked.{are_instances, instance_drives}
 use Rattle.dep_order.proofs.instances.drive_instance.Goals as goal

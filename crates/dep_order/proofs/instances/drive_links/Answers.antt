@@ -4,8 +4,8 @@ use Rattle.std.proofs.lemmas.List.{take_all}
 use Rattle.design_core.specs.declared.design.Instance.{Instance}
 use Rattle.design_core.specs.DesignView.{design_of}
 use Rattle.design_exec.specs.Processes.{links_at}
-use Rattle.dep_order.specs.Wiring.{Link}
-use Rattle.dep_order.specs.Numbering.{numbers_of}
+use Rattle.place_core.specs.Linking.{Link}
+use Rattle.place_core.specs.Numbering.{numbers_of}
 use Rattle.dep_order.specs.Linking.{DrivesLinks}
 use Rattle.dep_order.proofs.Layers.{all_both}
 use Rattle.dep_order.proofs.Linked.{links_both, numbered_more}

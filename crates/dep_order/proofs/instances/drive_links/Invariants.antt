@@ -3,7 +3,7 @@ use Rattle.std.specs.List.{enumerate_from, flat_map}
 use Rattle.design_core.specs.DesignView.{design_of}
 use Rattle.design_exec.specs.Processes.{links_at}
 use Rattle.graph_order.specs.Graphs.{IsGraph}
-use Rattle.dep_order.specs.Numbering.{numbers_of}
+use Rattle.place_core.specs.Numbering.{numbers_of}
 use Rattle.dep_order.specs.Linking.{AllLayered, DrivesLinks}
 use Rattle.dep_order.proofs.instances.drive_links.Given as goal
 

@@ -4,11 +4,12 @@ use Rattle.std.proofs.lemmas.List.{take_all}
 use Rattle.exec_core.specs.Design.{Process}
 use Rattle.design_core.specs.declared.design.Instance.{Instance}
 use Rattle.design_core.specs.View.{block_of, variant_of}
-use Rattle.check_core.specs.Maps.{value_of}
+use Rattle.names.specs.Maps.{value_of}
 use Rattle.design_core.specs.DesignView.{design_of}
 use Rattle.design_exec.specs.Processes.{process, processes_at, signals_in}
-use Rattle.dep_order.specs.Numbering.{numbers_of}
-use Rattle.dep_order.specs.Linking.{DrivesProcesses, blocks_at}
+use Rattle.place_core.specs.Numbering.{numbers_of}
+use Rattle.dep_order.specs.Linking.{DrivesProcesses}
+use Rattle.design_core.specs.WellFormed.{blocks_at}
 use Rattle.dep_order.proofs.Layers.{all_both, all_one}
 use Rattle.dep_order.proofs.Linked.{below_at, below_more, block_processes, map_at, processes_both, numbered_more}
 use Rattle.dep_order.proofs.instances.drive_processes.Goals as goal

@@ -1,9 +1,9 @@
 use Rattle.std.proofs.Common.{◌<◌, ◌+◌, length, List, ℕ, sym, subst}
 use Rattle.design_core.specs.View.{expr_of}
 use Rattle.design_exec.specs.Processes.{tree_of}
-use Rattle.check_core.specs.Known.{has}
-use Rattle.check_core.specs.Maps.{value_of}
-use Rattle.graph_order.specs.Lists.{EachOf}
+use Rattle.names.specs.Known.{has}
+use Rattle.names.specs.Maps.{value_of}
+use Rattle.list_core.specs.Lists.{EachOf}
 use Rattle.dep_order.specs.Blocks.{readings, version_of}
 use Rattle.dep_order.proofs.Versions.{reads_vertices}
 use Rattle.dep_order.proofs.Growing.{read_within, within_more, grown_add}

@@ -1,10 +1,10 @@
 use Rattle.std.proofs.Common.{◌≡◌, ◌∙◌, List, sym, ap}
 use Rattle.design_core.specs.declared.statement.Stmt as code_stmt
 use Rattle.design_core.specs.View.{block_of, body_of}
-use Rattle.check_core.specs.Known.{Known, has}
-use Rattle.check_core.specs.Maps.{value_of}
-use Rattle.dep_order.specs.Names.{names_at}
-use Rattle.dep_order.specs.Blocks.{assigned_in, owns, version_of}
+use Rattle.names.specs.Known.{Known, has}
+use Rattle.names.specs.Maps.{value_of}
+use Rattle.place_core.specs.Assigned.{names_at, assigned_in}
+use Rattle.dep_order.specs.Blocks.{owns, version_of}
 use Rattle.dep_order.proofs.Names.{block_drives}
 use Rattle.dep_order.proofs.wiring.drive_block.Goals as goal
 

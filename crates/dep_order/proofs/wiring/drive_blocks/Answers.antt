@@ -3,7 +3,7 @@ use Rattle.std.proofs.lemmas.List.{take_all}
 use Rattle.design_core.specs.declared.variant.Block as code_block
 use Rattle.design_core.specs.Design as design
 use Rattle.design_core.specs.View.{block_of}
-use Rattle.check_core.specs.Maps.{value_of}
+use Rattle.names.specs.Maps.{value_of}
 use Rattle.dep_order.specs.Wiring.{DrivesBlocks}
 use Rattle.dep_order.proofs.Rows.{blocks_next, more_blocks}
 use Rattle.dep_order.proofs.Layers.{layered_both}

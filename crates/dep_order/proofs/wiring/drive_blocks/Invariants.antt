@@ -1,7 +1,7 @@
 use Rattle.std.proofs.Common.{◌≤◌, length, map, take}
 use Rattle.design_core.specs.View.{block_of}
 use Rattle.graph_order.specs.Graphs.{IsGraph}
-use Rattle.check_core.specs.Maps.{value_of}
+use Rattle.names.specs.Maps.{value_of}
 use Rattle.dep_order.specs.Wiring.{DrivesBlocks, StaysLayered}
 use Rattle.dep_order.proofs.wiring.drive_blocks.Given as goal
 

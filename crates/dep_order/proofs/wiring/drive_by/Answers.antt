@@ -1,8 +1,8 @@
 use Rattle.std.proofs.Common.{◌<◌, length, List, ℕ, sym, subst}
 use Rattle.design_core.specs.View.{expr_of}
 use Rattle.design_exec.specs.Processes.{tree_of}
-use Rattle.graph_order.specs.Lists.{EachOf}
-use Rattle.check_core.specs.Maps.{value_of}
+use Rattle.list_core.specs.Lists.{EachOf}
+use Rattle.names.specs.Maps.{value_of}
 use Rattle.dep_order.specs.Standing.{StandFor}
 use Rattle.dep_order.proofs.Plain.{drives_by}
 use Rattle.dep_order.proofs.wiring.drive_by.Goals as goal

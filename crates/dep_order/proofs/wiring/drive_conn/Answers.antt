@@ -1,7 +1,7 @@
 use Rattle.std.proofs.Common.{◌≡◌, ◌∙◌, Some, None, sym, ap}
 use Rattle.std.proofs.lemmas.Result.{on_ok_weaker}
 use Rattle.design_core.specs.View.{conn_of}
-use Rattle.check_core.specs.Maps.{value_of}
+use Rattle.names.specs.Maps.{value_of}
 use Rattle.dep_order.proofs.Layers.{layered_set}
 use Rattle.dep_order.proofs.Rows.{conn_drives, conn_passed}
 use Rattle.dep_order.proofs.wiring.drive_conn.Goals as goal

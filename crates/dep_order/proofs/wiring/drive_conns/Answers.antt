@@ -3,7 +3,7 @@ use Rattle.std.proofs.lemmas.List.{take_all}
 use Rattle.design_core.specs.declared.variant.Conn as code_conn
 use Rattle.design_core.specs.Design as design
 use Rattle.design_core.specs.View.{conn_of}
-use Rattle.check_core.specs.Maps.{value_of}
+use Rattle.names.specs.Maps.{value_of}
 use Rattle.dep_order.specs.Wiring.{DrivesConns}
 use Rattle.dep_order.proofs.Rows.{conns_next, more_conns}
 use Rattle.dep_order.proofs.Layers.{layered_both}

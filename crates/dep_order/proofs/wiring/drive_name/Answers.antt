@@ -1,6 +1,6 @@
 use Rattle.std.proofs.Common.{◌≡◌, ◌∷◌, [], ◌∙◌, Some, None, sym, ap, refl}
-use Rattle.exec_core.proofs.Slots.{some_same}
-use Rattle.check_core.specs.Maps.{value_of}
+use Rattle.list_core.proofs.Options.{some_same}
+use Rattle.names.specs.Maps.{value_of}
 use Rattle.dep_order.specs.Blocks.{single, version_of}
 use Rattle.dep_order.proofs.Names.{name_drives, name_passed}
 use Rattle.dep_order.proofs.wiring.drive_name.Goals as goal

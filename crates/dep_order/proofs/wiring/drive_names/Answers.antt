@@ -2,9 +2,9 @@ use Rattle.std.proofs.Common.{ℕ, ◌≤◌, List, [], length, take, get_or, op
 use Rattle.std.specs.Borrow.{Bor}
 use Rattle.std.proofs.lemmas.List.{take_all}
 use Rattle.exec_core.specs.Block.{Name}
-use Rattle.check_core.specs.Known.{has}
-use Rattle.check_core.specs.Maps.{value_of}
-use Rattle.dep_order.specs.Names.{names_at}
+use Rattle.names.specs.Known.{has}
+use Rattle.names.specs.Maps.{value_of}
+use Rattle.place_core.specs.Assigned.{names_at}
 use Rattle.dep_order.specs.Standing.{AreVertices}
 use Rattle.dep_order.specs.Blocks.{single, version_of}
 use Rattle.dep_order.specs.Wiring.{DrivesNames}

@@ -1,7 +1,7 @@
 use Rattle.std.proofs.Common.{take}
-use Rattle.check_core.specs.Known.{has}
-use Rattle.check_core.specs.Maps.{value_of}
-use Rattle.dep_order.specs.Names.{names_at}
+use Rattle.names.specs.Known.{has}
+use Rattle.names.specs.Maps.{value_of}
+use Rattle.place_core.specs.Assigned.{names_at}
 use Rattle.dep_order.specs.Blocks.{version_of}
 use Rattle.dep_order.specs.Wiring.{DrivesNames, KeepsOthers}
 use Rattle.dep_order.proofs.wiring.drive_names.Given as goal

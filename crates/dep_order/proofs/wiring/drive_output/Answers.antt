@@ -1,5 +1,5 @@
 use Rattle.std.proofs.Common.{[], ◌∷◌, ◌∙◌, sym}
-use Rattle.check_core.specs.Maps.{value_of}
+use Rattle.names.specs.Maps.{value_of}
 use Rattle.dep_order.proofs.Outputs.{none_listed, output_drives, output_passed, some_listed}
 use Rattle.dep_order.proofs.Layers.{layered_set}
 use Rattle.dep_order.proofs.wiring.drive_output.Goals as goal

@@ -1,5 +1,4 @@
 use Rattle.std.proofs.Common.{sym, subst, length}
-use Rattle.std.proofs.lemmas.Result.{IfOk-weaker}
 use Rattle.design_core.specs.DesignView.{design_of}
 use Rattle.world_core.specs.declared.mode.Mode.{Mode}
 use Rattle.check_exec.specs.Premises.{IsSound}
@@ -20,7 +19,4 @@ returns c =
     let lowered = subst (λ (m : Mode). IsLowered (design_of c.args.design.now) (length c.args.order.now) m c.in_ok-lowered.lowered) (sym c.in_ok-lowered.ensures.mode) c.in_ok-lowered.ensures in
     let of : Ordered = record { design = design_of c.args.design.now; pairs = c.args.order.now } in
     let is : IsLoweredOf of c.in_ok-lowered.lowered = record { sound = sound; order = c.requires.order; lowered = lowered } in
-    record {
-      ok = IfOk-weaker c.trim.result _ _
-          (λ made h. subst (λ (m : Mode). IsTrimmed (design_of c.args.design.now) (length c.args.order.now) m made.0 made.1) c.in_ok-lowered.ensures.mode (h of is)) c.trim.ensures;
-    }
+    record { ok = subst (λ (m : Mode). IsTrimmed (design_of c.args.design.now) (length c.args.order.now) m c.in_ok-net.net c.in_ok-net.table) c.in_ok-lowered.ensures.mode (c.in_ok-net.ensures of is) }

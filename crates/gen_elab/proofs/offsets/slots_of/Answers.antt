@@ -1,6 +1,5 @@
-use Rattle.std.proofs.Common.{ap, ◌∙◌, length, drop}
+use Rattle.std.proofs.Common.{ap, ◌∙◌, length, drop, map}
 use Rattle.elab_core.specs.View.{instance_of}
-use Rattle.std.proofs.Common.{map}
 use Rattle.gen_elab.specs.Offsets.{prefix_sums}
 use Rattle.gen_elab.proofs.OffsetLemmas.{begins, refilled}
 use Rattle.gen_elab.proofs.offsets.slots_of.Goals as goal

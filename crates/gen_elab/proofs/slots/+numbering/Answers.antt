@@ -1,9 +1,8 @@
 use Rattle.std.proofs.Common.{ap, sym, ◌+◌, ◌<◌, ◌∙◌, arith, List, length, drop}
 use Rattle.std.specs.Vec.{with_items}
 use Rattle.design_core.specs.declared.Stmt as code_stmt
-use Rattle.design_core.specs.View.{body_of}
+use Rattle.design_core.specs.View.{body_of, stmt_of}
 use Rattle.elab_core.specs.Design.{size, numbered, numbered_stmt}
-use Rattle.design_core.specs.View.{stmt_of}
 use Rattle.gen_elab.proofs.Numbering.{if_numbered, at_step, next_step, at_end, cut}
 use Rattle.gen_elab.proofs.slots.+numbering.Goals as goal
 

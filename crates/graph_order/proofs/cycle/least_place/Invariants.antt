@@ -1,5 +1,5 @@
 use Rattle.std.proofs.Common.{◌<◌, ◌≤◌, take, length, get_or}
-use Rattle.graph_order.specs.Lists.{EachOf}
+use Rattle.list_core.specs.Lists.{EachOf}
 use Rattle.graph_order.proofs.cycle.least_place.Given as goal
 
 abbrev pub invariant-loop-place : goal.invariant-loop-place

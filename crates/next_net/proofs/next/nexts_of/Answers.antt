@@ -1,5 +1,5 @@
 use Rattle.std.proofs.Common.{◌≡◌, true, map, sym, ap, ◌∙◌, subst}
-use Rattle.exec_core.specs.Lists.{EachOf}
+use Rattle.list_core.specs.Lists.{EachOf}
 use Rattle.design_exec.specs.Processes.{is_signal_of}
 use Rattle.net_core.specs.Nets.{nexts_of}
 use Rattle.ssa_nodes.specs.Parts.{design_in}

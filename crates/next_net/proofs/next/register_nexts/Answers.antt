@@ -3,7 +3,7 @@ use Rattle.std.proofs.lemmas.Option.{slice_get-get_or}
 use Rattle.check_exec.proofs.Facts.{each_at}
 use Rattle.design_exec.specs.Processes.{is_signal_of}
 use Rattle.term_net.proofs.Overs.{grown_twice}
-use Rattle.ssa_core.proofs.Listing.{same_get}
+use Rattle.list_core.proofs.Listing.{same_get}
 use Rattle.ssa_core.proofs.Places.{get_map}
 use Rattle.ssa_nodes.specs.Parts.{design_in}
 use Rattle.next_net.specs.Registers.{register_as}

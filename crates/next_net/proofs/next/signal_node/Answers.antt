@@ -1,5 +1,5 @@
 use Rattle.std.proofs.Common.{IsSome, sym, ap, ◌∙◌, subst}
-use Rattle.dep_order.specs.Standing.{Numbers}
+use Rattle.place_core.specs.Numbering.{Numbers}
 use Rattle.term_net.specs.Leaves.{leaf_id}
 use Rattle.next_net.proofs.next.signal_node.Goals as goal
 

@@ -1,7 +1,7 @@
 use Rattle.std.proofs.Common.{◌≡◌, ◌<◌, Some, None, IsSome, length, get_or, refl, sym, ap, ◌∙◌, subst}
 use Rattle.std.proofs.lemmas.Option.{slice_get-get_or}
 use Rattle.exec_core.specs.Design.{place}
-use Rattle.dep_order.specs.Numbering.{number_in, numbers_of}
+use Rattle.place_core.specs.Numbering.{number_in, numbers_of}
 use Rattle.ssa_nodes.specs.Parts.{all_in}
 use Rattle.next_net.proofs.next.writer_at.Goals as goal
 

@@ -1,6 +1,6 @@
 use Rattle.std.proofs.Common.{◌≡◌, ◌<◌, map, ap, ◌∙◌, ◌++◌, [], length, get_or, arith}
 use Rattle.design_core.specs.DesignView.{design_of}
-use Rattle.ssa_core.proofs.Listing.{plain_more}
+use Rattle.list_core.proofs.Growing.{plain_more}
 use Rattle.next_net.specs.Registers.{register_as, registers_at}
 use Rattle.next_net.proofs.register.registers_of.Goals as goal
 

@@ -2,7 +2,7 @@ use Rattle.std.proofs.Common.{◌<◌, length, sym, subst}
 use Rattle.exec_core.specs.Block.{Next, same_key}
 use Rattle.exec_core.specs.Design.{place}
 use Rattle.block_net.specs.Logs.{key_of}
-use Rattle.dep_order.specs.Numbering.{numbers_of}
+use Rattle.place_core.specs.Numbering.{numbers_of}
 use Rattle.next_net.specs.Writers.{Marks, writes_by}
 use Rattle.next_net.proofs.Writing.{marks_put}
 use Rattle.next_net.proofs.writer.put_key.Goals as goal

@@ -1,4 +1,4 @@
-use Rattle.dep_order.specs.Numbering.{numbers_of}
+use Rattle.place_core.specs.Numbering.{numbers_of}
 use Rattle.next_net.proofs.Writing.{marks_more}
 use Rattle.next_net.proofs.writer.put_keys.Goals as goal
 

@@ -1,6 +1,6 @@
 use Rattle.std.proofs.Common.{take}
 use Rattle.block_net.specs.Walks.{among}
-use Rattle.dep_order.specs.Numbering.{numbers_of}
+use Rattle.place_core.specs.Numbering.{numbers_of}
 use Rattle.next_net.specs.Writers.{Marks, writes_by}
 use Rattle.next_net.proofs.writer.put_keys.Given as goal
 

@@ -7,8 +7,8 @@ use Rattle.design_core.specs.View.{block_of, variant_of}
 use Rattle.design_exec.specs.Processes.{blocks_in}
 use Rattle.block_net.specs.Source.{body_in}
 use Rattle.block_net.specs.Walks.{among}
-use Rattle.dep_order.specs.Linking.{blocks_at}
-use Rattle.dep_order.specs.Numbering.{numbers_of}
+use Rattle.design_core.specs.WellFormed.{blocks_at}
+use Rattle.place_core.specs.Numbering.{numbers_of}
 use Rattle.ssa_core.proofs.Places.{get_map}
 use Rattle.next_net.proofs.Writing.{marks_process}
 use Rattle.next_net.proofs.writer.put_process.Goals as goal

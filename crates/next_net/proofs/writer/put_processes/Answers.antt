@@ -3,7 +3,7 @@ use Rattle.std.specs.Prelude.{slice_get}
 use Rattle.std.proofs.lemmas.Option.{slice_get-get_or}
 use Rattle.exec_core.specs.Design.{writes_to}
 use Rattle.design_exec.specs.Processes.{processes_of}
-use Rattle.dep_order.specs.Numbering.{numbers_of}
+use Rattle.place_core.specs.Numbering.{numbers_of}
 use Rattle.ssa_nodes.specs.Parts.{all_in, design_in}
 use Rattle.next_net.specs.Writers.{Marks}
 use Rattle.next_net.proofs.Writing.{writers_more}

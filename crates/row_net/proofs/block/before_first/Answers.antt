@@ -1,6 +1,6 @@
 use Rattle.std.proofs.Common.{◌∙◌, ap}
-use Rattle.check_core.specs.Known.{has}
-use Rattle.dep_order.specs.Names.{names_at}
+use Rattle.names.specs.Known.{has}
+use Rattle.place_core.specs.Assigned.{names_at}
 use Rattle.row_net.specs.Told.{no_own}
 use Rattle.row_net.proofs.block.before_first.Goals as goal
 

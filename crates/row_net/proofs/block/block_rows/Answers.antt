@@ -1,13 +1,12 @@
 use Rattle.std.proofs.Common.{◌≡◌, ◌++◌, ◌∙◌, ap, map, sym, subst}
 use Rattle.exec_core.specs.Block.{own}
-use Rattle.exec_core.specs.Lists.{EachOf}
+use Rattle.list_core.specs.Lists.{EachOf}
 use Rattle.exec_core.specs.Trees.{block_rows as the_rows}
 use Rattle.design_core.specs.Slots.{lets_of}
 use Rattle.design_core.specs.View.{block_of, body_of}
 use Rattle.design_exec.specs.Processes as processes
-use Rattle.check_core.specs.Maps.{value_of}
-use Rattle.dep_order.specs.Blocks.{assigned_in as the_assigned}
-use Rattle.dep_order.specs.Names.{names_at}
+use Rattle.names.specs.Maps.{value_of}
+use Rattle.place_core.specs.Assigned.{assigned_in as the_assigned, names_at}
 use Rattle.term_net.specs.Leaves.{leaf_id, leaf_tree}
 use Rattle.row_net.specs.Told.{RowReady, RowsHave, name_row, name_rows, names_by, no_own}
 use Rattle.row_net.proofs.Replaying.{no_own_held, block_told}

@@ -1,7 +1,7 @@
 use Rattle.std.proofs.Common.{◌≡◌, take}
 use Rattle.std.specs.List.{flat_map}
-use Rattle.check_core.specs.Statements.{stmts_at}
-use Rattle.dep_order.specs.Names.{names_at}
+use Rattle.design_core.specs.Statements.{stmts_at}
+use Rattle.place_core.specs.Assigned.{names_at}
 use Rattle.row_net.specs.Told.{let_name}
 use Rattle.row_net.proofs.block.let_names.Given as goal
 

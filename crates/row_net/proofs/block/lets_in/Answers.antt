@@ -1,7 +1,7 @@
 use Rattle.std.proofs.Common.{◌∙◌, ap}
 use Rattle.std.specs.List.{flat_map}
 use Rattle.design_core.specs.View.{body_of}
-use Rattle.check_core.specs.Statements.{stmts_at}
+use Rattle.design_core.specs.Statements.{stmts_at}
 use Rattle.row_net.specs.Told.{let_name}
 use Rattle.row_net.proofs.Replaying.{body_lets}
 use Rattle.row_net.proofs.block.lets_in.Goals as goal

@@ -1,4 +1,4 @@
-use Rattle.dep_order.specs.Names.{names_at}
+use Rattle.place_core.specs.Assigned.{names_at}
 use Rattle.row_net.proofs.Replaying.{let_put, no_let_assign, no_let_if}
 use Rattle.row_net.proofs.block.put_let.Goals as goal
 

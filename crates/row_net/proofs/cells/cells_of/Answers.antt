@@ -1,10 +1,10 @@
 use Rattle.std.proofs.Common.{[], sym, subst}
 use Rattle.check_exec.proofs.Facts.{each_right}
-use Rattle.check_core.specs.Maps.{value_of}
-use Rattle.dep_order.specs.Names.{names_at}
+use Rattle.names.specs.Maps.{value_of}
+use Rattle.place_core.specs.Assigned.{names_at}
 use Rattle.term_net.specs.Leaves.{leaf_id, leaf_tree}
 use Rattle.term_net.proofs.Overs.{grown_twice}
-use Rattle.ssa_state.specs.Held.{CanHaveNode}
+use Rattle.ssa_nodes.specs.Held.{CanHaveNode}
 use Rattle.row_net.specs.Told.{CellsHave, names_by}
 use Rattle.row_net.proofs.Growing.{each_kept, cells_then}
 use Rattle.row_net.proofs.cells.cells_of.Goals as goal

@@ -1,8 +1,8 @@
 use Rattle.std.proofs.Common.{subst}
-use Rattle.check_core.specs.Maps.{value_of}
+use Rattle.names.specs.Maps.{value_of}
 use Rattle.block_net.specs.Walks.{held}
 use Rattle.term_net.specs.Leaves.{leaf_tree}
-use Rattle.ssa_state.specs.Held.{NodeTold}
+use Rattle.ssa_nodes.specs.Held.{NodeTold}
 use Rattle.row_net.specs.Told.{names_by}
 use Rattle.row_net.proofs.Growing.{cell_put}
 use Rattle.row_net.proofs.cells.put_cell.Goals as goal

@@ -1,11 +1,11 @@
 use Rattle.std.proofs.Common.{◌∷◌, [], sym, subst, get_or, take}
 use Rattle.std.proofs.lemmas.List.{take_all}
-use Rattle.check_core.specs.Maps.{value_of}
-use Rattle.dep_order.specs.Names.{names_at}
+use Rattle.names.specs.Maps.{value_of}
+use Rattle.place_core.specs.Assigned.{names_at}
 use Rattle.term_net.specs.Leaves.{leaf_id, leaf_tree}
 use Rattle.term_net.proofs.Overs.{grown_twice}
-use Rattle.ssa_core.proofs.Listing.{same_get}
-use Rattle.ssa_state.specs.Held.{CanHaveNode}
+use Rattle.list_core.proofs.Listing.{same_get}
+use Rattle.ssa_nodes.specs.Held.{CanHaveNode}
 use Rattle.row_net.specs.Told.{CellsPut, names_by}
 use Rattle.row_net.proofs.Growing.{can_kept, cells_then, names_more, name_at}
 use Rattle.row_net.proofs.cells.put_cells.Goals as goal

@@ -1,6 +1,6 @@
 use Rattle.std.proofs.Common.{take}
-use Rattle.check_core.specs.Maps.{value_of}
-use Rattle.dep_order.specs.Names.{names_at}
+use Rattle.names.specs.Maps.{value_of}
+use Rattle.place_core.specs.Assigned.{names_at}
 use Rattle.term_net.specs.Growth.{Grown}
 use Rattle.term_net.specs.Memos.{Fits}
 use Rattle.row_net.specs.Told.{CellsPut, names_by}

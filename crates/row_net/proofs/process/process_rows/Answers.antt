@@ -5,10 +5,10 @@ use Rattle.std.specs.declared.alloc.Global.{Global}
 use Rattle.std.proofs.Math.ListN.{set}
 use Rattle.std.proofs.lemmas.Option.{slice_get_within, slice_get_read}
 use Rattle.bv_core.specs.declared.reference.NodeId.{NodeId}
-use Rattle.check_core.specs.Maps.{value_of}
+use Rattle.names.specs.Maps.{value_of}
 use Rattle.design_core.specs.View.{block_of}
 use Rattle.design_exec.specs.Processes.{process, signals_in}
-use Rattle.dep_order.specs.Names.{names_at}
+use Rattle.place_core.specs.Assigned.{names_at}
 use Rattle.ssa_core.specs.declared.process.ProcessKey.{ProcessKey}
 use Rattle.ssa_core.specs.Processes.{lists_of}
 use Rattle.ssa_core.proofs.Places.{get_map}

@@ -1,6 +1,6 @@
 use Rattle.std.proofs.Common.{◌++◌}
-use Rattle.check_core.specs.Maps.{value_of}
-use Rattle.dep_order.specs.Names.{names_at}
+use Rattle.names.specs.Maps.{value_of}
+use Rattle.place_core.specs.Assigned.{names_at}
 use Rattle.row_net.specs.Told.{names_by, row_of_slot}
 use Rattle.row_net.proofs.Growing.{row_put}
 use Rattle.row_net.proofs.replay.put_row.Goals as goal

@@ -1,9 +1,9 @@
 use Rattle.std.proofs.Common.{◌≡◌, ◌+◌, ◌++◌, ◌∙◌, ap, sym, subst, drop}
-use Rattle.exec_core.specs.Lists.{EachOf}
+use Rattle.list_core.specs.Lists.{EachOf}
 use Rattle.check_exec.proofs.Facts.{each_left, each_right}
-use Rattle.check_core.specs.Maps.{value_of}
+use Rattle.names.specs.Maps.{value_of}
 use Rattle.block_net.specs.Logs.{AreWithin}
-use Rattle.dep_order.specs.Names.{names_at}
+use Rattle.place_core.specs.Assigned.{names_at}
 use Rattle.term_net.specs.Leaves.{leaf_id, leaf_tree}
 use Rattle.term_net.proofs.Overs.{grown_twice}
 use Rattle.row_net.specs.Told.{Names, RowReady, after_step, name_rows, names_by, rows_of_step}

@@ -1,7 +1,7 @@
 use Rattle.std.proofs.Common.{◌++◌, drop}
-use Rattle.exec_core.specs.Lists.{EachOf}
-use Rattle.check_core.specs.Maps.{value_of}
-use Rattle.dep_order.specs.Names.{names_at}
+use Rattle.list_core.specs.Lists.{EachOf}
+use Rattle.names.specs.Maps.{value_of}
+use Rattle.place_core.specs.Assigned.{names_at}
 use Rattle.term_net.specs.Growth.{Grown}
 use Rattle.term_net.specs.Leaves.{leaf_id, leaf_tree}
 use Rattle.term_net.specs.Memos.{Fits}

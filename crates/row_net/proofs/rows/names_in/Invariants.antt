@@ -1,5 +1,5 @@
 use Rattle.std.proofs.Common.{◌≡◌, take}
-use Rattle.dep_order.specs.Names.{names_at}
+use Rattle.place_core.specs.Assigned.{names_at}
 use Rattle.row_net.specs.Blocks.{signal_names}
 use Rattle.row_net.proofs.rows.names_in.Given as goal
 

@@ -4,9 +4,9 @@ use Rattle.std.proofs.lemmas.List.{length-map, map_push, take_all}
 use Rattle.std.proofs.lemmas.Option.{slice_get_read}
 use Rattle.design_core.specs.View.{block_of, variant_of}
 use Rattle.design_exec.specs.Processes.{blocks_in}
-use Rattle.dep_order.specs.Linking.{blocks_at}
+use Rattle.design_core.specs.WellFormed.{blocks_at}
 use Rattle.term_net.proofs.Overs.{grown_twice}
-use Rattle.ssa_core.proofs.Listing.{more_of}
+use Rattle.list_core.proofs.Growing.{more_of}
 use Rattle.ssa_core.proofs.Places.{get_map}
 use Rattle.ssa_nodes.specs.Parts.{design_in}
 use Rattle.row_net.specs.Blocks.{SpotsPut, block_sites, blocks_spots}

@@ -3,7 +3,7 @@ use Rattle.std.specs.List.{enumerate_from, flat_map}
 use Rattle.std.proofs.lemmas.Option.{slice_get_read}
 use Rattle.lower_core.specs.Rows.{AreTold}
 use Rattle.term_net.proofs.Overs.{grown_twice}
-use Rattle.ssa_core.proofs.Listing.{plain_more}
+use Rattle.list_core.proofs.Growing.{plain_more}
 use Rattle.ssa_nodes.specs.Parts.{design_in}
 use Rattle.row_net.specs.Spots.{instance_spots}
 use Rattle.row_net.proofs.Puts.{keys_from, number_next}

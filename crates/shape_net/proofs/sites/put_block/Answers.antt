@@ -1,7 +1,7 @@
 use Rattle.std.proofs.Common.{◌++◌, ◌∙◌, ap, sym}
 use Rattle.std.specs.List.{flat_map}
 use Rattle.design_core.specs.View.{block_of, body_of}
-use Rattle.check_core.specs.Statements.{statements, stmts_at}
+use Rattle.design_core.specs.Statements.{statements, stmts_at}
 use Rattle.shape_net.specs.Heads.{let_name}
 use Rattle.shape_net.proofs.Preorder.{block_numbered}
 use Rattle.shape_net.proofs.sites.put_block.Goals as goal

@@ -1,5 +1,5 @@
 use Rattle.std.proofs.Common.{◌≡◌, ◌++◌, map, take}
-use Rattle.check_core.specs.Statements.{stmts_at}
+use Rattle.design_core.specs.Statements.{stmts_at}
 use Rattle.shape_net.specs.Heads.{signal_name}
 use Rattle.shape_net.specs.Numbered.{numbered_stmt}
 use Rattle.shape_net.proofs.sites.put_stmts.Given as goal

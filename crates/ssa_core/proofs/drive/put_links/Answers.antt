@@ -1,5 +1,5 @@
 use Rattle.design_core.specs.DesignView.{design_of}
-use Rattle.dep_order.specs.Numbering.{numbers_of}
+use Rattle.place_core.specs.Numbering.{numbers_of}
 use Rattle.ssa_core.specs.Links.{link_as}
 use Rattle.ssa_core.proofs.Driving.{within, still_apart, link_step}
 use Rattle.ssa_core.proofs.drive.put_links.Goals as goal

@@ -1,9 +1,9 @@
 use Rattle.std.proofs.Common.{get_or}
 use Rattle.std.proofs.lemmas.Option.{slice_get-get_or}
 use Rattle.design_core.specs.DesignView.{design_of}
-use Rattle.dep_order.specs.Numbering.{numbers_of}
+use Rattle.place_core.specs.Numbering.{numbers_of}
 use Rattle.ssa_core.proofs.Driving.{within, still_apart, name_step, has_at}
-use Rattle.ssa_core.proofs.Listing.{same_get}
+use Rattle.list_core.proofs.Listing.{same_get}
 use Rattle.ssa_core.proofs.drive.put_names.Goals as goal
 
 pub put-requires : goal.put-requires

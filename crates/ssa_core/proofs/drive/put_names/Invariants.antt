@@ -1,8 +1,8 @@
 use Rattle.std.proofs.Common.{take}
 use Rattle.design_core.specs.DesignView.{design_of}
-use Rattle.check_core.specs.Known.{has}
-use Rattle.dep_order.specs.Names.{names_at}
-use Rattle.dep_order.specs.Numbering.{numbers_of}
+use Rattle.names.specs.Known.{has}
+use Rattle.place_core.specs.Assigned.{names_at}
+use Rattle.place_core.specs.Numbering.{numbers_of}
 use Rattle.ssa_core.specs.Drives.{Covers}
 use Rattle.ssa_core.proofs.drive.put_names.Given as goal
 

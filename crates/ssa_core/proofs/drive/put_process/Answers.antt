@@ -1,15 +1,15 @@
 use Rattle.std.proofs.Common.{◌≡◌, map, length, Some, refl, sym, ap, ◌∙◌}
 use Rattle.std.specs.Prelude.{slice_get}
 use Rattle.std.proofs.lemmas.Option.{slice_get_read}
-use Rattle.check_core.specs.Known.{has}
+use Rattle.names.specs.Known.{has}
 use Rattle.exec_core.specs.Block.{own}
 use Rattle.design_exec.specs.Processes as processes
 use Rattle.design_exec.specs.Processes.{blocks_in, process, signals_in}
-use Rattle.dep_order.specs.Linking.{blocks_at}
-use Rattle.dep_order.specs.Names.{names_at}
+use Rattle.design_core.specs.WellFormed.{blocks_at}
+use Rattle.place_core.specs.Assigned.{names_at}
 use Rattle.design_core.specs.DesignView.{design_of}
 use Rattle.design_core.specs.View.{block_of, body_of, variant_of}
-use Rattle.dep_order.specs.Numbering.{numbers_of}
+use Rattle.place_core.specs.Numbering.{numbers_of}
 use Rattle.ssa_core.proofs.Driving.{process_drives, process_driven}
 use Rattle.ssa_core.proofs.Places.{get_map}
 use Rattle.ssa_core.proofs.drive.put_process.Goals as goal

@@ -1,7 +1,7 @@
 use Rattle.std.proofs.Common.{get_or}
 use Rattle.design_core.specs.DesignView.{design_of}
-use Rattle.dep_order.specs.Numbering.{numbers_of}
-use Rattle.ssa_core.proofs.Listing.{same_get}
+use Rattle.place_core.specs.Numbering.{numbers_of}
+use Rattle.list_core.proofs.Listing.{same_get}
 use Rattle.ssa_core.proofs.Driving.{process_step}
 use Rattle.ssa_core.proofs.drive.put_processes.Goals as goal
 

@@ -1,5 +1,5 @@
 use Rattle.design_core.specs.DesignView.{design_of}
-use Rattle.dep_order.specs.Numbering.{numbers_of}
+use Rattle.place_core.specs.Numbering.{numbers_of}
 use Rattle.ssa_core.specs.Drives.{Grows, ProcessesBefore}
 use Rattle.ssa_core.proofs.drive.put_processes.Given as goal
 

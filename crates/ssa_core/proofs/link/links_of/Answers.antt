@@ -2,7 +2,7 @@ use Rattle.std.proofs.Common.{◌≡◌, ◌<◌, map, ap, ◌∙◌, ◌++◌, 
 use Rattle.design_core.specs.DesignView.{design_of}
 use Rattle.design_exec.specs.Processes.{links_at}
 use Rattle.ssa_core.specs.Links.{link_as}
-use Rattle.ssa_core.proofs.Listing.{plain_more}
+use Rattle.list_core.proofs.Growing.{plain_more}
 use Rattle.ssa_core.proofs.link.links_of.Goals as goal
 
 pub loop-number-preserved : goal.loop-number-preserved

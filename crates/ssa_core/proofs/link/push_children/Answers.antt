@@ -1,9 +1,9 @@
 use Rattle.std.proofs.Common.{map, ap, ◌∙◌, ◌++◌}
 use Rattle.design_core.specs.View.{child_of}
 use Rattle.design_exec.specs.Processes.{conn_link, none_or}
-use Rattle.dep_order.specs.Linking.{links_of_child}
+use Rattle.place_core.specs.Linking.{links_of_child}
 use Rattle.ssa_core.specs.Links.{link_as}
-use Rattle.ssa_core.proofs.Listing.{numbered_more}
+use Rattle.list_core.proofs.Growing.{numbered_more}
 use Rattle.ssa_core.proofs.link.push_children.Goals as goal
 
 pub loop-place-preserved : goal.loop-place-preserved

@@ -1,7 +1,7 @@
 use Rattle.std.proofs.Common.{◌≡◌, ◌++◌, map, take}
 use Rattle.std.specs.List.{enumerate_from, flat_map}
 use Rattle.design_core.specs.View.{child_of}
-use Rattle.dep_order.specs.Linking.{links_of_child}
+use Rattle.place_core.specs.Linking.{links_of_child}
 use Rattle.ssa_core.specs.Links.{link_as}
 use Rattle.ssa_core.proofs.link.push_children.Given as goal
 

@@ -1,7 +1,7 @@
 use Rattle.std.proofs.Common.{◌≡◌, ◌++◌, map, take}
 use Rattle.std.specs.List.{flat_map}
 use Rattle.design_core.specs.declared.variant.Signal.{Signal}
-use Rattle.dep_order.specs.Linking.{link_of_output}
+use Rattle.place_core.specs.Linking.{link_of_output}
 use Rattle.ssa_core.specs.Links.{link_as}
 use Rattle.ssa_core.proofs.link.push_signals.Given as goal
 

@@ -2,7 +2,7 @@ use Rattle.std.proofs.Common.{◌≡◌, ◌<◌, Some, map, ap, ◌∙◌, ◌+
 use Rattle.design_core.specs.DesignView.{design_of}
 use Rattle.design_exec.specs.Processes.{processes_at}
 use Rattle.ssa_core.specs.Processes.{process_at}
-use Rattle.ssa_core.proofs.Listing.{mapped_more}
+use Rattle.list_core.proofs.Growing.{mapped_more}
 use Rattle.ssa_core.proofs.process.process_keys.Goals as goal
 
 pub loop-number-preserved : goal.loop-number-preserved

@@ -3,7 +3,7 @@ use Rattle.std.proofs.lemmas.List.{length-map, take_all}
 use Rattle.design_core.specs.DesignView.{design_of}
 use Rattle.design_core.specs.View.{block_of, variant_of}
 use Rattle.design_exec.specs.Processes.{process, signals_in, blocks_in}
-use Rattle.dep_order.specs.Linking.{blocks_at}
+use Rattle.design_core.specs.WellFormed.{blocks_at}
 use Rattle.ssa_core.specs.Processes.{process_at}
 use Rattle.ssa_core.proofs.Keys.{keys_more}
 use Rattle.ssa_core.proofs.process.push_blocks.Goals as goal

@@ -1,6 +1,5 @@
-use Rattle.std.proofs.Common.{map}
+use Rattle.std.proofs.Common.{map, ap, subst, ◌∙◌}
 use Rattle.design_core.specs.View.{variant_of, block_of}
-use Rattle.std.proofs.Common.{ap, subst, ◌∙◌}
 use Rattle.std.proofs.lemmas.List.{map_push}
 use Rattle.ssa_core.specs.Processes.{TellBlocks, lists_of}
 use Rattle.ssa_core.proofs.Telling.{variants_more}

@@ -1,5 +1,5 @@
 use Rattle.std.proofs.Common.{map, ap, ◌∙◌, subst}
-use Rattle.exec_core.specs.Lists.{IsIn}
+use Rattle.list_core.specs.Lists.{IsIn}
 use Rattle.design_core.specs.View.{variant_of}
 use Rattle.design_core.specs.WellFormed.{signals_at}
 use Rattle.net_core.specs.Nets.{outputs_of as net_outputs}

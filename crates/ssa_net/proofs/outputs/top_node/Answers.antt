@@ -1,5 +1,5 @@
 use Rattle.exec_core.specs.Design.{place}
-use Rattle.check_core.specs.Maps.{value_of}
+use Rattle.names.specs.Maps.{value_of}
 use Rattle.ssa_nodes.proofs.Sources.{leaf_some, leaf_stands}
 use Rattle.ssa_net.proofs.outputs.top_node.Goals as goal
 

@@ -1,6 +1,6 @@
 use Rattle.std.proofs.Common.{sym, ◌∙◌, subst, length}
 use Rattle.design_core.specs.DesignView.{design_of}
-use Rattle.dep_order.specs.Numbering.{numbers_of}
+use Rattle.place_core.specs.Numbering.{numbers_of}
 use Rattle.ssa_core.specs.Drives.{AreApart, AreDrives}
 use Rattle.ssa_net.proofs.Begun.{apart_all, numbered_all}
 use Rattle.ssa_net.proofs.parts.parts_of.Goals as goal

@@ -2,12 +2,12 @@ use Rattle.std.proofs.Common.{length, sym, subst}
 use Rattle.std.specs.Prelude.{Option, Vec}
 use Rattle.std.specs.declared.alloc.Global.{Global}
 use Rattle.bv_core.specs.declared.reference.NodeId.{NodeId}
-use Rattle.check_core.specs.Maps.{value_of}
+use Rattle.names.specs.Maps.{value_of}
 use Rattle.block_net.specs.Walks.{held}
 use Rattle.term_net.specs.Memos.{Fits}
 use Rattle.design_exec.specs.Processes.{processes_of}
 use Rattle.ssa_core.specs.Processes.{lists_of}
-use Rattle.ssa_state.specs.State.{names_in, IsState}
+use Rattle.ssa_nodes.specs.State.{names_in, IsState}
 use Rattle.ssa_nodes.specs.Parts.{all_in, blocks_in, design_in}
 use Rattle.ssa_nodes.proofs.Ends.{signals_of, can_have, has_node}
 use Rattle.ssa_nodes.proofs.Looking.{items_at, within_lists, map_set}

@@ -1,7 +1,7 @@
 use Rattle.std.proofs.Common.{◌≡◌, ◌<◌, Some, IsSome, refl, sym, ap, ◌∙◌, subst}
 use Rattle.std.proofs.lemmas.Option.{slice_get_within, get_or_from_slice_get}
 use Rattle.exec_core.specs.Design.{place}
-use Rattle.dep_order.specs.Numbering.{number_in, numbers_of}
+use Rattle.place_core.specs.Numbering.{number_in, numbers_of}
 use Rattle.ssa_nodes.specs.Parts.{all_in}
 use Rattle.ssa_nodes.proofs.Driven.{has_drive}
 use Rattle.ssa_nodes.proofs.resolve.drive_at.Goals as goal

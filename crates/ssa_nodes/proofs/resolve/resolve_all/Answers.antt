@@ -2,9 +2,9 @@ use Rattle.std.proofs.Common.{◌≡◌, ◌<◌, ◌≤◌, length, take, get_o
 use Rattle.std.specs.Prelude.{slice_get}
 use Rattle.std.proofs.lemmas.List.{take_all}
 use Rattle.std.proofs.lemmas.Option.{slice_get-get_or}
-use Rattle.dep_order.specs.Results.{Pair}
+use Rattle.place_core.specs.Orders.{Pair}
 use Rattle.term_net.proofs.Overs.{grown_none, grown_twice}
-use Rattle.ssa_core.proofs.Listing.{same_get}
+use Rattle.list_core.proofs.Listing.{same_get}
 use Rattle.ssa_nodes.proofs.Driven.{PairsHave, pair_ready, pairs_more, pair_kept, all_have}
 use Rattle.ssa_nodes.proofs.resolve.resolve_all.Goals as goal
 

@@ -1,6 +1,6 @@
 use Rattle.std.proofs.Common.{◌≡◌, ◌<◌, Some, IsSome, length, refl, sym, ap, ◌∙◌, subst}
 use Rattle.exec_core.specs.Design.{place}
-use Rattle.dep_order.specs.Numbering.{number_in, numbers_of}
+use Rattle.place_core.specs.Numbering.{number_in, numbers_of}
 use Rattle.ssa_core.specs.Processes.{lists_of}
 use Rattle.ssa_nodes.specs.Parts.{all_in}
 use Rattle.ssa_nodes.proofs.Driven.{placed_more, state_set, stands_itself, placed_has, not_some}

@@ -1,5 +1,5 @@
 use Rattle.std.proofs.Common.{length, sym, ap, ◌∙◌, subst}
-use Rattle.check_core.specs.Maps.{value_of}
+use Rattle.names.specs.Maps.{value_of}
 use Rattle.term_net.specs.Memos.{Fits}
 use Rattle.ssa_nodes.proofs.Looking.{fits_blank}
 use Rattle.ssa_nodes.proofs.source.expr_node.Goals as goal

@@ -1,5 +1,5 @@
 use Rattle.std.proofs.Common.{sym, subst}
-use Rattle.check_core.specs.Maps.{value_of}
+use Rattle.names.specs.Maps.{value_of}
 use Rattle.block_net.specs.Source.{expr_in}
 use Rattle.term_net.specs.Leaves.{IsReady, leaf_id, leaf_tree}
 use Rattle.ssa_core.specs.Links.{value_tree}

@@ -1,5 +1,5 @@
 use Rattle.std.proofs.Common.{◌+◌, ◌*◌, ◌<◌, length, subst, sym}
-use Rattle.check_core.specs.Maps.{value_of}
+use Rattle.names.specs.Maps.{value_of}
 use Rattle.term_net.specs.Pending.{IsPending, work, unknown_count}
 use Rattle.term_net.proofs.Stacks.{top_taken}
 use Rattle.term_net.proofs.Overs.{grown_twice}

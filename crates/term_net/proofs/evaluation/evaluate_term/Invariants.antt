@@ -1,5 +1,5 @@
 use Rattle.std.proofs.Common.{length}
-use Rattle.check_core.specs.Maps.{value_of}
+use Rattle.names.specs.Maps.{value_of}
 use Rattle.block_net.specs.Terms.{tree_at, trees_of}
 use Rattle.term_net.specs.Leaves.{IsReady, leaf_id, leaf_tree}
 use Rattle.term_net.specs.Growth.{Grown, Stay}

@@ -13,7 +13,7 @@ use Rattle.trail_net.proofs.write.write_trail.Goals as goal
 pub trace_of-requires : goal.trace_of-requires
 trace_of-requires g c =
     let sound : IsSound (design_of c.args.design.now) = record { kept = c.args.design.now.kept; accepted = c.requires.accepted } in
-    record { inputs = inputs_are_ports (design_of c.args.design.now) (length c.args.order.now) c.args.mode c.in_ok-net.net c.in_ok-net.table c.args.stim.ports sound c.in_ok-net.ensures.ok c.requires.inputs }
+    record { inputs = inputs_are_ports (design_of c.args.design.now) (length c.args.order.now) c.args.mode c.in_ok-net.field-0.net c.in_ok-net.field-0.table c.args.stim.ports sound c.in_ok-net.ensures.ok c.requires.inputs }
 
 pub returns-in_err-trace-clause-front : goal.returns-in_err-trace-clause-front
 returns-in_err-trace-clause-front g c =
@@ -22,27 +22,27 @@ returns-in_err-trace-clause-front g c =
 
 pub write_trail-requires : goal.write_trail-requires
 write_trail-requires g c =
-    let net : c.in_ok-trace.trace.net ≡ c.in_ok-net.net = ap (λ (t : Traced). t.net) c.in_ok-trace.ensures.ok in
-    let many = as_many_nodes (design_of c.args.design.now) (length c.args.order.now) c.args.mode c.in_ok-net.net c.in_ok-net.table c.in_ok-net.ensures.ok in
-    let fits : length c.in_ok-net.table.nodes ≤ length c.in_ok-trace.trace.net.nodes = rw (many, net) (grind (arith)) in
+    let net : c.in_ok-trace.trace.net ≡ c.in_ok-net.field-0.net = ap (λ (t : Traced). t.net) c.in_ok-trace.ensures.ok in
+    let many = as_many_nodes (design_of c.args.design.now) (length c.args.order.now) c.args.mode c.in_ok-net.field-0.net c.in_ok-net.field-0.table c.in_ok-net.ensures.ok in
+    let fits : length c.in_ok-net.field-0.table.nodes ≤ length c.in_ok-trace.trace.net.nodes = rw (many, net) (grind (arith)) in
     record { nodes = fits }
 
 pub returns-clause-ok : goal.returns-clause-ok
 returns-clause-ok g c =
     let sound : IsSound (design_of c.args.design.now) = record { kept = c.args.design.now.kept; accepted = c.requires.accepted } in
-    let net : c.in_ok-trace.trace.net ≡ c.in_ok-net.net = ap (λ (t : Traced). t.net) c.in_ok-trace.ensures.ok in
+    let net : c.in_ok-trace.trace.net ≡ c.in_ok-net.field-0.net = ap (λ (t : Traced). t.net) c.in_ok-trace.ensures.ok in
     let stim : c.in_ok-trace.trace.stim ≡ c.args.stim = ap (λ (t : Traced). t.stim) c.in_ok-trace.ensures.ok in
-    let text : trail_text (trace_world c.in_ok-net.table (run_samples c.in_ok-trace.trace.net c.in_ok-trace.trace.stim)) ≡ trail_text (trace_world c.in_ok-net.table (run_samples c.in_ok-net.net c.args.stim)) =
-    (λ i. trail_text (trace_world c.in_ok-net.table (run_samples (net i) (stim i)))) in
-    on_ok_weaker c.write_trail.result (λ taken. trail_taken (design_of c.args.design.now) c.args.order.now c.args.mode c.in_ok-net.net c.in_ok-net.table c.args.stim sound c.requires.order c.in_ok-net.ensures.ok (subst IsStimulus c.stim.view_is c.stim.invariant.0) c.requires.inputs
+    let text : trail_text (trace_world c.in_ok-net.field-0.table (run_samples c.in_ok-trace.trace.net c.in_ok-trace.trace.stim)) ≡ trail_text (trace_world c.in_ok-net.field-0.table (run_samples c.in_ok-net.field-0.net c.args.stim)) =
+    (λ i. trail_text (trace_world c.in_ok-net.field-0.table (run_samples (net i) (stim i)))) in
+    on_ok_weaker c.write_trail.result (λ taken. trail_taken (design_of c.args.design.now) c.args.order.now c.args.mode c.in_ok-net.field-0.net c.in_ok-net.field-0.table c.args.stim sound c.requires.order c.in_ok-net.ensures.ok (subst IsStimulus c.stim.view_is c.stim.invariant.0) c.requires.inputs
     (g.S.Sink.taken c.args.out.now) (g.S.Sink.taken c.write_trail.new.out) (subst (Appends (g.S.Sink.taken c.args.out.now) (g.S.Sink.taken c.write_trail.new.out)) text taken)) c.write_trail.ensures.ok
 
 pub returns-clause-front : goal.returns-clause-front
 returns-clause-front g c =
     let sound : IsSound (design_of c.args.design.now) = record { kept = c.args.design.now.kept; accepted = c.requires.accepted } in
-    let net : c.in_ok-trace.trace.net ≡ c.in_ok-net.net = ap (λ (t : Traced). t.net) c.in_ok-trace.ensures.ok in
+    let net : c.in_ok-trace.trace.net ≡ c.in_ok-net.field-0.net = ap (λ (t : Traced). t.net) c.in_ok-trace.ensures.ok in
     let stim : c.in_ok-trace.trace.stim ≡ c.args.stim = ap (λ (t : Traced). t.stim) c.in_ok-trace.ensures.ok in
-    let text : trail_text (trace_world c.in_ok-net.table (run_samples c.in_ok-trace.trace.net c.in_ok-trace.trace.stim)) ≡ trail_text (trace_world c.in_ok-net.table (run_samples c.in_ok-net.net c.args.stim)) =
-    (λ i. trail_text (trace_world c.in_ok-net.table (run_samples (net i) (stim i)))) in
-    on_err_weaker c.write_trail.result (λ taken. front_taken (design_of c.args.design.now) c.args.order.now c.args.mode c.in_ok-net.net c.in_ok-net.table c.args.stim sound c.requires.order c.in_ok-net.ensures.ok (subst IsStimulus c.stim.view_is c.stim.invariant.0) c.requires.inputs
+    let text : trail_text (trace_world c.in_ok-net.field-0.table (run_samples c.in_ok-trace.trace.net c.in_ok-trace.trace.stim)) ≡ trail_text (trace_world c.in_ok-net.field-0.table (run_samples c.in_ok-net.field-0.net c.args.stim)) =
+    (λ i. trail_text (trace_world c.in_ok-net.field-0.table (run_samples (net i) (stim i)))) in
+    on_err_weaker c.write_trail.result (λ taken. front_taken (design_of c.args.design.now) c.args.order.now c.args.mode c.in_ok-net.field-0.net c.in_ok-net.field-0.table c.args.stim sound c.requires.order c.in_ok-net.ensures.ok (subst IsStimulus c.stim.view_is c.stim.invariant.0) c.requires.inputs
     (g.S.Sink.taken c.args.out.now) (g.S.Sink.taken c.write_trail.new.out) (subst (AppendsFront (g.S.Sink.taken c.args.out.now) (g.S.Sink.taken c.write_trail.new.out)) text taken)) c.write_trail.ensures.front

@@ -1,6 +1,6 @@
 use Rattle.std.proofs.Common.{◌≤◌}
 use Rattle.std.specs.List.{flat_map}
-use Rattle.design_core.specs.Slots.{from}
+use Rattle.list_core.specs.Lists.{from}
 use Rattle.trail_out.specs.Texts.{slot_text}
 use Rattle.sink_text.specs.Waiting.{Passes}
 use Rattle.trail_out.specs.Written.{samples_at}

@@ -1,7 +1,7 @@
 use Rattle.std.proofs.Common.{◌≡◌, ◌<◌, ◌++◌, length, sym, ap, ◌∙◌, arith}
 use Rattle.std.specs.List.{flat_map}
 use Rattle.std.proofs.lemmas.Result.{err_from_is_err_and}
-use Rattle.design_core.specs.Slots.{from}
+use Rattle.list_core.specs.Lists.{from}
 use Rattle.trail_out.specs.Texts.{slot_text, cycle_text}
 use Rattle.sink_text.proofs.Passing.{more_passes, front_passes}
 use Rattle.trail_out.proofs.Cycles.{number_next, number_of, set_at}

@@ -1,7 +1,7 @@
 use Rattle.std.proofs.Common.{◌≤◌}
 use Rattle.std.specs.List.{flat_map}
 use Rattle.sink_text.specs.Waiting.{Passes}
-use Rattle.design_core.specs.Slots.{from}
+use Rattle.list_core.specs.Lists.{from}
 use Rattle.verilog_out.specs.Lines.{part_line}
 use Rattle.verilog_out.proofs.print.write_part.Given as goal
 

@@ -1,5 +1,5 @@
 use Rattle.std.proofs.Common.{◌≡◌, length, sym, ap, ◌∙◌, subst}
-use Rattle.exec_core.specs.Lists.{EachOf}
+use Rattle.list_core.specs.Lists.{EachOf}
 use Rattle.net_core.specs.Nets.{NextsFit}
 use Rattle.walk_net.specs.Registers.{HasPlace, AreNextIds, with_nexts}
 use Rattle.walk_net.proofs.Following.{written_back}

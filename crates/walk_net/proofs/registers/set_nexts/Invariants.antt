@@ -1,5 +1,5 @@
 use Rattle.std.proofs.Common.{◌≡◌, drop, length}
-use Rattle.exec_core.specs.Lists.{EachOf}
+use Rattle.list_core.specs.Lists.{EachOf}
 use Rattle.walk_net.specs.Registers.{with_nexts, HasPlace}
 use Rattle.walk_net.proofs.registers.set_nexts.Given as goal
 

@@ -1,6 +1,6 @@
 use Rattle.std.proofs.Common.{sym, ap, ◌∙◌, subst}
 use Rattle.std.specs.Prelude.{map}
-use Rattle.exec_core.specs.Lists.{EachOf}
+use Rattle.list_core.specs.Lists.{EachOf}
 use Rattle.net_core.specs.Nets.{OutputsFit}
 use Rattle.walk_net.specs.Next.{trees_by}
 use Rattle.walk_net.specs.Renaming.{IsNode}

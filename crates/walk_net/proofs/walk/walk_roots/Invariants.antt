@@ -1,5 +1,5 @@
 use Rattle.std.proofs.Common.{◌≡◌, [], drop}
-use Rattle.exec_core.specs.Lists.{EachOf}
+use Rattle.list_core.specs.Lists.{EachOf}
 use Rattle.exec_core.specs.Kept.{walk_all}
 use Rattle.net_core.specs.Nodes.{trees_of}
 use Rattle.walk_net.specs.Next.{trees_by}

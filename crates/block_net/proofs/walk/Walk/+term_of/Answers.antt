@@ -5,7 +5,8 @@ use Rattle.bv_core.specs.declared.operators.Op1.TheVariants as op1
 use Rattle.tree_core.specs.Tree.{One, Two, Mux}
 use Rattle.exec_core.specs.Exec.{on_one, on_two, on_three}
 use Rattle.exec_core.specs.Trees.{tree_in}
-use Rattle.design_exec.specs.Processes.{bits, unary_of, binary_of}
+use Rattle.design_exec.specs.Processes.{unary_of, binary_of}
+use Rattle.design_core.specs.Widths.{bits}
 use Rattle.block_net.specs.Source.{expr_in}
 use Rattle.block_net.specs.Walks.{env_of}
 use Rattle.block_net.proofs.WalkSteps.{grown_twice}

@@ -1,5 +1,5 @@
 use Rattle.std.proofs.Common.{sym, subst, ℕ, List, ◌<◌, length}
-use Rattle.graph_order.specs.Lists.{EachOf}
+use Rattle.list_core.specs.Lists.{EachOf}
 use Rattle.graph_order.specs.Flat.{edges_in}
 use Rattle.graph_order.proofs.Spans.{span_edges}
 use Rattle.graph_order.proofs.graph.Graph.next.Goals as goal

@@ -1,6 +1,6 @@
 use Rattle.std.proofs.Common.{subst, get_or}
-use Rattle.graph_order.specs.Lists.{IsIn}
-use Rattle.graph_order.proofs.Lists.{in_place}
+use Rattle.list_core.specs.Lists.{IsIn}
+use Rattle.list_core.proofs.Lists.{in_place}
 use Rattle.graph_order.proofs.search.Search.ahead.Goals as goal
 
 pub returns-clause-edge : goal.returns-clause-edge

@@ -1,5 +1,5 @@
 use Rattle.std.proofs.Common.{◌≡◌, take}
-use Rattle.graph_order.specs.Lists.{EachOf}
+use Rattle.list_core.specs.Lists.{EachOf}
 use Rattle.graph_order.specs.Search.{mark_of}
 use Rattle.graph_order.specs.declared.search.Mark.TheVariants.{Finished}
 use Rattle.graph_order.proofs.search.Search.unfinished.Given as goal

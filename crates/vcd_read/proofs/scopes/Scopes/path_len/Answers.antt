@@ -1,8 +1,7 @@
-use Rattle.std.proofs.Common.{◌≡◌, ◌-◌, suc, length, ap, sym, ◌∙◌, arith}
+use Rattle.std.proofs.Common.{◌≡◌, ◌-◌, suc, length, ap, sym, ◌∙◌, arith, List}
 use Rattle.std.specs.Prelude.{slice_get}
 use Rattle.vcd_read.specs.Scopes.{path_at}
 use Rattle.vcd_read.specs.Nesting.{Scope, paths_of}
-use Rattle.std.proofs.Common.{List}
 use Rattle.vcd_read.proofs.ScopeLemmas.{length-scopes_of, len_is}
 use Rattle.vcd_read.proofs.scopes.Scopes.path_len.Goals as goal
 

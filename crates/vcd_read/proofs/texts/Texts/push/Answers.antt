@@ -1,5 +1,4 @@
-use Rattle.std.proofs.Common.{◌≡◌, ◌+◌, ◌++◌, ◌∷◌, [], length, ap, rules}
-use Rattle.std.proofs.Common.{length-append}
+use Rattle.std.proofs.Common.{◌≡◌, ◌+◌, ◌++◌, ◌∷◌, [], length, ap, rules, length-append}
 use Rattle.vcd_read.proofs.TextLemmas.{more_ends, texts-push}
 use Rattle.vcd_read.proofs.texts.Texts.push.Goals as goal
 

@@ -1,6 +1,0 @@
-use Rattle.std.proofs.Common.{sym, ◌∙◌, bytes_eq}
-use Rattle.check_core.proofs.Sets.{list_any-map}
-use Rattle.check_core.proofs.name_set.NameSet.contains.Goals as goal
-
-pub returns : goal.returns
-returns c = rw (← c.self.view_is) (c.contains.ensures ∙ sym (list_any-map (bytes_eq c.args.name.now) (λ name. name.items) c.self.inside.names.keys))

@@ -1,5 +1,0 @@
-use Rattle.check_core.proofs.Sets.{known_grown}
-use Rattle.check_core.proofs.name_set.NameSet.insert.Goals as goal
-
-pub returns-clause-known : goal.returns-clause-known
-returns-clause-known c = known_grown _ _ _ _ c.in_ok-added.ensures.added c.in_ok-added.ensures.names

@@ -1,7 +1,0 @@
-use Rattle.std.proofs.Common.{◌≡◌, drop}
-use Rattle.check_core.specs.Statements.{stmts_at}
-use Rattle.dep_order.specs.Names.{names_at, adds_targets}
-use Rattle.dep_order.proofs.assigned.put_targets.Given as goal
-
-abbrev pub invariant-loop-stmt : goal.invariant-loop-stmt
-invariant-loop-stmt l = adds_targets l.clocked (names_at l.names.items) (stmts_at (drop l.stmt-index l.stmts)) ≡ adds_targets l.clocked (names_at l.initial.names.items) (stmts_at l.stmts)

@@ -1,8 +1,0 @@
-use Rattle.dep_order.proofs.Ready.{orders_are_accepted, others_are_given}
-use Rattle.dep_order.proofs.laws.orders_are_accepted.Goals as goal
-
-pub returns-clause-accepted : goal.returns-clause-accepted
-returns-clause-accepted c = orders_are_accepted
-
-pub returns-clause-others : goal.returns-clause-others
-returns-clause-others c = others_are_given

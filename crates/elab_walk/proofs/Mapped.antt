@@ -1,8 +1,0 @@
--- Searches in a mapped list.
-use Rattle.std.proofs.Common.{◌≡◌, Bool, List, [], ◌∷◌, map, refl}
-use Rattle.std.specs.List.{list_any}
-
--- whether one passes
-pub list_any-map : {X Y : Type 0} (p : Y → Bool) (f : X → Y) (xs : List X) → list_any p (map f xs) ≡ list_any (λ x. p (f x)) xs
-list_any-map p f [] = refl
-list_any-map p f (x ∷ xs) = rw (list_any-map p f xs) refl

@@ -1,0 +1,4 @@
+pub mod Orders
+pub mod Numbering
+pub mod Linking
+pub mod Assigned
