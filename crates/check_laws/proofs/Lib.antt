@@ -1,0 +1,9 @@
+mod Firsts
+mod Verdicts
+mod Used
+mod Typed
+mod Named
+mod Driven
+mod NamesBack
+mod DrivesBack
+mod TypesBack

@@ -1,0 +1,5 @@
+pub mod Kinds
+pub mod Typing
+pub mod Naming
+pub mod Driving
+pub mod Accepting
