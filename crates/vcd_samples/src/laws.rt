@@ -1,0 +1,6 @@
+ghost use Rattle.vcd_samples.specs.Example.{IsRead};
+
+/// The samples of a text that was written by hand, by the definition. Computes nothing.
+pub fn samples_by_hand()
+    ensures { IsRead }
+{}

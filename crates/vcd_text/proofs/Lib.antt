@@ -1,0 +1,12 @@
+pub mod Words
+pub mod Codes
+pub mod Digits
+pub mod Known
+pub mod Values
+pub mod Heads
+pub mod Whole
+pub mod Changing
+pub mod Rising
+pub mod Sampling
+pub mod Writing
+pub mod Lines

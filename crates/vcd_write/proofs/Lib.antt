@@ -1,0 +1,6 @@
+mod Numbers
+mod Pieces
+mod Samples
+mod Fitting
+mod Naming
+mod Back

@@ -1,0 +1,4 @@
+pub mod Run
+pub mod Written
+pub mod Sample
+pub mod ReadBack
