@@ -1,3 +1,6 @@
+//! A file means what was written of it, so a reader that keeps to its definition loses nothing. The laws are of any file and not of
+//! a net's, so that another writer can use them.
+
 ghost use Rattle.vcd_text.specs.Told.{DumpsAreRead};
 ghost use Rattle.vcd_text.specs.Waves.{WavesAreDumps, WavesAreTold};
 

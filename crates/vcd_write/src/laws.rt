@@ -1,3 +1,5 @@
+//! The file of a net's run tells the run when it is read; and whole files of small nets, computed from the definitions.
+
 ghost use Rattle.vcd_write.specs.ReadBack.{WavesReadBack};
 ghost use Rattle.vcd_write.specs.Sample.{counter_is_told, alone_is_told, CodesAre};
 
