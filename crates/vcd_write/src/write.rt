@@ -91,6 +91,8 @@ fn write_cycles<S: Sink>(
     ensures front { OnErr result (AppendsFront (S.taken out.old) (S.taken out.new) (text.old.items ++ cycles_text trace.old.net trace.old.stim)) }
     ensures failed { IsErrOf result SinkEnd.Failed → Rose (S.fault_count out.old) (S.fault_count out.new) }
     ensures later { S.fault_count out.old ≤ S.fault_count out.new }
+    ensures net { trace.new.net ≡ trace.old.net }
+    ensures stim { trace.new.stim ≡ trace.old.stim }
 {
     for cycle in 0..trace.cycles() {
         write_cycle(alloc, text, trace, nodes, values, cycle, out)?;
@@ -113,6 +115,8 @@ fn write_waves<S: Sink>(
     ensures front { OnErr result (AppendsFront (S.taken out.old) (S.taken out.new) (text.old.items ++ waves_text trace.old.net trace.old.stim)) }
     ensures failed { IsErrOf result SinkEnd.Failed → Rose (S.fault_count out.old) (S.fault_count out.new) }
     ensures later { S.fault_count out.old ≤ S.fault_count out.new }
+    ensures net { trace.new.net ≡ trace.old.net }
+    ensures stim { trace.new.stim ≡ trace.old.stim }
 {
     let mut values = push_start(alloc, text, trace, nodes)?;
     write_cycles(alloc, text, trace, nodes, &mut values, out)?;
@@ -123,13 +127,15 @@ fn write_waves<S: Sink>(
 /// numbers, and the outputs, in the scope of the module. It keeps the values of two cycles, and what waits for the sink, which is
 /// the head, or 64 KiB and one cycle. Each input node of the net is an input port of its name and width, no two ports have one
 /// name, and the outputs of the net are the output ports, in order, with names and widths. Where it fails, the sink took a front
-/// of the text.
+/// of the text. The trace is of the same net and stimulus afterwards.
 pub fn write_vcd<S: Sink>(alloc: Global, trace: &mut SimTrace, out: &mut S) -> Result<(), SinkEnd>
     requires { FitsPorts trace.old.net trace.old.stim.ports }
     ensures ok { OnOk result (Appends (S.taken out.old) (S.taken out.new) (waves_text trace.old.net trace.old.stim)) }
     ensures front { OnErr result (AppendsFront (S.taken out.old) (S.taken out.new) (waves_text trace.old.net trace.old.stim)) }
     ensures failed { IsErrOf result SinkEnd.Failed → Rose (S.fault_count out.old) (S.fault_count out.new) }
     ensures later { S.fault_count out.old ≤ S.fault_count out.new }
+    ensures net { trace.new.net ≡ trace.old.net }
+    ensures stim { trace.new.stim ≡ trace.old.stim }
 {
     let nodes = shown(alloc, trace.net())?;
     let mut text = Vec::new(alloc);
