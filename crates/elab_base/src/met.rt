@@ -1,4 +1,4 @@
-ghost use Rattle.std.specs.Prelude.{◌≡◌, ◌<◌, ◌^◌, OnOk};
+ghost use Rattle.std.specs.Prelude.{◌≡◌, ◌<◌, ◌^◌, OnOk, OnErr};
 ghost use Rattle.elab_core.specs.Results.{Judged};
 ghost use Rattle.elab_core.specs.Walk.{judge, counts, none_seen};
 ghost use Rattle.elab_base.specs.Met.{met_of, entered, CountsOne};
@@ -29,12 +29,13 @@ impl Met {
         }
     }
 
-    /// Counts one more, at this line; it is a fault where that passes the limit. Cells are counted elsewhere: of them
-    /// nothing is kept.
+    /// Counts one more, at this line; it is a fault where that passes the limit, and then nothing is counted. Cells are counted
+    /// elsewhere: of them nothing is kept.
     #[tactic(auto, unfolding(elab_core::specs::Walk::judge))]
     pub fn take(&mut self, what: Count, line: u32) -> Result<(), ElabFault>
         ensures judged { Judged (λ _. tt) result (met_of self.new) (judge (met_of self.old) (counts what line)) }
         ensures entered { OnOk result (self.new.instances ≡ entered what self.old.instances) }
+        ensures same { OnErr result (self.new ≡ self.old) }
     {
         match what {
             Count::Instances => self.instances = one_more(self.instances, what, 4_096, line)?,

@@ -1,4 +1,4 @@
-ghost use Rattle.std.specs.Prelude.{◌≡◌, [], ◌∷◌, ◌++◌, IfOk, OnOk, None};
+ghost use Rattle.std.specs.Prelude.{◌≡◌, [], ◌∷◌, ◌++◌, IfOk, OnOk, OnErr, None};
 ghost use Rattle.gen_scope.specs.Gens.{find};
 
 use indexmap::IndexMap;
@@ -38,10 +38,11 @@ impl Params {
         self.numbers.get(name).copied()
     }
 
-    /// A parameter more, behind the others.
+    /// A parameter more, behind the others; where memory runs out, they stay as they were.
     pub fn push(&mut self, alloc: Global, name: &[u8], number: i64) -> Result<(), NoMemory>
         requires { find self.old name.now ≡ None }
-        ensures { OnOk result (self.new ≡ self.old ++ (name.now, number) ∷ []) }
+        ensures ok { OnOk result (self.new ≡ self.old ++ (name.now, number) ∷ []) }
+        ensures err { OnErr result (self.new ≡ self.old) }
     {
         self.numbers.insert(name.to_vec(alloc)?, number)?;
         Ok(())

@@ -5,8 +5,8 @@ use Rattle.gen_scope.specs.Gens.{find}
 use Rattle.gen_scope.proofs.Names.{entry_of, find_looks, entries_pushed}
 use Rattle.gen_scope.proofs.params.Params.push.Goals as goal
 
-pub returns : goal.returns
-returns c =
+pub returns-clause-ok : goal.returns-clause-ok
+returns-clause-ok c =
     let m = c.self.inside.numbers in
     let key = c.in_ok-to_vec.field-0 in
     let copied : key.items ≡ c.args.name.now = search rules in
