@@ -1,0 +1,4 @@
+mod Defaults
+mod Stimuli
+mod Dumps
+mod Removed

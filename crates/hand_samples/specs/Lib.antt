@@ -1,0 +1,4 @@
+pub mod Defaults
+pub mod Stimuli
+pub mod Dumps
+pub mod Removed
