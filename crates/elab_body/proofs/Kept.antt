@@ -1,7 +1,13 @@
 -- What a loop keeps.
-use Rattle.std.proofs.Common.{◌≡◌, ℕ}
+use Rattle.std.proofs.Common.{◌≡◌, ℕ, List, length, take}
 
 -- what is left gives from here what all gives from the start, and no instance was met
 pub record Kept {A : Type 0} (left all : A) (now before : ℕ) : Type 0 where
   pub judged : left ≡ all
   pub instances : now ≡ before
+
+-- and what was made before stands in front of what is made
+pub record KeptFront {A B : Type 0} (left all : A) (now before : ℕ) (whole front : List B) : Type 0 where
+  pub judged : left ≡ all
+  pub instances : now ≡ before
+  pub made : take (length front) whole ≡ front

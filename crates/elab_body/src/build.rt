@@ -1,6 +1,6 @@
 //! Expressions and statements made of parts.
 
-ghost use Rattle.std.specs.Prelude.{◌≡◌};
+ghost use Rattle.std.specs.Prelude.{◌≡◌, length, take};
 ghost use Rattle.design_core.specs.Design as design;
 ghost use Rattle.design_core.specs.View.{expr_of, stmt_of, body_of, else_of};
 ghost use Rattle.elab_core.specs.Operators.{unary_of, binary_of};
@@ -135,9 +135,10 @@ pub(crate) fn choice(
 }
 
 /// One statement more.
-#[tactic(auto, unfolding(crate::specs::Body::made_of), using(crate::proofs::StmtLoops::body_pushed))]
+#[tactic(auto, unfolding(crate::specs::Body::made_of), using(crate::proofs::StmtLoops::body_pushed, crate::proofs::Fronts::front_steps))]
 pub(crate) fn add(made: &mut Vec<Stmt>, statement: Stmt) -> Result<(), ElabFault>
-    ensures { NoMemoryOr (λ _. made_of made.new ≡ added (made_of made.old) (stmt_of statement)) result }
+    ensures added { NoMemoryOr (λ _. made_of made.new ≡ added (made_of made.old) (stmt_of statement)) result }
+    ensures made { take (length made.old.items) made.new.items ≡ made.old.items }
 {
     made.push(statement)?;
     Ok(())

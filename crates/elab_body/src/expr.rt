@@ -1,4 +1,4 @@
-ghost use Rattle.std.specs.Prelude.{◌≡◌, OnOk};
+ghost use Rattle.std.specs.Prelude.{◌≡◌};
 ghost use Rattle.gen_tree.specs.View.{expr_of as source_of};
 ghost use Rattle.design_core.specs.View.{expr_of};
 ghost use Rattle.elab_core.specs.Results.{Judged};
@@ -25,7 +25,7 @@ pub fn expression(
     scope: &Scope,
 ) -> Result<design_core::Expr, ElabFault>
     ensures judged { Judged (λ e. expr_of e) result (met_of met.new) (judge (met_of met.old) (walk line scope.now (source_of expr.now))) }
-    ensures instances { OnOk result (met.new.instances ≡ met.old.instances) }
+    ensures instances { met.new.instances ≡ met.old.instances }
 {
     met.take(Count::Parts, line)?;
     match expr {

@@ -1,6 +1,6 @@
 //! Assignments, `let`s and conditions: what takes no other statement.
 
-ghost use Rattle.std.specs.Prelude.{◌≡◌, OnOk};
+ghost use Rattle.std.specs.Prelude.{◌≡◌};
 ghost use Rattle.gen_tree.specs.View.{expr_of as source_of, fam_of};
 ghost use Rattle.design_core.specs.View.{expr_of, stmt_of};
 ghost use Rattle.elab_core.specs.Results.{Judged};
@@ -28,7 +28,7 @@ pub(crate) fn assigned(
     value: &Expr,
 ) -> Result<Stmt, ElabFault>
     ensures judged { Judged (λ s. stmt_of s) result (met_of met.new) (judge (met_of met.old) (assigned_by line scope.now (fam_of target.now) (source_of value.now))) }
-    ensures instances { OnOk result (met.new.instances ≡ met.old.instances) }
+    ensures instances { met.new.instances ≡ met.old.instances }
 {
     met.take(Count::Statements, line)?;
     let target = family_name(alloc, line, scope, target)?;
@@ -48,7 +48,7 @@ pub(crate) fn bound(
     value: &Expr,
 ) -> Result<Stmt, ElabFault>
     ensures judged { Judged (λ s. stmt_of s) result (met_of met.new) (judge (met_of met.old) (bound_by line scope.now (fam_of name.now) (source_of value.now))) }
-    ensures instances { OnOk result (met.new.instances ≡ met.old.instances) }
+    ensures instances { met.new.instances ≡ met.old.instances }
 {
     met.take(Count::Statements, line)?;
     let name = family_name(alloc, line, scope, name)?;
@@ -67,7 +67,7 @@ pub(crate) fn tested(
     test: &Expr,
 ) -> Result<design_core::Expr, ElabFault>
     ensures judged { Judged (λ e. expr_of e) result (met_of met.new) (judge (met_of met.old) (tested_by line scope.now (source_of test.now))) }
-    ensures instances { OnOk result (met.new.instances ≡ met.old.instances) }
+    ensures instances { met.new.instances ≡ met.old.instances }
 {
     met.take(Count::Statements, line)?;
     let test = expression(alloc, met, test, line, scope)?;

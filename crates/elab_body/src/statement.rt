@@ -1,4 +1,4 @@
-ghost use Rattle.std.specs.Prelude.{◌≡◌, OnOk, if◌then◌else◌};
+ghost use Rattle.std.specs.Prelude.{◌≡◌, length, take, if◌then◌else◌};
 ghost use Rattle.gen_tree.specs.Tree as tree;
 ghost use Rattle.gen_tree.specs.View.{expr_of as source_of, int_of, stmt_of as source_stmt_of, stmts_of, else_of as source_else_of};
 ghost use Rattle.design_core.specs.View.{body_of, else_of};
@@ -20,9 +20,9 @@ use std::alloc::Global;
 use std::rc::Rc;
 use text_core::Text;
 
-/// Statements one after another, behind those that were made. They have slot 0.
+/// Statements one after another, behind those that were made, which stay as they are, after an error too. They have slot 0.
 #[cycle(statements)]
-#[tactic(auto, using(crate::proofs::StmtLoops::stmts_steps, crate::proofs::Heights::height_at))]
+#[tactic(auto, using(crate::proofs::StmtLoops::stmts_steps, crate::proofs::Heights::height_at, crate::proofs::Fronts::front_steps))]
 pub fn statements(
     alloc: Global,
     met: &mut Met,
@@ -31,7 +31,8 @@ pub fn statements(
     made: &mut Vec<design_core::Stmt>,
 ) -> Result<(), ElabFault>
     ensures judged { Judged (λ _. made_of made.new) result (met_of met.new) (judge (met_of met.old) (statements_walk (stmts_of body.now) scope.now (made_of made.old))) }
-    ensures instances { OnOk result (met.new.instances ≡ met.old.instances) }
+    ensures instances { met.new.instances ≡ met.old.instances }
+    ensures made { take (length made.old.items) made.new.items ≡ made.old.items }
 {
     for statement in body {
         one_statement(alloc, met, statement, scope, made)?;
@@ -49,7 +50,7 @@ pub fn block(
     scope: &Scope,
 ) -> Result<Vec<design_core::Stmt>, ElabFault>
     ensures judged { Judged (λ made. body_of made.items) result (met_of met.new) (judge (met_of met.old) (statements_walk (stmts_of body.now) scope.now Done)) }
-    ensures instances { OnOk result (met.new.instances ≡ met.old.instances) }
+    ensures instances { met.new.instances ≡ met.old.instances }
 {
     let mut made = Vec::new(alloc);
     statements(alloc, met, body, scope, &mut made)?;
@@ -58,7 +59,7 @@ pub fn block(
 
 /// One statement.
 #[cycle(statements)]
-#[tactic(auto, using(gen_tree::proofs::Views::view_steps, crate::proofs::Heights::heights, crate::proofs::StmtCases::stmt_steps))]
+#[tactic(auto, using(gen_tree::proofs::Views::view_steps, crate::proofs::Heights::heights, crate::proofs::StmtCases::stmt_steps, crate::proofs::Fronts::front_steps))]
 fn one_statement(
     alloc: Global,
     met: &mut Met,
@@ -67,7 +68,8 @@ fn one_statement(
     made: &mut Vec<design_core::Stmt>,
 ) -> Result<(), ElabFault>
     ensures judged { Judged (λ _. made_of made.new) result (met_of met.new) (judge (met_of met.old) (statement_walk (source_stmt_of statement.now) scope.now (made_of made.old))) }
-    ensures instances { OnOk result (met.new.instances ≡ met.old.instances) }
+    ensures instances { met.new.instances ≡ met.old.instances }
+    ensures made { take (length made.old.items) made.new.items ≡ made.old.items }
 {
     match statement {
         Stmt::Assign {
@@ -120,7 +122,7 @@ fn one_statement(
 
 /// An `if`: its count and condition, then its branches.
 #[cycle(statements)]
-#[tactic(auto, using(crate::proofs::StmtCases::choose_steps))]
+#[tactic(auto, using(crate::proofs::StmtCases::choose_steps, crate::proofs::Fronts::front_steps))]
 fn chosen(
     alloc: Global,
     met: &mut Met,
@@ -132,7 +134,8 @@ fn chosen(
     made: &mut Vec<design_core::Stmt>,
 ) -> Result<(), ElabFault>
     ensures judged { Judged (λ _. made_of made.new) result (met_of met.new) (judge (met_of met.old) (statement_walk (tree.choose line (source_of test.now) (stmts_of yes.now) (source_else_of no.now)) scope.now (made_of made.old))) }
-    ensures instances { OnOk result (met.new.instances ≡ met.old.instances) }
+    ensures instances { met.new.instances ≡ met.old.instances }
+    ensures made { take (length made.old.items) made.new.items ≡ made.old.items }
 {
     let test = tested(alloc, met, line, scope, test)?;
     let (yes, no) = branches(alloc, met, yes, no, scope)?;
@@ -152,7 +155,7 @@ fn branches(
     scope: &Scope,
 ) -> Result<(Vec<design_core::Stmt>, Option<Vec<design_core::Stmt>>), ElabFault>
     ensures judged { Judged (λ made. (body_of made.0.items, else_of made.1)) result (met_of met.new) (judge (met_of met.old) (branches_walk (stmts_of yes.now) (source_else_of no.now) scope.now)) }
-    ensures instances { OnOk result (met.new.instances ≡ met.old.instances) }
+    ensures instances { met.new.instances ≡ met.old.instances }
 {
     let yes = block(alloc, met, yes, scope)?;
     let no = otherwise(alloc, met, no, scope)?;
@@ -169,7 +172,7 @@ fn otherwise(
     scope: &Scope,
 ) -> Result<Option<Vec<design_core::Stmt>>, ElabFault>
     ensures judged { Judged (λ made. else_of made) result (met_of met.new) (judge (met_of met.old) (else_body (source_else_of no.now) scope.now)) }
-    ensures instances { OnOk result (met.new.instances ≡ met.old.instances) }
+    ensures instances { met.new.instances ≡ met.old.instances }
 {
     match no {
         None => Ok(None),
@@ -182,7 +185,7 @@ fn otherwise(
 
 /// The turns of a loop, one after another.
 #[cycle(statements)]
-#[tactic(auto, using(crate::proofs::StmtLoops::turns_steps, crate::proofs::StmtLoops::signed_steps))]
+#[tactic(auto, using(crate::proofs::StmtLoops::turns_steps, crate::proofs::StmtLoops::signed_steps, crate::proofs::Fronts::front_steps))]
 fn all_turns(
     alloc: Global,
     met: &mut Met,
@@ -194,7 +197,8 @@ fn all_turns(
     made: &mut Vec<design_core::Stmt>,
 ) -> Result<(), ElabFault>
     ensures judged { Judged (λ _. made_of made.new) result (met_of met.new) (judge (met_of met.old) (turns_walk line (in_turn (stmts_of body.now) var.now scope.now) turns.now.from turns.now.count (made_of made.old))) }
-    ensures instances { OnOk result (met.new.instances ≡ met.old.instances) }
+    ensures instances { met.new.instances ≡ met.old.instances }
+    ensures made { take (length made.old.items) made.new.items ≡ made.old.items }
 {
     let name = shared_name(alloc, var)?;
     for turn in 0..turns.count {
@@ -206,7 +210,7 @@ fn all_turns(
 
 /// A turn of a loop, whose variable has this number: its count, then its statements.
 #[cycle(statements)]
-#[tactic(auto, using(crate::proofs::StmtCases::turn_steps))]
+#[tactic(auto, using(crate::proofs::StmtCases::turn_steps, crate::proofs::Fronts::front_steps))]
 fn one_turn(
     alloc: Global,
     met: &mut Met,
@@ -218,7 +222,8 @@ fn one_turn(
     made: &mut Vec<design_core::Stmt>,
 ) -> Result<(), ElabFault>
     ensures judged { Judged (λ _. made_of made.new) result (met_of met.new) (judge (met_of met.old) (turn_walk line (stmts_of body.now) (bound name.now.value number scope.now) (made_of made.old))) }
-    ensures instances { OnOk result (met.new.instances ≡ met.old.instances) }
+    ensures instances { met.new.instances ≡ met.old.instances }
+    ensures made { take (length made.old.items) made.new.items ≡ made.old.items }
 {
     met.take(Count::Turns, line)?;
     let inner = scope.inner(alloc, name, number)?;
@@ -228,7 +233,7 @@ fn one_turn(
 
 /// The branch of a `gen if` that is taken.
 #[cycle(statements)]
-#[tactic(auto, using(crate::proofs::StmtCases::given_steps, crate::proofs::Heights::height_branch))]
+#[tactic(auto, using(crate::proofs::StmtCases::given_steps, crate::proofs::Heights::height_branch, crate::proofs::Fronts::front_steps))]
 fn taken(
     alloc: Global,
     met: &mut Met,
@@ -242,7 +247,8 @@ fn taken(
     made: &mut Vec<design_core::Stmt>,
 ) -> Result<(), ElabFault>
     ensures judged { Judged (λ _. made_of made.new) result (met_of met.new) (judge (met_of met.old) (statement_walk (tree.given line (int_of left.now) cmp (int_of right.now) (stmts_of yes.now) (source_else_of no.now)) scope.now (made_of made.old))) }
-    ensures instances { OnOk result (met.new.instances ≡ met.old.instances) }
+    ensures instances { met.new.instances ≡ met.old.instances }
+    ensures made { take (length made.old.items) made.new.items ≡ made.old.items }
 {
     let holds = comparison(alloc, line, scope, left, cmp, right)?;
     let branch = branch_of(holds, yes, no);

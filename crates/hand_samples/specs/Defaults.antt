@@ -52,15 +52,15 @@ Told = Name × Gens × List ℤ × List Body
 abbrev pub told : Instance → Told
 told i = (i.path, i.params, map (λ s. s.width) i.content.signals, map (λ b. b.body) i.content.blocks)
 
-abbrev pub told_of : Result (List Instance × Seen) Fault → Result (List Told) Fault
-told_of (Ok found) = Ok (map told found.0)
-told_of (Err fault) = Err fault
+abbrev pub all_told : Result (List Instance × Seen) Fault → Result (List Told) Fault
+all_told (Ok found) = Ok (map told found.0)
+all_told (Err fault) = Err fault
 
 -- the walk gives this, and so does substitution, where loops nest less than two deep
 abbrev pub BothGive : List Module → Gens → Result (List Told) Fault → Type 0
 BothGive modules rest answer =
-    (told_of (judge none_seen (top_walk modules (codes "Top") rest)) ≡ answer)
-    × (told_of (judge none_seen (closed_top 2 modules (codes "Top") rest)) ≡ answer)
+    (all_told (judge none_seen (top_walk modules (codes "Top") rest)) ≡ answer)
+    × (all_told (judge none_seen (closed_top 2 modules (codes "Top") rest)) ≡ answer)
 
 abbrev gens : ℕ → ℕ → ℕ → Gens
 gens a b c = (codes "A", pos a) ∷ (codes "B", pos b) ∷ (codes "C", pos c) ∷ []

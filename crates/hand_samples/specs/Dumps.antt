@@ -6,8 +6,8 @@ use Rattle.vcd_read.specs.Changes.{Change}
 use Rattle.vcd_read.specs.Meaning.{Meaning, meaning}
 
 -- the code # is that of d and of e; real and string variables have codes too; the scope t is opened, and once more behind u
-abbrev pub head : List ℕ
-head =
+abbrev pub declared : List ℕ
+declared =
     codes "$timescale 1ns $end\n"
     ++ codes "$scope module t $end\n$var wire 1 ! clk $end\n$var wire 4 # d [3:0] $end\n$var real 64 % v $end\n$var string 1 ' s $end\n$upscope $end\n"
     ++ codes "$scope module u $end\n$var reg 4 # e $end\n$upscope $end\n"
@@ -15,8 +15,8 @@ head =
     ++ codes "$enddefinitions $end\n"
 
 -- the values of v and s, the dump keywords, and what stands in a comment are passed over
-abbrev pub body : List ℕ
-body =
+abbrev pub changing : List ℕ
+changing =
     codes "$dumpvars\n0!\nb11 #\nr1.5 %\nsIDLE '\nx\"\n$end\n"
     ++ codes "#5\n1!\n$comment b1 # 1! #9 $dumpvars $end\n"
     ++ codes "#7\n$dumpoff\nx!\nBX #\n$end\n$dumpon\n0!\nb0101 #\n$end\nR-2e3 %\n"
@@ -41,7 +41,7 @@ told = record {
 }
 
 abbrev pub DumpIsRead : Type 0
-DumpIsRead = meaning (head ++ body) ≡ Ok told
+DumpIsRead = meaning (declared ++ changing) ≡ Ok told
 
 -- a head with one variable of four bits, 42 bytes long
 abbrev four : List ℕ

@@ -5,20 +5,20 @@ use Rattle.elab_core.specs.Elab.{statements, turns}
 use Rattle.elab_base.specs.Met.{met_of}
 use Rattle.elab_body.specs.Body.{made_of, in_turn}
 use Rattle.elab_body.proofs.Heights.{height, height_stmt, height_else}
-use Rattle.elab_body.proofs.Kept.{Kept}
+use Rattle.elab_body.proofs.Kept.{KeptFront}
 use Rattle.elab_body.proofs.statement.+statements.Given as goal
 
 abbrev pub invariant-statements-loop-statement : goal.invariant-statements-loop-statement
 invariant-statements-loop-statement l =
-    Kept (judge (met_of l.met) (statements (stmts_of (drop l.statement-index l.body)) l.scope (made_of l.made)))
+    KeptFront (judge (met_of l.met) (statements (stmts_of (drop l.statement-index l.body)) l.scope (made_of l.made)))
     (judge (met_of l.initial.met) (statements (stmts_of l.body) l.scope (made_of l.initial.made)))
-    l.met.instances l.initial.met.instances
+    l.met.instances l.initial.met.instances l.made.items l.initial.made.items
 
 abbrev pub invariant-all_turns-loop-turn : goal.invariant-all_turns-loop-turn
 invariant-all_turns-loop-turn l =
-    Kept (judge (met_of l.met) (turns l.line (in_turn (stmts_of l.body) l.var l.scope) (l.turns.from +ℤ pos l.turn) (l.turns.count - l.turn) (made_of l.made)))
+    KeptFront (judge (met_of l.met) (turns l.line (in_turn (stmts_of l.body) l.var l.scope) (l.turns.from +ℤ pos l.turn) (l.turns.count - l.turn) (made_of l.made)))
     (judge (met_of l.initial.met) (turns l.line (in_turn (stmts_of l.body) l.var l.scope) l.turns.from l.turns.count (made_of l.initial.made)))
-    l.met.instances l.initial.met.instances
+    l.met.instances l.initial.met.instances l.made.items l.initial.made.items
 
 abbrev pub decreases-one_statement : goal.decreases-one_statement
 decreases-one_statement l = 8 * height_stmt (stmt_of l.statement.now)
