@@ -1,3 +1,4 @@
 pub mod Begun
 pub mod Ended
 pub mod Outs
+pub mod Unset

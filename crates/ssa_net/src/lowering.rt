@@ -5,6 +5,7 @@ ghost use Rattle.design_core.specs.DesignView.{design_of};
 ghost use Rattle.check_core.specs.Verdict.{verdict};
 ghost use Rattle.place_core.specs.Orders.{TellsOrder};
 ghost use Rattle.lower_core.specs.Lowered.{IsLowered};
+ghost use Rattle.ssa_net.specs.Unset.{UnsetByPaths};
 
 use crate::ends::ends_of;
 use crate::parts::parts_of;
@@ -18,11 +19,13 @@ use std::alloc::Global;
 use text_core::{Listed, NoMemory};
 
 /// An accepted design as a net, along an order of its driven signals. Each block is run once for its variant, and each instance of it
-/// evaluates the terms of that run over its own signals; inputs of the top and registers are leaves.
+/// evaluates the terms of that run over its own signals; inputs of the top and registers are leaves. A name that a row has no node for
+/// is one that some path to the statement does not assign, and no other.
 pub fn lower(alloc: Global, design: &Design, order: &Order, mode: Mode) -> Result<Lowered, NoMemory>
     requires accepted { verdict (design_of design.now) ≡ None }
     requires order { TellsOrder (design_of design.now) order.now }
-    ensures { IfOk result (IsLowered (design_of design.now) (length order.now) mode) }
+    ensures lowered { IfOk result (IsLowered (design_of design.now) (length order.now) mode) }
+    ensures unset { UnsetByPaths (design_of design.now) (length order.now) }
 {
     let parts = parts_of(alloc, design, order)?;
     let mut builder = NetBuilder::new(alloc)?;

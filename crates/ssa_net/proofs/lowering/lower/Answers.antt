@@ -6,10 +6,11 @@ use Rattle.lower_core.specs.Rows.{AreTold}
 use Rattle.ssa_nodes.specs.Parts.{design_in}
 use Rattle.ssa_nodes.specs.Driving.{AllHave}
 use Rattle.ssa_net.proofs.Ended.{lowered_by, lowered_of}
+use Rattle.ssa_net.proofs.Unset.{unset_by_paths}
 use Rattle.ssa_net.proofs.lowering.lower.Goals as goal
 
-pub returns : goal.returns
-returns c =
+pub returns-clause-lowered : goal.returns-clause-lowered
+returns-clause-lowered c =
     let p = c.in_ok-parts.parts in
     let is = c.in_ok-parts.ensures in
     let ends = c.in_ok-ends.ensures in
@@ -23,3 +24,7 @@ returns c =
     (subst (AreTold (design_in p) (length p.order.now) c.ends_of.new.builder (all_spots (design_in p))) (sym c.new-2.ensures) ends.rows)
     ends.outputs
     ends.nexts)
+
+pub returns-clause-unset : goal.returns-clause-unset
+returns-clause-unset c =
+    unset_by_paths (design_of c.args.design.now) (length c.args.order.now) (record { kept = c.args.design.now.kept; accepted = c.requires.accepted })
