@@ -5,8 +5,8 @@ ghost use Rattle.hand_samples.specs.Stimuli.{StimuliAreRead, StimuliAreRefused};
 ghost use Rattle.hand_samples.specs.Dumps.{DumpIsRead, DumpsAreRefused};
 ghost use Rattle.hand_samples.specs.Removed.{IsKeptByHand, IsTrailByHand, RunsByHand};
 
-/// Parameters of instances: defaults that name an earlier parameter, arguments that are computed where the `inst` stands. The walk and
-/// substitution both give them, and both refuse a default that names a later parameter and an argument that names one of the
+/// Parameters of instances: defaults that name an earlier parameter, arguments computed where the `inst` stands. The walk
+/// and substitution both give them, and both refuse a default that names a later parameter and an argument that names one of the
 /// child's. Computes nothing.
 pub fn parameters_by_hand()
     ensures { DefaultsAreSeen }
@@ -18,15 +18,15 @@ pub fn stimuli_by_hand()
     ensures refused { StimuliAreRefused }
 {}
 
-/// A value change dump file with commands among its changes, values that are passed over, a code of two variables and a scope that is
-/// opened again tells this; and others are refused. Computes nothing.
+/// A value change dump file with commands among its changes, values passed over, a code of two variables and a scope that
+/// is opened again tells this; and others are refused. Computes nothing.
 pub fn dumps_by_hand()
     ensures read { DumpIsRead }
     ensures refused { DumpsAreRefused }
 {}
 
-/// A design with a name, a register and a constant that no output needs: what is kept of it and its trail, in both modes, over a run
-/// of two cycles. Computes nothing.
+/// A design with a name, a register and a constant that no output needs: what is kept of it and its trail, in both modes, over a
+/// run of two cycles. Computes nothing.
 pub fn keeps_by_hand()
     ensures kept { IsKeptByHand }
     ensures runs { RunsByHand }

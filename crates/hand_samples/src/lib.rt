@@ -1,4 +1,4 @@
-//! Samples of what is defined, worked by hand: parameters with defaults, a stimulus, a value change dump file, and a design of which
+//! Samples of what is defined, worked by hand: parameters with defaults, stimuli, value change dump files, and a design of which
 //! not all is kept. Each is computed from the definitions alone; nothing is computed here.
 #![tactic(auto)]
 
