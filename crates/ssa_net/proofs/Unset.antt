@@ -1,5 +1,5 @@
 -- A name has no tree exactly where it is unset by paths.
-use Rattle.std.proofs.Common.{◌≡◌, ℕ, true, List, [], ◌∷◌, map, Option, Some, None, option_map, inl, inr, refl, sym, ap, ◌∙◌, subst, eq-eqb, ne_eqb}
+use Rattle.std.proofs.Common.{◌≡◌, ℕ, Bool, true, false, List, [], ◌∷◌, Option, Some, None, option_map, inl, inr, refl, sym, ap, ◌∙◌, subst, eq-eqb}
 use Rattle.std.specs.Prelude.{◌==◌, ◌↔◌, option_and_then, if◌then◌else◌}
 use Rattle.exec_core.specs.Block.{Name, Now}
 use Rattle.exec_core.specs.Trees.{Row, block_rows, row_at}

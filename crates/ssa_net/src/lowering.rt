@@ -19,8 +19,8 @@ use std::alloc::Global;
 use text_core::{Listed, NoMemory};
 
 /// An accepted design as a net, along an order of its driven signals. Each block is run once for its variant, and each instance of it
-/// evaluates the terms of that run over its own signals; inputs of the top and registers are leaves. A name that a row has no node for
-/// is one that some path to the statement does not assign, and no other.
+/// evaluates the terms of that run over its own signals; inputs of the top and registers are leaves. A name for which a row has no
+/// node is one that some path to the statement does not assign, and no other.
 pub fn lower(alloc: Global, design: &Design, order: &Order, mode: Mode) -> Result<Lowered, NoMemory>
     requires accepted { verdict (design_of design.now) ≡ None }
     requires order { TellsOrder (design_of design.now) order.now }
