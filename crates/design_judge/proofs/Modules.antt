@@ -1,7 +1,6 @@
 -- The design of modules that were read, judged.
 use Rattle.std.proofs.Common.{◌≡◌, ℕ, List, Result, Ok, Err, sym, ap, ◌∙◌}
 use Rattle.gen_tree.specs.Tree as tree
-use Rattle.elab_core.specs.Walk as walk
 use Rattle.elab_core.specs.Design.{elaborated}
 use Rattle.design_core.specs.Design.{Design}
 use Rattle.design_judge.specs.declared.accepted.Accepted.{Accepted}

@@ -1,5 +1,5 @@
 -- A source has one judgement, but that a design with several loops is refused for any of them.
-use Rattle.std.proofs.Common.{◌≡◌, ℕ, List, Option, Some, None, Result, Ok, Err, refl, sym, ◌∙◌, ap, subst, ◌⊎◌, inl, inr}
+use Rattle.std.proofs.Common.{◌≡◌, ℕ, List, Some, None, Result, Ok, Err, refl, sym, ◌∙◌, ap, subst, inl, inr}
 use Rattle.gen_tree.specs.Tree as tree
 use Rattle.gen_text.specs.declared.TextFault.{TextFault}
 use Rattle.gen_text.specs.Source.{Reads}
@@ -12,11 +12,10 @@ use Rattle.check_core.specs.Verdict.{verdict}
 use Rattle.exec_core.specs.Block.{Name}
 use Rattle.design_core.specs.Design.{Design}
 use Rattle.dep_order.specs.Results.{TellsLoop}
-use Rattle.place_core.specs.Orders.{TellsOrder}
 use Rattle.dep_order.proofs.Exclusive.{orders_have_no_loop}
 use Rattle.design_judge.specs.declared.design_fault.DesignFault.{DesignFault}
 use Rattle.design_judge.specs.declared.design_fault.DesignFault.TheVariants.{Text, Elaboration, Check, CombLoop}
-use Rattle.design_judge.specs.Judgement.{Top, Stumbles, Describes, HasLoop, HasOrder, IsJudged, IsLooped, TellLoops, HasOneJudgement, told_fault}
+use Rattle.design_judge.specs.Judgement.{Top, Stumbles, Describes, HasLoop, HasOrder, IsJudged, TellLoops, HasOneJudgement, told_fault}
 
 abbrev Judgement : Type 0
 Judgement = Result Design DesignFault

@@ -1,5 +1,5 @@
 -- What is answered for the text of a stimulus.
-use Rattle.std.proofs.Common.{◌≡◌, ◌≢◌, List, Result, Ok, Err, refl}
+use Rattle.std.proofs.Common.{◌≡◌, ◌≢◌, List, Result, Err, refl}
 use Rattle.bv_core.specs.Value.{Bits}
 use Rattle.stim_text.specs.Rows.{Gives}
 use Rattle.stim_text.specs.Stimulus.{Stimulus}

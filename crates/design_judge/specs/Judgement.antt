@@ -1,5 +1,5 @@
 -- What it is that a source is accepted, and why it is refused.
-use Rattle.std.specs.Prelude.{◌≡◌, ◌≢◌, ℕ, false, true, List, Option, Some, None, option_map, Result, Ok, Err, ◌⊎◌}
+use Rattle.std.specs.Prelude.{◌≡◌, ◌≢◌, ℕ, false, true, List, Some, None, Result, Ok, Err, ◌⊎◌}
 use Rattle.gen_tree.specs.Tree as tree
 use Rattle.gen_text.specs.declared.TextFault.TheVariants as text_faults
 use Rattle.gen_text.specs.Source.{Reads, IsCause}

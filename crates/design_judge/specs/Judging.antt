@@ -1,7 +1,6 @@
 -- What the calls answer for a file, beside what is defined of its bytes.
 use Rattle.std.specs.Prelude.{◌≡◌, ◌≢◌, ◌<◌, ◌≤◌, ℕ, false, List, Option, Some, None, Result, Ok, Err, Vec, length}
 use Rattle.std.specs.declared.alloc.Global.{Global}
-use Rattle.bv_core.specs.Value.{Bits}
 use Rattle.gen_tree.specs.Tree as tree
 use Rattle.gen_text.specs.Source.{Reads}
 use Rattle.check_core.specs.Verdict.{verdict}

@@ -11,8 +11,8 @@ use place_core::Order;
 use std::alloc::Global;
 use text_core::NoMemory;
 
-/// A design that is accepted, an order of its driven signals, and the ports of its top. Whoever hands one out says that it is kept
-/// so: that no check refuses the design, that the order is one of its signals, and that the ports are its own.
+/// A design that is accepted, an order of its driven signals, and the ports of its top. Whoever hands one out says that it is
+/// kept so: that no check refuses the design, that the order is one of its signals, and that the ports are its own.
 #[derive(Drop)]
 pub struct Accepted {
     pub design: Design,

@@ -26,12 +26,7 @@ fn push_field(line: &mut Vec<u8>, name: &str, value: &[u8]) -> Result<(), NoMemo
 }
 
 /// Adds a field that is a number, in decimal digits.
-fn push_number(
-    alloc: Global,
-    line: &mut Vec<u8>,
-    name: &str,
-    number: u64,
-) -> Result<(), NoMemory>
+fn push_number(alloc: Global, line: &mut Vec<u8>, name: &str, number: u64) -> Result<(), NoMemory>
     ensures { OnOk result (line.new.items ≡ line.old.items ++ field name.now (decimal number)) }
 {
     let digits = format!(in alloc; "{number}")?;
@@ -79,11 +74,7 @@ fn count_name(what: Count) -> &'static str
 }
 
 /// Adds the fields of a fault of elaboration. Want of memory has none.
-fn push_elab_fields(
-    alloc: Global,
-    line: &mut Vec<u8>,
-    fault: &ElabFault,
-) -> Result<(), NoMemory>
+fn push_elab_fields(alloc: Global, line: &mut Vec<u8>, fault: &ElabFault) -> Result<(), NoMemory>
     ensures { OnOk result (line.new.items ≡ line.old.items ++ elab_fields fault.now) }
 {
     match fault {
@@ -115,11 +106,7 @@ fn push_spot(alloc: Global, line: &mut Vec<u8>, at: &Spot) -> Result<(), NoMemor
 }
 
 /// Adds the fields of a refusal of a check. Want of memory has none.
-fn push_check_fields(
-    alloc: Global,
-    line: &mut Vec<u8>,
-    fault: &CheckFault,
-) -> Result<(), NoMemory>
+fn push_check_fields(alloc: Global, line: &mut Vec<u8>, fault: &CheckFault) -> Result<(), NoMemory>
     ensures { OnOk result (line.new.items ≡ line.old.items ++ check_fields fault.now) }
 {
     match fault {

@@ -60,9 +60,9 @@ fn read<F: Files>(
     }
 }
 
-/// Reads the source of this name, and judges it from its top, a module's name, with the parameters that are given to it: the design
-/// that is accepted, or why it is refused. A file of more than 1 MiB is refused as too long. The name is asked for once, unless memory
-/// runs out before.
+/// Reads the source of this name, and judges it from its top, a module's name, with the parameters that are given to it: the
+/// design that is accepted, or why it is refused. A file of more than 1 MiB is refused as too long. The name is asked for once,
+/// unless memory runs out before.
 ///
 /// Errors: `Failed`, where the file was not read; and `NoMemory`.
 pub fn judge_design<F: Files>(
@@ -103,8 +103,8 @@ fn stimulus_of(
     }
 }
 
-/// Reads the stimulus of this name, and judges it for these ports: the rows that it has, or why it is refused. A file of more than
-/// 64 MiB is refused as too long. The name is asked for once, unless memory runs out before.
+/// Reads the stimulus of this name, and judges it for these ports: the rows that it has, or why it is refused. A file of more
+/// than 64 MiB is refused as too long. The name is asked for once, unless memory runs out before.
 ///
 /// Errors: `Failed`, where the file was not read; and `NoMemory`.
 pub fn judge_stimulus<F: Files>(

@@ -1,7 +1,8 @@
 //! Judges the source of a design and its stimulus: what is accepted, and why the rest is refused.
 //!
-//! A source is read, elaborated from its top, checked, and put in order; the first of these steps that refuses it says why. That order
-//! is one definition, `specs/Judgement.antt`; the number, the name and the line of each refusal stand in `specs/Refusals.antt`.
+//! A source is read, elaborated from its top, checked, and put in order; the first of these steps that refuses it says why. That
+//! order is one definition, `specs/Judgement.antt`; the number, the name and the line of each refusal stand in
+//! `specs/Refusals.antt`.
 #![tactic(auto)]
 
 mod accepted;

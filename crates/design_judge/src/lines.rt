@@ -39,7 +39,12 @@ pub fn design_line(alloc: Global, fault: &DesignFault) -> Result<Vec<u8>, NoMemo
 pub fn stimulus_line(alloc: Global, fault: StimFault) -> Result<Vec<u8>, NoMemory>
     ensures { IfOk result (λ line. line.items ≡ the_stimulus_line fault) }
 {
-    let mut line = line_head(alloc, b"stimulus", stimulus_number(fault), stimulus_name(fault))?;
+    let mut line = line_head(
+        alloc,
+        b"stimulus",
+        stimulus_number(fault),
+        stimulus_name(fault),
+    )?;
     push_stimulus_fields(alloc, &mut line, fault)?;
     line.extend_from_slice(b"\n")?;
     Ok(line)

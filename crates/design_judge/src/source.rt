@@ -51,7 +51,10 @@ fn put_in_order(alloc: Global, design: Design) -> Result<Result<Accepted, Design
 }
 
 /// A design that is accepted, or why it is refused: the checks go before the order.
-fn judge_elaborated(alloc: Global, design: Design) -> Result<Result<Accepted, DesignFault>, NoMemory>
+fn judge_elaborated(
+    alloc: Global,
+    design: Design,
+) -> Result<Result<Accepted, DesignFault>, NoMemory>
     ensures judged { IfOk result (JudgesDesign (design_of design)) }
     ensures fit { IfOk result IsFit }
 {

@@ -1,7 +1,7 @@
 use Rattle.std.proofs.Common.{◌≡◌, drop}
 use Rattle.std.specs.List.{list_all}
 use Rattle.dbg_app.specs.Command.{is_argument}
-use Rattle.dbg_app.proofs.row.are_arguments.Given as goal
+use Rattle.dbg_app.proofs.command.are_arguments.Given as goal
 
 -- all are arguments where those that are left are
 abbrev pub invariant-loop-i : goal.invariant-loop-i
