@@ -2,5 +2,4 @@ mod Ending
 mod Writing
 mod Asking
 mod Judging
-mod PortsFit
 mod Given

@@ -4,8 +4,8 @@ use Rattle.std.specs.List.{list_all, prefix_len, filter_map}
 use Rattle.std.specs.Str.{bytes_eq}
 use Rattle.text_core.specs.Digits.{is_digit_of, number_of}
 use Rattle.gen_token.specs.Spelling.{is_name}
-use Rattle.design_core.specs.Design.{Gens}
 use Rattle.exec_core.specs.Block.{Name}
+use Rattle.design_judge.specs.Judgement.{Top}
 use Rattle.world_core.specs.declared.mode.Mode.{Mode}
 use Rattle.world_core.specs.declared.mode.Mode.TheVariants.{Opt, Keep}
 
@@ -45,59 +45,56 @@ is_argument word = is_some (argument_of word)
 
 -- ---- commands
 
--- a module and what it is given
-pub record Top : Type 0 where
-  pub name : List ℕ
-  pub given : Gens
-
 -- which names are kept: `opt`, those that are needed anyway; `keep`, all of them
 abbrev pub mode_of : List ℕ → Option Mode
 mode_of word = if bytes_eq word (codes "opt") then Some Opt else if bytes_eq word (codes "keep") then Some Keep else None
 
--- what is asked of a design: its trail over the stimulus of this file, or its Verilog
+-- what is asked of a design: the trail of its run, or its Verilog
 pub data Task : Type 0 where
-  TrailOver : (stimulus : List ℕ) → Task
+  Trail : Task
   Verilog : Task
 
--- a command `trail MODE SRC STIM TOP [NAME=N]..` or `compile MODE SRC TOP [NAME=N]..`
-pub record Row : Type 0 where
+-- a command: what it asks, in which mode, of which source file, over which stimulus file where it names one, and of which top
+pub record Command : Type 0 where
+  pub task : Task
   pub mode : Mode
   pub source : List ℕ
+  pub stimulus : Option (List ℕ)
   pub top : Top
-  pub task : Task
 
--- the files are any words that are not empty
-abbrev pub has_files : Task → Bool
-has_files (TrailOver stimulus) = not (bytes_eq stimulus [])
-has_files Verilog = true
+-- a file is any word that is not empty
+abbrev pub has_stimulus : Option (List ℕ) → Bool
+has_stimulus None = true
+has_stimulus (Some stimulus) = not (bytes_eq stimulus [])
 
 -- TOP is a name of the language, and the rest are at most 64 arguments
-abbrev pub row_with : Task → List ℕ → List ℕ → List (List ℕ) → Mode → Option Row
-row_with task source top rest mode =
-    if not (bytes_eq source []) && has_files task && is_name top && nat_le (length rest) 64 && list_all is_argument rest then
-    Some (record { mode = mode; source = source; top = record { name = top; given = filter_map argument_of rest }; task = task }) else None
+abbrev pub command_with : Task → List ℕ → Option (List ℕ) → List ℕ → List (List ℕ) → Mode → Option Command
+command_with task source stimulus top rest mode =
+    if not (bytes_eq source []) && has_stimulus stimulus && is_name top && nat_le (length rest) 64 && list_all is_argument rest then
+    Some (record { task = task; mode = mode; source = source; stimulus = stimulus; top = record { name = top; given = filter_map argument_of rest } }) else None
 
--- the words of a trail, and those of a module
-abbrev pub trail_of : List (List ℕ) → Option Row
-trail_of (command ∷ mode ∷ source ∷ stimulus ∷ top ∷ rest) = option_and_then (row_with (TrailOver stimulus) source top rest) (mode_of mode)
-trail_of words = None
+-- the words `.. MODE SRC STIM TOP [NAME=N]..`
+abbrev pub over_rows : Task → List (List ℕ) → Option Command
+over_rows task (word ∷ mode ∷ source ∷ stimulus ∷ top ∷ rest) = option_and_then (command_with task source (Some stimulus) top rest) (mode_of mode)
+over_rows task words = None
 
-abbrev pub compile_of : List (List ℕ) → Option Row
-compile_of (command ∷ mode ∷ source ∷ top ∷ rest) = option_and_then (row_with Verilog source top rest) (mode_of mode)
-compile_of words = None
+-- the words `.. MODE SRC TOP [NAME=N]..`
+abbrev pub of_design : Task → List (List ℕ) → Option Command
+of_design task (word ∷ mode ∷ source ∷ top ∷ rest) = option_and_then (command_with task source None top rest) (mode_of mode)
+of_design task words = None
 
--- the command that the words are, if they are one
-abbrev pub row_of : List (List ℕ) → Option Row
-row_of [] = None
-row_of (command ∷ words) =
-    if bytes_eq command (codes "trail") then trail_of (command ∷ words) else
-    if bytes_eq command (codes "compile") then compile_of (command ∷ words) else None
+-- the commands by their first words: what stands behind the word, and what is asked
+abbrev pub command_of : List (List ℕ) → Option Command
+command_of [] = None
+command_of (word ∷ words) =
+    if bytes_eq word (codes "trail") then over_rows Trail (word ∷ words) else
+    if bytes_eq word (codes "compile") then of_design Verilog (word ∷ words) else None
 
 -- the names of the files, in the order of the words
-abbrev pub files_of : Task → List (List ℕ)
-files_of (TrailOver stimulus) = stimulus ∷ []
-files_of Verilog = []
+abbrev pub stimulus_names : Option (List ℕ) → List (List ℕ)
+stimulus_names None = []
+stimulus_names (Some stimulus) = stimulus ∷ []
 
-abbrev pub names_of : Option Row → List (List ℕ)
+abbrev pub names_of : Option Command → List (List ℕ)
 names_of None = []
-names_of (Some row) = row.source ∷ files_of row.task
+names_of (Some command) = command.source ∷ stimulus_names command.stimulus

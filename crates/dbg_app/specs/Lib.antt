@@ -1,8 +1,6 @@
 pub mod Command
-pub mod Loops
-pub mod Refusals
+pub mod Asked
 pub mod Answers
 pub mod Judged
 pub mod Outcome
 pub mod Ends
-pub mod Rows

@@ -5,7 +5,7 @@ ghost use Rattle.std.specs.Option.{option_map};
 ghost use Rattle.std.specs.List.{filter_map};
 ghost use Rattle.design_core.specs.Design.{IsInRange};
 ghost use Rattle.dbg_app.specs.Command.{argument_of as the_argument_of, has_minus as the_has_minus, name_len as the_name_len, natural_of as the_natural_of, whole_of as the_whole_of};
-ghost use Rattle.dbg_app.specs.Rows.{given_in as the_given_in};
+ghost use Rattle.dbg_app.specs.Asked.{given_in as the_given_in};
 
 use gen_elab::Given;
 use gen_token::is_name;

@@ -1,17 +1,12 @@
 //! The program: its words, and what it writes for them.
 #![tactic(auto)]
 
-mod accepted;
 mod arguments;
-mod design_fault;
+mod command;
+mod halt;
 mod judge;
-mod lines;
-mod loops;
 mod program;
-mod row;
-mod source;
-mod stop;
+mod write;
 
-pub use design_fault::DesignFault;
+use halt::Halt;
 pub use program::{Ended, run};
-use stop::Stop;

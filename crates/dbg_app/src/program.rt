@@ -1,18 +1,17 @@
-ghost use Rattle.std.specs.Prelude.{◌≡◌, ◌≤◌, ◌<◌, ◌⊎◌, None, IsTrue, OnOk, OnErr, IsErrOf};
+//! The program: it judges what the words say, and writes the text that goes with it.
+
+ghost use Rattle.std.specs.Prelude.{◌≡◌, ◌≤◌, ◌<◌, ◌⊎◌, None, IsTrue};
 ghost use Rattle.io_edge.specs.Faults.{Rose};
 ghost use Rattle.io_edge.specs.Taken.{Appends, AppendsFront};
-ghost use Rattle.dbg_app.specs.Command.{row_of, names_of};
+ghost use Rattle.dbg_app.specs.Command.{command_of, names_of};
 ghost use Rattle.dbg_app.specs.Answers.{usage_fault, IfAsked};
-ghost use Rattle.dbg_app.specs.Judged.{HasRows, TakesText, TakesTextFront, judged_status};
+ghost use Rattle.dbg_app.specs.Judged.{HasText, TakesText, TakesTextFront, judged_status};
 ghost use Rattle.dbg_app.specs.Outcome.{is_status, is_usage_status, TakesDesignLine, TakesStimulusLine, EndsAsAsked, TakesSome, Completes};
 
-use crate::Stop;
 use crate::judge::{Judged, judge};
-use crate::lines::{design_line, stimulus_line};
+use crate::write::write;
 use io_edge::{Files, Sink, Words};
 use std::alloc::Global;
-use trail_net::write_trail;
-use verilog_net::write_verilog;
 
 /// How a run ended: its status, which is 0, 2, 3, 4, 7, 8 or 9.
 #[derive(Clone, Copy, PartialEq, Eq)]
@@ -39,8 +38,8 @@ pub fn run<F: Files, S: Sink>(alloc: Global, words: &Words, files: &mut F, out: 
     ensures statuses { IsTrue (is_status result.status) }
 
     // The words are no command exactly where the status is 2, unless the output fails or memory runs out.
-    ensures usage { result.status ≡ 2 → row_of words.now ≡ None }
-    ensures no_command { row_of words.now ≡ None → IsTrue (is_usage_status result.status) }
+    ensures usage { result.status ≡ 2 → command_of words.now ≡ None }
+    ensures no_command { command_of words.now ≡ None → IsTrue (is_usage_status result.status) }
 
     // Each refusal has its line.
     ensures usage_line { result.status ≡ 2 → Appends (S.taken out.old) (S.taken out.new) usage_fault }
@@ -49,16 +48,16 @@ pub fn run<F: Files, S: Sink>(alloc: Global, words: &Words, files: &mut F, out: 
 
     // Where the files are told: the status and the whole text that they ask for.
     ensures done { result.status < 7
-        → IfAsked (F.told files.old) (row_of words.now) (λ told row. EndsAsAsked told row result.status (S.taken out.old) (S.taken out.new)) }
+        → IfAsked (F.told files.old) (command_of words.now) (λ told command. EndsAsAsked told command result.status (S.taken out.old) (S.taken out.new)) }
 
     // Where the files ask for an answer and nothing fails: its status and the whole of its text, or want of memory. Where the
     // design has several loops, it may be the text of another of them.
-    ensures complete { IfAsked (F.told files.old) (row_of words.now) (λ told row.
-        Completes told row result.status (S.taken out.old) (S.taken out.new)
+    ensures complete { IfAsked (F.told files.old) (command_of words.now) (λ told command.
+        Completes told command result.status (S.taken out.old) (S.taken out.new)
         (Rose (F.fault_count files.old) (F.fault_count files.new)) (Rose (S.fault_count out.old) (S.fault_count out.new))) }
 
     // The files that are asked for are those of the words, in their order.
-    ensures asked { AppendsFront (F.asked files.old) (F.asked files.new) (names_of (row_of words.now)) }
+    ensures asked { AppendsFront (F.asked files.old) (F.asked files.new) (names_of (command_of words.now)) }
 
     // A fault of the files, before anything was written.
     ensures read { result.status ≡ 7 → Rose (F.fault_count files.old) (F.fault_count files.new) }
@@ -67,44 +66,20 @@ pub fn run<F: Files, S: Sink>(alloc: Global, words: &Words, files: &mut F, out: 
     // A fault of the output, or want of memory: a front of the text.
     ensures write { result.status ≡ 8 → Rose (S.fault_count out.old) (S.fault_count out.new) }
     ensures front { 7 < result.status
-        → IfAsked (F.told files.old) (row_of words.now) (λ told row. TakesSome told row (S.taken out.old) (S.taken out.new)) }
-    ensures usage_front { row_of words.now ≡ None → AppendsFront (S.taken out.old) (S.taken out.new) usage_fault }
-{
-    act(alloc, words, files, out)
-}
-
-/// Judges the command, and writes the text that goes with it.
-fn act<F: Files, S: Sink>(alloc: Global, words: &Words, files: &mut F, out: &mut S) -> Ended
-    ensures statuses { IsTrue (is_status result.status) }
-    ensures usage { result.status ≡ 2 → row_of words.now ≡ None }
-    ensures no_command { row_of words.now ≡ None → IsTrue (is_usage_status result.status) }
-    ensures usage_line { result.status ≡ 2 → Appends (S.taken out.old) (S.taken out.new) usage_fault }
-    ensures design_line { result.status ≡ 3 → TakesDesignLine (S.taken out.old) (S.taken out.new) }
-    ensures stimulus_line { result.status ≡ 4 → TakesStimulusLine (S.taken out.old) (S.taken out.new) }
-    ensures done { result.status < 7
-        → IfAsked (F.told files.old) (row_of words.now) (λ told row. EndsAsAsked told row result.status (S.taken out.old) (S.taken out.new)) }
-    ensures complete { IfAsked (F.told files.old) (row_of words.now) (λ told row.
-        Completes told row result.status (S.taken out.old) (S.taken out.new)
-        (Rose (F.fault_count files.old) (F.fault_count files.new)) (Rose (S.fault_count out.old) (S.fault_count out.new))) }
-    ensures asked { AppendsFront (F.asked files.old) (F.asked files.new) (names_of (row_of words.now)) }
-    ensures read { result.status ≡ 7 → Rose (F.fault_count files.old) (F.fault_count files.new) }
-    ensures nothing { result.status ≡ 7 → S.taken out.new ≡ S.taken out.old }
-    ensures write { result.status ≡ 8 → Rose (S.fault_count out.old) (S.fault_count out.new) }
-    ensures front { 7 < result.status
-        → IfAsked (F.told files.old) (row_of words.now) (λ told row. TakesSome told row (S.taken out.old) (S.taken out.new)) }
-    ensures usage_front { row_of words.now ≡ None → AppendsFront (S.taken out.old) (S.taken out.new) usage_fault }
+        → IfAsked (F.told files.old) (command_of words.now) (λ told command. TakesSome told command (S.taken out.old) (S.taken out.new)) }
+    ensures usage_front { command_of words.now ≡ None → AppendsFront (S.taken out.old) (S.taken out.new) usage_fault }
 {
     match judge(alloc, words, files) {
         Ok(judged) => end(alloc, judged, out),
-        Err(stop) => Ended {
-            status: stop.status(),
+        Err(halt) => Ended {
+            status: halt.status(),
         },
     }
 }
 
 /// Writes the text that goes with what was judged.
 fn end<S: Sink>(alloc: Global, judged: Judged, out: &mut S) -> Ended
-    requires { HasRows judged }
+    requires { HasText judged }
     ensures statuses { IsTrue (is_status result.status) }
     ensures status { result.status < 7 → result.status ≡ judged_status judged }
     ensures done { result.status < 7 → TakesText judged (S.taken out.old) (S.taken out.new) }
@@ -115,42 +90,8 @@ fn end<S: Sink>(alloc: Global, judged: Judged, out: &mut S) -> Ended
     let status = judged.status();
     match write(alloc, judged, out) {
         Ok(()) => Ended { status },
-        Err(stop) => Ended {
-            status: stop.status(),
+        Err(halt) => Ended {
+            status: halt.status(),
         },
     }
-}
-
-/// Writes the text that goes with what was judged.
-fn write<S: Sink>(alloc: Global, judged: Judged, out: &mut S) -> Result<(), Stop>
-    requires { HasRows judged }
-    ensures ok { OnOk result (TakesText judged (S.taken out.old) (S.taken out.new)) }
-    ensures front { OnErr result (TakesTextFront judged (S.taken out.old) (S.taken out.new)) }
-    ensures write { IsErrOf result Stop.WriteFault → Rose (S.fault_count out.old) (S.fault_count out.new) }
-    ensures no_read { IsErrOf result Stop.ReadFault → ⊥ }
-{
-    match judged {
-        Judged::NoCommand => write_line(b"usage fault\n", out),
-        Judged::NoDesign(fault) => write_line(&design_line(alloc, &fault)?, out),
-        Judged::NoStimulus(fault) => write_line(&stimulus_line(alloc, fault)?, out),
-        Judged::Trail(accepted, mode, stim) => {
-            write_trail(alloc, &accepted.design, &accepted.order, mode, stim, out)?;
-            Ok(())
-        }
-        Judged::Verilog(accepted, mode, ports) => {
-            write_verilog(alloc, &accepted.design, &accepted.order, mode, &ports, out)?;
-            Ok(())
-        }
-    }
-}
-
-/// Writes a line.
-fn write_line<S: Sink>(line: &[u8], out: &mut S) -> Result<(), Stop>
-    ensures ok { OnOk result (Appends (S.taken out.old) (S.taken out.new) line.now) }
-    ensures front { OnErr result (AppendsFront (S.taken out.old) (S.taken out.new) line.now) }
-    ensures write { IsErrOf result Stop.WriteFault → Rose (S.fault_count out.old) (S.fault_count out.new) }
-    ensures no_read { IsErrOf result Stop.ReadFault → ⊥ }
-{
-    out.put(line)?;
-    Ok(())
 }

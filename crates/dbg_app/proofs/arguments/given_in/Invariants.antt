@@ -1,7 +1,7 @@
 use Rattle.std.proofs.Common.{◌≡◌, ◌++◌, drop}
 use Rattle.std.specs.List.{filter_map}
 use Rattle.dbg_app.specs.Command.{argument_of}
-use Rattle.dbg_app.specs.Rows.{given_in}
+use Rattle.dbg_app.specs.Asked.{given_in}
 use Rattle.dbg_app.proofs.arguments.given_in.Given as goal
 
 -- what was added and what is left are all

@@ -1,0 +1,45 @@
+use Rattle.std.proofs.Common.{refl, [], ◌∷◌, sym, ap}
+use Rattle.io_edge.proofs.Growth.{front_after, front_of_front}
+use Rattle.dbg_app.specs.Command.{stimulus_names}
+use Rattle.dbg_app.specs.Asked.{task_as, stimulus_as, command_as}
+use Rattle.dbg_app.proofs.Judging.{over_runs, alone_runs, alone_held, over_held, over_refused}
+use Rattle.dbg_app.proofs.judge.judge_command.Goals as goal
+
+pub returns-in_err-accepted-clause-front : goal.returns-in_err-accepted-clause-front
+returns-in_err-accepted-clause-front g c =
+    front_of_front _ _ (c.args.command.now.source.now ∷ []) (stimulus_names (stimulus_as c.args.command.now.task)) _ refl c.judge_source.ensures.front
+
+pub returns-in-Alone-clause-judged : goal.returns-in-Alone-clause-judged
+returns-in-Alone-clause-judged g c =
+    alone_held (g.F.Files.told c.args.files.now) (command_as c.args.command.now) c.in-Alone.task c.args.command.now.mode c.in-Ok.accepted (sym (ap task_as c.in-Alone.is)) refl (ap stimulus_as c.in-Alone.is)
+    (rw c.in-Ok.is at c.in_ok-accepted.ensures.fit) (rw c.in-Ok.is at c.in_ok-accepted.ensures.judged)
+
+pub returns-in-Alone-clause-text : goal.returns-in-Alone-clause-text
+returns-in-Alone-clause-text g c = alone_runs c.in-Alone.task c.args.command.now.mode c.in-Ok.accepted (rw c.in-Ok.is at c.in_ok-accepted.ensures.fit)
+
+pub returns-in_err-stim-in-Over-clause-front : goal.returns-in_err-stim-in-Over-clause-front
+returns-in_err-stim-in-Over-clause-front g c =
+    front_after _ _ _ (c.args.command.now.source.now ∷ []) (c.in-Over.stimulus.now ∷ []) [] _ (ap (λ t. c.args.command.now.source.now ∷ stimulus_names (stimulus_as t)) c.in-Over.is) c.in_ok-accepted.ensures.asked c.judge_stimulus.ensures.front
+
+pub returns-in-Ok-2-clause-judged : goal.returns-in-Ok-2-clause-judged
+returns-in-Ok-2-clause-judged g c =
+    over_held (g.F.Files.told c.args.files.now) (command_as c.args.command.now) c.in-Over.stimulus.now c.in-Over.task c.args.command.now.mode c.in-Ok.accepted c.in-Ok-2.stim (sym (ap task_as c.in-Over.is)) refl (ap stimulus_as c.in-Over.is)
+    (rw c.in-Ok.is at c.in_ok-accepted.ensures.fit) (rw c.in-Ok.is at c.in_ok-accepted.ensures.judged) (rw (c.judge_source.ensures.same, c.in-Ok-2.is) at c.in_ok-stim-in-Over.ensures.judged)
+
+pub returns-in-Ok-2-clause-text : goal.returns-in-Ok-2-clause-text
+returns-in-Ok-2-clause-text g c =
+    let whole = rw c.in-Ok-2.is at c.in_ok-stim-in-Over.ensures.whole in
+    (whole.0, over_runs c.in-Over.task c.args.command.now.mode c.in-Ok.accepted c.in-Ok-2.stim (rw c.in-Ok.is at c.in_ok-accepted.ensures.fit) whole)
+
+pub returns-in-Ok-2-clause-front : goal.returns-in-Ok-2-clause-front
+returns-in-Ok-2-clause-front g c =
+    front_after _ _ _ (c.args.command.now.source.now ∷ []) (c.in-Over.stimulus.now ∷ []) [] _ (ap (λ t. c.args.command.now.source.now ∷ stimulus_names (stimulus_as t)) c.in-Over.is) c.in_ok-accepted.ensures.asked c.judge_stimulus.ensures.front
+
+pub returns-in-Err-2-clause-judged : goal.returns-in-Err-2-clause-judged
+returns-in-Err-2-clause-judged g c =
+    over_refused (g.F.Files.told c.args.files.now) (command_as c.args.command.now) c.in-Over.stimulus.now c.in-Ok.accepted c.in-Err-2.fault (ap stimulus_as c.in-Over.is)
+    (rw c.in-Ok.is at c.in_ok-accepted.ensures.fit) (rw c.in-Ok.is at c.in_ok-accepted.ensures.judged) (rw (c.judge_source.ensures.same, c.in-Err-2.is) at c.in_ok-stim-in-Over.ensures.judged)
+
+pub returns-in-Err-2-clause-front : goal.returns-in-Err-2-clause-front
+returns-in-Err-2-clause-front g c =
+    front_after _ _ _ (c.args.command.now.source.now ∷ []) (c.in-Over.stimulus.now ∷ []) [] _ (ap (λ t. c.args.command.now.source.now ∷ stimulus_names (stimulus_as t)) c.in-Over.is) c.in_ok-accepted.ensures.asked c.judge_stimulus.ensures.front

@@ -1,0 +1,144 @@
+//! The commands, by their words.
+
+ghost use Rattle.std.specs.Prelude.{◌≡◌, ◌<◌, ◌≤◌, length, drop};
+ghost use Rattle.std.specs.Option.{option_map};
+ghost use Rattle.std.specs.List.{list_all};
+ghost use Rattle.dbg_app.specs.Command.{command_of, command_with as the_command_with, has_stimulus as the_has_stimulus, is_argument, mode_of, of_design as the_of_design, over_rows as the_over_rows};
+ghost use Rattle.dbg_app.specs.Asked.{alone_as, command_as, over_as, stimulus_as, task_as};
+
+use crate::arguments::argument_of;
+use gen_token::is_name;
+use io_edge::Words;
+use world_core::Mode;
+
+/// What is asked of a design alone.
+#[derive(Clone, Copy)]
+pub(crate) enum OfDesign {
+    /// Its Verilog.
+    Verilog,
+}
+
+/// What is asked of a design over the rows of a stimulus.
+#[derive(Clone, Copy)]
+pub(crate) enum OverRows {
+    /// The trail of its run.
+    Trail,
+}
+
+/// What is asked, and the file of the stimulus where one is named.
+#[derive(Clone, Copy)]
+pub(crate) enum Task<'a> {
+    Alone(OfDesign),
+    Over(OverRows, &'a str),
+}
+
+/// What a command asks: in which mode, of which source file and top module; and its words, of which those from the place `first`
+/// on are the arguments of the top.
+#[derive(Clone, Copy)]
+pub(crate) struct Command<'a> {
+    pub(crate) task: Task<'a>,
+    pub(crate) mode: Mode,
+    pub(crate) source: &'a str,
+    pub(crate) top: &'a str,
+    pub(crate) words: &'a Words,
+    pub(crate) first: usize,
+}
+
+/// Whether all words from this place on are arguments of the top.
+fn are_arguments(words: &Words, first: usize) -> bool
+    ensures { result ≡ list_all is_argument (drop first words.now) }
+{
+    for i in first..words.count() {
+        if argument_of(words.word(i)).is_none() {
+            return false;
+        }
+    }
+    true
+}
+
+/// Whether the name of the stimulus, where there is one, may stand in a command.
+fn has_stimulus(task: Task<'_>) -> bool
+    ensures { result ≡ the_has_stimulus (stimulus_as task.entry) }
+{
+    match task {
+        Task::Alone(_) => true,
+        Task::Over(_, stimulus) => !stimulus.is_empty(),
+    }
+}
+
+/// The command of these words, if its files, its top module and the arguments of it may stand in one.
+fn command_with<'a>(
+    task: Task<'a>,
+    mode: Mode,
+    source: &'a str,
+    top: &'a str,
+    words: &'a Words,
+    first: usize,
+) -> Option<Command<'a>>
+    requires { first ≤ length words.now }
+    ensures { option_map command_as result ≡ the_command_with (task_as task.entry) source.now (stimulus_as task.entry) top.now (drop first words.now) mode }
+{
+    if source.is_empty() || !has_stimulus(task) || !is_name(top.as_bytes()) {
+        return None;
+    }
+    if words.count() - first > 64 || !are_arguments(words, first) {
+        return None;
+    }
+    Some(Command {
+        task,
+        mode,
+        source,
+        top,
+        words,
+        first,
+    })
+}
+
+/// Which names are kept, by its word.
+fn mode_of(word: &str) -> Option<Mode>
+    ensures { result ≡ mode_of word.now }
+{
+    match word {
+        "opt" => Some(Mode::Opt),
+        "keep" => Some(Mode::Keep),
+        _ => None,
+    }
+}
+
+/// The command `.. MODE SRC STIM TOP [NAME=N]..` that the words are, whatever the first is.
+fn over_rows<'a>(task: OverRows, words: &'a Words) -> Option<Command<'a>>
+    ensures { option_map command_as result ≡ the_over_rows (over_as task) words.now }
+{
+    if words.count() < 5 {
+        return None;
+    }
+    let mode = mode_of(words.word(1))?;
+    let task = Task::Over(task, words.word(3));
+    command_with(task, mode, words.word(2), words.word(4), words, 5)
+}
+
+/// The command `.. MODE SRC TOP [NAME=N]..` that the words are, whatever the first is.
+fn of_design<'a>(task: OfDesign, words: &'a Words) -> Option<Command<'a>>
+    ensures { option_map command_as result ≡ the_of_design (alone_as task) words.now }
+{
+    if words.count() < 4 {
+        return None;
+    }
+    let mode = mode_of(words.word(1))?;
+    let task = Task::Alone(task);
+    command_with(task, mode, words.word(2), words.word(3), words, 4)
+}
+
+/// The command that the words are, if they are one.
+pub(crate) fn read_command<'a>(words: &'a Words) -> Option<Command<'a>>
+    ensures { option_map command_as result ≡ command_of words.now }
+{
+    if words.count() == 0 {
+        return None;
+    }
+    match words.word(0) {
+        "trail" => over_rows(OverRows::Trail, words),
+        "compile" => of_design(OfDesign::Verilog, words),
+        _ => None,
+    }
+}

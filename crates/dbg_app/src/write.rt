@@ -1,0 +1,96 @@
+//! Writes the text that goes with what was judged.
+
+ghost use Rattle.std.specs.Prelude.{◌≡◌, OnOk, OnErr, IsErrOf};
+ghost use Rattle.io_edge.specs.Faults.{Rose};
+ghost use Rattle.io_edge.specs.Taken.{Appends, AppendsFront};
+ghost use Rattle.design_judge.specs.Accepting.{IsKept, accepting_of};
+ghost use Rattle.dbg_app.specs.Judged.{HasText, TakesText, TakesTextFront, TakesWork, TakesWorkFront, alone, over};
+
+use crate::Halt;
+use crate::command::{OfDesign, OverRows};
+use crate::judge::Judged;
+use design_judge::{Accepted, design_line, stimulus_line};
+use io_edge::Sink;
+use std::alloc::Global;
+use stim_text::Stim;
+use trail_net::write_trail;
+use verilog_net::write_verilog;
+use world_core::Mode;
+
+/// Writes what is asked of a design alone.
+fn write_alone<S: Sink>(
+    alloc: Global,
+    task: OfDesign,
+    mode: Mode,
+    accepted: &Accepted,
+    out: &mut S,
+) -> Result<(), Halt>
+    requires { IsKept (accepting_of accepted.now) }
+    ensures ok { OnOk result (TakesWork (alone task mode accepted.now) (S.taken out.old) (S.taken out.new)) }
+    ensures front { OnErr result (TakesWorkFront (alone task mode accepted.now) (S.taken out.old) (S.taken out.new)) }
+    ensures write { IsErrOf result Halt.WriteFault → Rose (S.fault_count out.old) (S.fault_count out.new) }
+    ensures no_read { IsErrOf result Halt.ReadFault → ⊥ }
+{
+    let Accepted {
+        design,
+        order,
+        ports,
+    } = accepted;
+    match task {
+        OfDesign::Verilog => write_verilog(alloc, design, order, mode, ports, out)?,
+    }
+    Ok(())
+}
+
+/// Writes what is asked of a design over the rows of a stimulus for its ports.
+fn write_over<S: Sink>(
+    alloc: Global,
+    task: OverRows,
+    mode: Mode,
+    accepted: &Accepted,
+    stim: Stim,
+    out: &mut S,
+) -> Result<(), Halt>
+    requires kept { IsKept (accepting_of accepted.now) }
+    requires ports { stim.ports ≡ accepted.now.ports }
+    ensures ok { OnOk result (TakesWork (over task mode accepted.now stim) (S.taken out.old) (S.taken out.new)) }
+    ensures front { OnErr result (TakesWorkFront (over task mode accepted.now stim) (S.taken out.old) (S.taken out.new)) }
+    ensures write { IsErrOf result Halt.WriteFault → Rose (S.fault_count out.old) (S.fault_count out.new) }
+    ensures no_read { IsErrOf result Halt.ReadFault → ⊥ }
+{
+    let Accepted { design, order, .. } = accepted;
+    match task {
+        OverRows::Trail => write_trail(alloc, design, order, mode, stim, out)?,
+    }
+    Ok(())
+}
+
+/// Writes a line.
+fn write_line<S: Sink>(line: &[u8], out: &mut S) -> Result<(), Halt>
+    ensures ok { OnOk result (Appends (S.taken out.old) (S.taken out.new) line.now) }
+    ensures front { OnErr result (AppendsFront (S.taken out.old) (S.taken out.new) line.now) }
+    ensures write { IsErrOf result Halt.WriteFault → Rose (S.fault_count out.old) (S.fault_count out.new) }
+    ensures no_read { IsErrOf result Halt.ReadFault → ⊥ }
+{
+    out.put(line)?;
+    Ok(())
+}
+
+/// Writes the text that goes with what was judged.
+pub(crate) fn write<S: Sink>(alloc: Global, judged: Judged, out: &mut S) -> Result<(), Halt>
+    requires { HasText judged }
+    ensures ok { OnOk result (TakesText judged (S.taken out.old) (S.taken out.new)) }
+    ensures front { OnErr result (TakesTextFront judged (S.taken out.old) (S.taken out.new)) }
+    ensures write { IsErrOf result Halt.WriteFault → Rose (S.fault_count out.old) (S.fault_count out.new) }
+    ensures no_read { IsErrOf result Halt.ReadFault → ⊥ }
+{
+    match judged {
+        Judged::NoCommand => write_line(b"usage fault\n", out),
+        Judged::NoDesign(fault) => write_line(&design_line(alloc, &fault)?, out),
+        Judged::NoStimulus(fault) => write_line(&stimulus_line(alloc, fault)?, out),
+        Judged::Alone(task, mode, accepted) => write_alone(alloc, task, mode, &accepted, out),
+        Judged::Over(task, mode, accepted, stim) => {
+            write_over(alloc, task, mode, &accepted, stim, out)
+        }
+    }
+}

@@ -1,0 +1,6 @@
+pub mod Loops
+pub mod Refusals
+pub mod Judgement
+pub mod Accepting
+pub mod Judging
+pub mod Laws

@@ -1,0 +1,128 @@
+//! Reads the files of a design, and judges them.
+
+ghost use Rattle.std.specs.Prelude.{◌≡◌, ◌<◌, ◌≤◌, [], ◌∷◌, IfOk, IfSome, OnOk, IsErrOf};
+ghost use Rattle.io_edge.specs.Faults.{Rose};
+ghost use Rattle.io_edge.specs.Taken.{Appends, AppendsFront};
+ghost use Rattle.design_judge.specs.declared.files.ReadEnd.TheVariants.{NoMemory};
+ghost use Rattle.design_judge.specs.Judging.{Finds, IsFit, IsWhole, JudgesRows, JudgesSource, JudgesStimulus};
+
+use crate::source::judge_text;
+use crate::{Accepted, DesignFault};
+use design_core::Ports;
+use gen_elab::Given;
+use gen_text::TextFault;
+use io_edge::{FileEnd, Files};
+use std::alloc::Global;
+use stim_text::{Stim, StimFault, read_stim};
+
+/// Why a file was not judged.
+#[derive(Clone, Copy, PartialEq, Eq)]
+pub enum ReadEnd {
+    /// It was not read; the files' count of faults rose.
+    Failed,
+    /// Memory ran out.
+    NoMemory,
+}
+
+impl From<text_core::NoMemory> for ReadEnd {
+    ghost from_gives = { λ _ e. e ≡ NoMemory };
+
+    fn from(_: text_core::NoMemory) -> Self {
+        ReadEnd::NoMemory
+    }
+}
+
+/// A source has at most 1 MiB.
+const MOST_SOURCE: usize = 1024 * 1024;
+
+/// A stimulus has at most 64 MiB.
+const MOST_STIMULUS: usize = 64 * 1024 * 1024;
+
+/// The bytes of a file, or None where there are more than most.
+fn read<F: Files>(
+    alloc: Global,
+    files: &mut F,
+    name: &str,
+    most: usize,
+) -> Result<Option<Vec<u8>>, ReadEnd>
+    ensures found { IfOk result (λ found. IfSome (F.told files.old) (λ told. Finds (told name.now) most found)) }
+    ensures same { F.told files.new ≡ F.told files.old }
+    ensures asked { OnOk result (Appends (F.asked files.old) (F.asked files.new) (name.now ∷ [])) }
+    ensures front { AppendsFront (F.asked files.old) (F.asked files.new) (name.now ∷ []) }
+    ensures failed { IsErrOf result ReadEnd.Failed → Rose (F.fault_count files.old) (F.fault_count files.new) }
+    ensures later { F.fault_count files.old ≤ F.fault_count files.new }
+{
+    match files.read_all(alloc, name, most) {
+        Ok(bytes) => Ok(Some(bytes)),
+        Err(FileEnd::TooLong) => Ok(None),
+        Err(FileEnd::Failed) => Err(ReadEnd::Failed),
+        Err(FileEnd::NoMemory) => Err(ReadEnd::NoMemory),
+    }
+}
+
+/// Reads the source of this name, and judges it from its top, a module's name, with the parameters that are given to it: the
+/// design that is accepted, or why it is refused. A file of more than 1 MiB is refused as too long. The name is asked for once,
+/// unless memory runs out before.
+///
+/// Errors: `Failed`, where the file was not read; and `NoMemory`.
+pub fn judge_design<F: Files>(
+    alloc: Global,
+    files: &mut F,
+    name: &str,
+    top: &[u8],
+    given: &Given,
+) -> Result<Result<Accepted, DesignFault>, ReadEnd>
+    ensures judged { IfOk result (λ found. IfSome (F.told files.old) (λ told. JudgesSource (told name.now) (record { name = top.now; given = given.now }) found)) }
+    ensures fit { IfOk result IsFit }
+    ensures same { F.told files.new ≡ F.told files.old }
+    ensures asked { OnOk result (Appends (F.asked files.old) (F.asked files.new) (name.now ∷ [])) }
+    ensures front { AppendsFront (F.asked files.old) (F.asked files.new) (name.now ∷ []) }
+    ensures failed { IsErrOf result ReadEnd.Failed → Rose (F.fault_count files.old) (F.fault_count files.new) }
+    ensures later { F.fault_count files.old ≤ F.fault_count files.new }
+{
+    match read(alloc, files, name, MOST_SOURCE)? {
+        Some(source) => Ok(judge_text(alloc, &source, top, given)?),
+        None => Ok(Err(DesignFault::Text(TextFault::TooLong))),
+    }
+}
+
+/// The stimulus that a text is for these ports, or why it is refused.
+#[tactic(auto, using(crate::proofs::Stimuli::refused_for))]
+fn stimulus_of(
+    alloc: Global,
+    text: &[u8],
+    ports: &Ports,
+) -> Result<Result<Stim, StimFault>, text_core::NoMemory>
+    ensures rows { IfOk result (JudgesRows text.now ports.now) }
+    ensures whole { IfOk result (IsWhole ports.now) }
+{
+    match read_stim(alloc, text, ports) {
+        Ok(stim) => Ok(Ok(stim)),
+        Err(StimFault::NoMemory) => Err(text_core::NoMemory),
+        Err(fault) => Ok(Err(fault)),
+    }
+}
+
+/// Reads the stimulus of this name, and judges it for these ports: the rows that it has, or why it is refused. A file of more
+/// than 64 MiB is refused as too long. The name is asked for once, unless memory runs out before.
+///
+/// Errors: `Failed`, where the file was not read; and `NoMemory`.
+pub fn judge_stimulus<F: Files>(
+    alloc: Global,
+    files: &mut F,
+    name: &str,
+    ports: &Ports,
+) -> Result<Result<Stim, StimFault>, ReadEnd>
+    ensures judged { IfOk result (λ found. IfSome (F.told files.old) (λ told. JudgesStimulus (told name.now) ports.now found)) }
+    ensures whole { IfOk result (IsWhole ports.now) }
+    ensures same { F.told files.new ≡ F.told files.old }
+    ensures asked { OnOk result (Appends (F.asked files.old) (F.asked files.new) (name.now ∷ [])) }
+    ensures front { AppendsFront (F.asked files.old) (F.asked files.new) (name.now ∷ []) }
+    ensures failed { IsErrOf result ReadEnd.Failed → Rose (F.fault_count files.old) (F.fault_count files.new) }
+    ensures later { F.fault_count files.old ≤ F.fault_count files.new }
+{
+    match read(alloc, files, name, MOST_STIMULUS)? {
+        Some(text) => Ok(stimulus_of(alloc, &text, ports)?),
+        None => Ok(Err(StimFault::TooLong)),
+    }
+}
