@@ -1,0 +1,31 @@
+//! Laws of the machine, over the definitions alone.
+
+ghost use Rattle.machine_core.specs.Laws.{AnswersAlike, RefusedChangeNothing, MovesByTurnsAlone, BatchesEnd};
+ghost use Rattle.machine_core.specs.Sample.{table_f_is_debugged};
+
+/// The law that over worlds that differ in nothing that can be seen every journal has one output, and every batch. Computes
+/// nothing.
+pub fn same_worlds_answer_alike()
+    ensures { AnswersAlike }
+{}
+
+/// The law that a refused request leaves the whole state as it was, but for the count of requests. Computes nothing.
+pub fn refused_requests_change_nothing()
+    ensures { RefusedChangeNothing }
+{}
+
+/// The law that a session moves by turns alone, and by no request. Computes nothing.
+pub fn moves_by_turns_alone()
+    ensures { MovesByTurnsAlone }
+{}
+
+/// The law that a batch comes to an end: a session that runs is idle after at most one turn more than there are positions.
+/// Computes nothing.
+pub fn batches_end()
+    ensures { BatchesEnd }
+{}
+
+/// A session over a small world, from the definitions, as it was worked by hand. Computes nothing.
+pub fn table_f_is_debugged()
+    ensures { table_f_is_debugged }
+{}

@@ -1,0 +1,22 @@
+//! The machine that a debugger is: what it is asked and what it answers, and the definitions of what each answer is.
+//!
+//! The machine walks the positions of a world. It is defined in `specs/`: `Positions` has the positions and those that lie ahead,
+//! `Matching` what a position matches, `Arming` when a breakpoint is armed, `Machine` its state, its turns and its answers, and
+//! `Journal` what a list of requests and turns puts out. It knows nothing of where a world comes from, and nothing of the texts of
+//! requests and replies.
+#![tactic(auto)]
+
+mod laws;
+mod reply;
+mod request;
+mod turn;
+mod utf8;
+
+pub use laws::{
+    batches_end, moves_by_turns_alone, refused_requests_change_nothing, same_worlds_answer_alike,
+    table_f_is_debugged,
+};
+pub use reply::{At, Body, Going, Reply, Shown};
+pub use request::{Asked, BadText, Cmd, Request};
+pub use turn::{Motion, Notice, Turned};
+pub use utf8::Utf8;
