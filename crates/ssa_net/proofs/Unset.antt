@@ -7,11 +7,13 @@ use Rattle.exec_core.proofs.Slots.{row_slots, body_rows_have}
 use Rattle.list_core.specs.Lists.{IsIn}
 use Rattle.list_core.proofs.Lists.{each_member}
 use Rattle.design_core.specs.Design.{Design}
+use Rattle.design_core.specs.WellFormed.{IsDesign}
+use Rattle.check_core.specs.Verdict.{verdict}
 use Rattle.check_exec.specs.Premises.{IsSound}
-use Rattle.world_core.specs.Sites.{Site, site_body, sites_of, sites_at, is_unset, Spot, all_spots}
-use Rattle.world_core.specs.Kept.{block_row, whole_in, name_tree}
+use Rattle.world_core.specs.Sites.{Site, site_body, sites_of, is_unset, Spot, all_spots}
+use Rattle.world_core.specs.Kept.{block_row, whole_in}
 use Rattle.world_core.specs.Source.{unset_among, unset_at, tree_among, tree_before}
-use Rattle.world_laws.proofs.SitesOf.{SiteIs, sites_are, IsOrdered, ordered, spot_is}
+use Rattle.world_laws.proofs.SitesOf.{SiteIs, sites_are, ordered, spot_is}
 use Rattle.row_net.proofs.Aligned.{body_has}
 use Rattle.row_net.proofs.Exact.{unset_exactly}
 use Rattle.ssa_net.specs.Unset.{UnsetByPaths}
@@ -49,3 +51,7 @@ unset_by_paths d n sound spot among x =
       λ none. paths ∙ exactly.0 (mapped.0 (sym tree ∙ none)),
       λ unset. tree ∙ mapped.1 (exactly.1 (sym paths ∙ unset)),
     )
+
+-- so it is of a design that is accepted
+pub unset_in : (d : Design) (n : ℕ) → IsDesign d → verdict d ≡ None → UnsetByPaths d n
+unset_in d n kept accepted = unset_by_paths d n (record { kept = kept; accepted = accepted })

@@ -6,7 +6,7 @@ use Rattle.lower_core.specs.Rows.{AreTold}
 use Rattle.ssa_nodes.specs.Parts.{design_in}
 use Rattle.ssa_nodes.specs.Driving.{AllHave}
 use Rattle.ssa_net.proofs.Ended.{lowered_by, lowered_of}
-use Rattle.ssa_net.proofs.Unset.{unset_by_paths}
+use Rattle.ssa_net.proofs.Unset.{unset_in}
 use Rattle.ssa_net.proofs.lowering.lower.Goals as goal
 
 pub returns-clause-lowered : goal.returns-clause-lowered
@@ -25,6 +25,20 @@ returns-clause-lowered c =
     ends.outputs
     ends.nexts)
 
+pub returns-in_err-parts-clause-unset : goal.returns-in_err-parts-clause-unset
+returns-in_err-parts-clause-unset c = unset_in (design_of c.args.design.now) (length c.args.order.now) c.args.design.now.kept c.requires.accepted
+
+pub returns-in_err-builder-clause-unset : goal.returns-in_err-builder-clause-unset
+returns-in_err-builder-clause-unset c = unset_in (design_of c.args.design.now) (length c.args.order.now) c.args.design.now.kept c.requires.accepted
+
+pub returns-in_err-nodes-clause-unset : goal.returns-in_err-nodes-clause-unset
+returns-in_err-nodes-clause-unset c = unset_in (design_of c.args.design.now) (length c.args.order.now) c.args.design.now.kept c.requires.accepted
+
+pub returns-in_err-ends-clause-unset : goal.returns-in_err-ends-clause-unset
+returns-in_err-ends-clause-unset c = unset_in (design_of c.args.design.now) (length c.args.order.now) c.args.design.now.kept c.requires.accepted
+
+pub returns-in_err-shape-clause-unset : goal.returns-in_err-shape-clause-unset
+returns-in_err-shape-clause-unset c = unset_in (design_of c.args.design.now) (length c.args.order.now) c.args.design.now.kept c.requires.accepted
+
 pub returns-clause-unset : goal.returns-clause-unset
-returns-clause-unset c =
-    unset_by_paths (design_of c.args.design.now) (length c.args.order.now) (record { kept = c.args.design.now.kept; accepted = c.requires.accepted })
+returns-clause-unset c = unset_in (design_of c.args.design.now) (length c.args.order.now) c.args.design.now.kept c.requires.accepted
