@@ -36,21 +36,21 @@ idle_for_good : (w : World) (n : ℕ) (m : Machine) → m.motion ≡ Idle → (t
 idle_for_good w zero m e = e
 idle_for_good w (suc n) m e = ap (λ (a : Machine). (turns_from w n a).after.motion) (idle_stays w m e) ∙ idle_for_good w n m e
 
-edge_is_idle : (w : World) (way : Way) (m : Machine) → (edge_turn w way m).after.motion ≡ Idle
+pub edge_is_idle : (w : World) (way : Way) (m : Machine) → (edge_turn w way m).after.motion ≡ Idle
 edge_is_idle w Forward m = refl
 edge_is_idle w Backward m = refl
 
 -- a turn leaves an idle machine, or one that runs on with so many positions less ahead
-data Leaves (w : World) (way : Way) (want : Want) (left : ℕ) (m : Machine) : Type 0 where
+pub data Leaves (w : World) (way : Way) (want : Want) (left : ℕ) (m : Machine) : Type 0 where
   rests : m.motion ≡ Idle → Leaves w way want left m
   goes : m.motion ≡ Running way want → m.place ≤ end_place w → length_ahead (position_count w) way m.place + 64 ≤ left → Leaves w way want left m
 
-moved_leaves : (w : World) (way : Way) (want : Want) (m : Machine) → m.motion ≡ Running way want → m.place ≤ end_place w
+pub moved_leaves : (w : World) (way : Way) (want : Want) (m : Machine) → m.motion ≡ Running way want → m.place ≤ end_place w
     → 64 ≤ length_ahead (position_count w) way m.place → Leaves w way want (length_ahead (position_count w) way m.place) (moved_turn way m).after
 moved_leaves w Forward want m e within far = goes e (omega arith) (omega arith)
 moved_leaves w Backward want m e within far = goes e (omega arith) (omega arith)
 
-far_or_near : (n : ℕ) → (nat_lt n 64 ≡ true) ⊎ ((nat_lt n 64 ≡ false) × (64 ≤ n))
+pub far_or_near : (n : ℕ) → (nat_lt n 64 ≡ true) ⊎ ((nat_lt n 64 ≡ false) × (64 ≤ n))
 far_or_near n = elim (test (nat_lt n 64)) [ inl near ↦ inl near | inr far ↦ inr (far, grind (arith, nat_tests, far)) ]
   where
     test : (b : Bool) → (b ≡ true) ⊎ (b ≡ false)
@@ -65,7 +65,7 @@ turn_leaves w way want m None positions e within n = elim (far_or_near (length p
   | inr far ↦ rw far.0 (moved_leaves w way want m e within (rw n at far.1))
 ]
 
-running_turns : (w : World) (m : Machine) (way : Way) (want : Want) → m.motion ≡ Running way want → turn_of w m ≡ running_turn w m way want
+pub running_turns : (w : World) (m : Machine) (way : Way) (want : Want) → m.motion ≡ Running way want → turn_of w m ≡ running_turn w m way want
 unfolding turn_of
 running_turns w m way want e = ap (turn_by w m) e
 
@@ -83,7 +83,7 @@ runs_out w way want (suc n) m e within h =
     rw turn_is (after_turn w way want n _ _ h (λ a. runs_out w way want n a)
     (turn_leaves w way want m _ _ e within (ahead_length (position_count w) way m.place)))
 
-ahead_below : (count : ℕ) (way : Way) (place : ℕ) → length_ahead count way place < count + 1
+pub ahead_below : (count : ℕ) (way : Way) (place : ℕ) → length_ahead count way place < count + 1
 ahead_below count Forward place = omega arith
 ahead_below count Backward place = omega arith
 

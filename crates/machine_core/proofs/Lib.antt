@@ -1,2 +1,3 @@
 pub mod Keeps
 pub mod Ends
+pub mod Nearest

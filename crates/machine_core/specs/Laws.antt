@@ -1,13 +1,16 @@
 -- Laws of the machine.
-use Rattle.std.specs.Prelude.{◌≡◌, ◌+◌, ◌-◌, ◌^◌, ◌≤◌, min, List}
+use Rattle.std.specs.Prelude.{◌≡◌, ℕ, ◌+◌, ◌-◌, ◌^◌, ◌≤◌, min, List, Option, Some, None, find}
 use Rattle.listen.specs.Pairs.{Heard}
 use Rattle.world_core.specs.World.{World, AreSame}
 use Rattle.machine_core.specs.declared.request.Asked.{Asked}
-use Rattle.machine_core.specs.declared.turn.Motion.TheVariants.{Idle}
-use Rattle.machine_core.specs.Positions.{end_place}
+use Rattle.machine_core.specs.declared.turn.Motion.TheVariants.{Idle, Running}
+use Rattle.trace_core.specs.declared.scan.Way.{Way}
+use Rattle.trace_core.specs.declared.scan.Want.{Want}
+use Rattle.machine_core.specs.Positions.{position_count, end_place, ahead}
 use Rattle.machine_core.specs.Reading.{Reader}
-use Rattle.machine_core.specs.Machine.{Machine, Refused, asked_outcome, answer_of, counted}
-use Rattle.machine_core.specs.Journal.{Entry, journal_output, batch_output, until_idle}
+use Rattle.machine_core.specs.Machine.{Machine, Turn, stopped_at, edge_turn, Refused, asked_outcome, answer_of, counted}
+use Rattle.machine_core.specs.Journal.{Entry, journal_output, batch_output, until_idle, notices_of}
+use Rattle.machine_core.specs.Matching.{matches}
 
 -- over worlds that differ in nothing that can be seen every journal and every batch has one output
 pub record AnswersAlike : Type 0 where
@@ -26,3 +29,16 @@ MovesByTurnsAlone = (read : Reader) (w : World) (m : Machine) (asked : Asked) �
 -- a batch waits for each request to its end: after so many turns the machine is idle
 abbrev pub BatchesEnd : Type 0
 BatchesEnd = (w : World) (m : Machine) → m.place ≤ end_place w → (until_idle w m).after.motion ≡ Idle
+
+-- where a session that runs comes to: the nearest position that matches, if there is one; else the end or the start
+abbrev pub comes_to : World → Machine → Way → Option ℕ → Turn
+comes_to w m way (Some p) = stopped_at w m p
+comes_to w m way None = edge_turn w way m
+
+abbrev pub nearest_ahead : World → Machine → Way → Want → Option ℕ
+nearest_ahead w m way want = find (matches w m.breakpoints want) (ahead (position_count w) way m.place)
+
+-- turns until it is idle bring it there, of all positions that lie ahead, and tell that alone
+abbrev pub RunsToTheNearest : Type 0
+RunsToTheNearest = (w : World) (m : Machine) (way : Way) (want : Want) → m.motion ≡ Running way want → m.place ≤ end_place w
+    → until_idle w m ≡ record { after = (comes_to w m way (nearest_ahead w m way want)).after; lines = notices_of w (comes_to w m way (nearest_ahead w m way want)).turned }

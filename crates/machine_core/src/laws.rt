@@ -1,6 +1,6 @@
 //! Laws of the machine, over the definitions alone.
 
-ghost use Rattle.machine_core.specs.Laws.{AnswersAlike, RefusedChangeNothing, MovesByTurnsAlone, BatchesEnd};
+ghost use Rattle.machine_core.specs.Laws.{AnswersAlike, RefusedChangeNothing, MovesByTurnsAlone, BatchesEnd, RunsToTheNearest};
 ghost use Rattle.machine_core.specs.Sample.{table_f_is_debugged};
 
 /// The law that over worlds that differ in nothing that can be seen every journal has one output, and every batch. Computes
@@ -23,6 +23,12 @@ pub fn moves_by_turns_alone()
 /// Computes nothing.
 pub fn batches_end()
     ensures { BatchesEnd }
+{}
+
+/// The law that a session that runs comes to the nearest of all positions ahead that match, or to the end or the start where none
+/// does, however many turns that takes, and that nothing else is told on the way. Computes nothing.
+pub fn runs_to_the_nearest()
+    ensures { RunsToTheNearest }
 {}
 
 /// A session over a small world, from the definitions, as it was worked by hand. Computes nothing.
