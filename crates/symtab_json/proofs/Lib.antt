@@ -1,1 +1,11 @@
 pub mod Members
+pub mod Behind
+pub mod Literals
+pub mod Utf8
+pub mod Kept
+pub mod Counted
+pub mod Found
+pub mod Rules
+pub mod Outside
+pub mod Fits
+pub mod Lengths

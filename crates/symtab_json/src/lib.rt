@@ -2,7 +2,17 @@
 #![tactic(auto)]
 
 mod entries;
+mod fault;
+mod judged;
+mod literal;
+mod numbers;
+mod parts;
 mod quoted;
+mod read;
+mod readings;
+mod told;
 mod written;
 
+pub use fault::{Part, TableFault};
+pub use read::read_table;
 pub use written::write_table;

@@ -76,11 +76,7 @@ pub(crate) fn push_member<T: Written>(
 }
 
 /// Adds the items of a list, with commas between, and the bracket that closes it.
-fn push_items<T: Written>(
-    alloc: Global,
-    text: &mut Vec<u8>,
-    items: &[T],
-) -> Result<(), NoMemory>
+fn push_items<T: Written>(alloc: Global, text: &mut Vec<u8>, items: &[T]) -> Result<(), NoMemory>
     ensures { OnOk result (text.new.items ≡ text.old.items ++ items_text false (items_of (map (λ item. T.tree item) items.now))) }
 {
     let mut later = false;

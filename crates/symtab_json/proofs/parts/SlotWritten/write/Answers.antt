@@ -1,9 +1,9 @@
-use Rattle.std.proofs.Common.{◌≡◌, ◌∷◌, ◌++◌, [], List, ℕ, true, false, codes, ap, ◌∙◌, append_assoc}
-use Rattle.serde_json.specs.Data.{string, Members, member, no_members}
+use Rattle.std.proofs.Common.{◌∷◌, ◌++◌, [], List, ℕ, true, false, codes, ap, ◌∙◌, append_assoc}
+use Rattle.serde_json.specs.Data.{string, member, no_members}
 use Rattle.serde_json.specs.Written.{members_text}
 use Rattle.symtab_json.specs.Files.{count_tree, list_tree, gen_tree, row_tree, slot_members}
 use Rattle.symtab_json.proofs.Members.{member_more}
-use Rattle.symtab_json.proofs.entries.SlotWritten.write.Goals as goal
+use Rattle.symtab_json.proofs.parts.SlotWritten.write.Goals as goal
 
 pub returns : goal.returns
 returns c =

@@ -1,9 +1,9 @@
-use Rattle.std.proofs.Common.{◌≡◌, ◌∷◌, ◌++◌, [], List, ℕ, true, false, codes, ap, ◌∙◌, append_assoc}
-use Rattle.serde_json.specs.Data.{string, Members, member, no_members}
+use Rattle.std.proofs.Common.{◌∷◌, ◌++◌, [], List, ℕ, true, false, codes, ap, ◌∙◌, append_assoc}
+use Rattle.serde_json.specs.Data.{string, member, no_members}
 use Rattle.serde_json.specs.Written.{members_text}
 use Rattle.symtab_json.specs.Files.{count_tree, list_tree, node_tree, variant_tree, instance_tree, slot_tree, table_members}
 use Rattle.symtab_json.proofs.Members.{member_more}
-use Rattle.symtab_json.proofs.entries.TablePartsWritten.write.Goals as goal
+use Rattle.symtab_json.proofs.parts.TablePartsWritten.write.Goals as goal
 
 pub returns : goal.returns
 returns c =
