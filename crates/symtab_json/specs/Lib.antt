@@ -6,3 +6,4 @@ pub mod Places
 pub mod Judged
 pub mod Told
 pub mod Fit
+pub mod Sample

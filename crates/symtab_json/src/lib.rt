@@ -4,6 +4,7 @@
 mod entries;
 mod fault;
 mod judged;
+mod laws;
 mod literal;
 mod numbers;
 mod parts;
@@ -14,5 +15,6 @@ mod told;
 mod written;
 
 pub use fault::{Part, TableFault};
+pub use laws::writes_the_sample;
 pub use read::read_table;
 pub use written::write_table;
