@@ -9,3 +9,9 @@ pub mod Rules
 pub mod Outside
 pub mod Fits
 pub mod Lengths
+pub mod Rounds
+pub mod Shown
+pub mod Backs
+pub mod Trees
+pub mod Again
+pub mod Tables

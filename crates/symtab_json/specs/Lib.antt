@@ -7,3 +7,5 @@ pub mod Judged
 pub mod Told
 pub mod Fit
 pub mod Sample
+pub mod ReadBack
+pub mod Laws

@@ -1,5 +1,5 @@
 -- The table that the bytes of a symbol file tell, or the first reason why they tell none.
-use Rattle.std.specs.Prelude.{ℕ, ◌^◌, ◌==◌, List, length, is_some, nat_lt, codes, Option, Some, None, Result, Ok, Err, if◌then◌else◌}
+use Rattle.std.specs.Prelude.{◌≡◌, ℕ, ◌^◌, ◌==◌, List, length, is_some, nat_lt, codes, Option, Some, None, Result, Ok, Err, if◌then◌else◌}
 use Rattle.std.specs.Str.{is_utf8}
 use Rattle.symtab.specs.declared.parts.NodeName.{NodeName}
 use Rattle.symtab.specs.declared.parts.VariantParts.{VariantParts}
@@ -79,3 +79,7 @@ by_entries (Err f) = Err f
 -- the parts of the table that a text tells, or its fault
 abbrev pub told_table : List ℕ → Result TableParts TableFault
 told_table text = by_entries (told_entries text)
+
+-- the fault that is told, unless it is want of memory
+abbrev pub IsFaultOf : {A : Type 0} → Result A TableFault → TableFault → Type 0
+IsFaultOf told found = (found ≡ fault.NoMemory → ⊥) → told ≡ Err found

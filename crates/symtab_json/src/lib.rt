@@ -15,6 +15,6 @@ mod told;
 mod written;
 
 pub use fault::{Part, TableFault};
-pub use laws::writes_the_sample;
+pub use laws::{files_read_back, literals_are_shown, tables_are_told, writes_the_sample};
 pub use read::read_table;
 pub use written::write_table;

@@ -1,12 +1,11 @@
 //! Reads a symbol file. Its parts are read and judged one after another in the order of their names, and the numbers of
 //! nodes and variants last.
 
-ghost use Rattle.std.specs.Prelude.{◌≡◌, Ok, Err, IfOk, IfErr, Option, option_map, Some};
+ghost use Rattle.std.specs.Prelude.{◌≡◌, Ok, IfOk, IfErr, Option, option_map, Some};
 ghost use Rattle.serde_json.specs.View.{view};
-ghost use Rattle.symtab_json.specs.declared.fault.TableFault.TheVariants as fault;
 ghost use Rattle.symtab_json.specs.Judged.{told_instances, told_nodes, told_slots, told_top, list_len, variants_len, parts_of};
 ghost use Rattle.symtab_json.specs.Fit.{IsFit};
-ghost use Rattle.symtab_json.specs.Told.{by_instances, by_slots, json_of, told_entries, told_table, told_tree};
+ghost use Rattle.symtab_json.specs.Told.{IsFaultOf, by_instances, by_slots, json_of, told_entries, told_table, told_tree};
 
 use crate::entries::{Entries, InstanceEntry, SlotEntry};
 use crate::fault::{Part, TableFault};
@@ -120,7 +119,7 @@ fn with_slots(
     slots: Listed<SlotEntry>,
 ) -> Result<Entries, TableFault>
     ensures ok { IfOk result (λ entries. by_slots (view value.now) instances nodes (Some slots) ≡ Ok entries) }
-    ensures err { IfErr result (λ e. (e ≡ fault.NoMemory → ⊥) → by_slots (view value.now) instances nodes (Some slots) ≡ Err e) }
+    ensures err { IfErr result (IsFaultOf (by_slots (view value.now) instances nodes (Some slots))) }
 {
     let Some(top) = top(alloc, value, instances.items())? else {
         return Err(TableFault::BadShape { path: Part::Top });
@@ -147,7 +146,7 @@ fn with_instances(
     instances: Listed<InstanceEntry>,
 ) -> Result<Entries, TableFault>
     ensures ok { IfOk result (λ entries. by_instances (view value.now) (Some instances) ≡ Ok entries) }
-    ensures err { IfErr result (λ e. (e ≡ fault.NoMemory → ⊥) → by_instances (view value.now) (Some instances) ≡ Err e) }
+    ensures err { IfErr result (IsFaultOf (by_instances (view value.now) (Some instances))) }
 {
     let Some(nodes) = nodes(alloc, value)? else {
         return Err(TableFault::BadShape { path: Part::Nodes });
@@ -161,7 +160,7 @@ fn with_instances(
 /// The entries of a file of version 1.
 fn parts_in(alloc: Global, value: &Value) -> Result<Entries, TableFault>
     ensures ok { IfOk result (λ entries. by_instances (view value.now) (told_instances (view value.now)) ≡ Ok entries) }
-    ensures err { IfErr result (λ e. (e ≡ fault.NoMemory → ⊥) → by_instances (view value.now) (told_instances (view value.now)) ≡ Err e) }
+    ensures err { IfErr result (IsFaultOf (by_instances (view value.now) (told_instances (view value.now)))) }
 {
     match instances(alloc, value)? {
         Some(instances) => with_instances(alloc, value, instances),
@@ -174,7 +173,7 @@ fn parts_in(alloc: Global, value: &Value) -> Result<Entries, TableFault>
 /// The entries of a file.
 fn entries_in(alloc: Global, value: &Value) -> Result<Entries, TableFault>
     ensures ok { IfOk result (λ entries. told_tree (view value.now) ≡ Ok entries) }
-    ensures err { IfErr result (λ e. (e ≡ fault.NoMemory → ⊥) → told_tree (view value.now) ≡ Err e) }
+    ensures err { IfErr result (IsFaultOf (told_tree (view value.now))) }
 {
     if !value.is_object() {
         return Err(TableFault::BadShape { path: Part::Whole });
@@ -209,7 +208,7 @@ fn json_of(alloc: Global, text: &[u8]) -> Result<Option<Value>, NoMemory>
 /// The entries of the file that a text is.
 fn read_entries(alloc: Global, text: &[u8]) -> Result<Entries, TableFault>
     ensures ok { IfOk result (λ entries. told_entries text.now ≡ Ok entries) }
-    ensures err { IfErr result (λ e. (e ≡ fault.NoMemory → ⊥) → told_entries text.now ≡ Err e) }
+    ensures err { IfErr result (IsFaultOf (told_entries text.now)) }
 {
     if text.len() > MOST_BYTES {
         return Err(TableFault::TooLong);
@@ -242,7 +241,7 @@ fn table_of(alloc: Global, entries: Entries) -> Result<Table, NoMemory>
 /// The table that a symbol file tells, or the first reason why it tells none.
 pub fn read_table(alloc: Global, text: &[u8]) -> Result<Table, TableFault>
     ensures table { IfOk result (λ table. told_table text.now ≡ Ok table) }
-    ensures refused { IfErr result (λ e. (e ≡ fault.NoMemory → ⊥) → told_table text.now ≡ Err e) }
+    ensures refused { IfErr result (IsFaultOf (told_table text.now)) }
 {
     let entries = read_entries(alloc, text)?;
     match entries_outside(&entries) {
