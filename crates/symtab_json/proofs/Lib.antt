@@ -1,0 +1,17 @@
+pub mod Members
+pub mod Behind
+pub mod Literals
+pub mod Utf8
+pub mod Kept
+pub mod Counted
+pub mod Found
+pub mod Rules
+pub mod Outside
+pub mod Fits
+pub mod Lengths
+pub mod Rounds
+pub mod Shown
+pub mod Backs
+pub mod Trees
+pub mod Again
+pub mod Tables

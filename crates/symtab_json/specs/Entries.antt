@@ -1,0 +1,165 @@
+-- What each JSON value of a symbol file tells. None is for one that is missing, of another kind or of another form.
+use Rattle.std.specs.Prelude.{ℕ, ◌^◌, ◌&&◌, ◌==◌, ℤ, pos, neg_ℤ, int_le, List, [], ◌∷◌, length, slice_get, Bool, nat_le, nat_lt, is_some, codes, bytes_eq, Option, Some, None, option_map, option_and_then, if◌then◌else◌}
+use Rattle.std.specs.Option.{option_map_or, option_or}
+use Rattle.bv_core.specs.declared.Ref.{Ref}
+use Rattle.bv_core.specs.declared.Ref.TheVariants.{Node, Const}
+use Rattle.bv_core.specs.declared.Binding.{Binding}
+use Rattle.bv_core.specs.declared.Binding.TheVariants.{Value, Unset, Removed}
+use Rattle.symtab.specs.Shape.{width_of}
+use Rattle.symtab.specs.declared.parts.NodeName.{NodeName}
+use Rattle.symtab.specs.declared.parts.GenVariable.{GenVariable}
+use Rattle.symtab.specs.declared.parts.VariantParts.{VariantParts}
+use Rattle.symtab.specs.declared.parts.Row.{Row}
+use Rattle.serde_json.specs.Data.{Data, Items, no_items, item}
+use Rattle.serde_json.specs.Find.{get, at, as_number, as_u64, as_i64, as_str, as_array}
+use Rattle.symtab_json.specs.declared.entries.InstanceEntry.{InstanceEntry}
+use Rattle.symtab_json.specs.declared.entries.SlotEntry.{SlotEntry}
+use Rattle.symtab_json.specs.Literals.{told_literal}
+
+-- what was found, if it passes a test
+abbrev pub kept_if : {A : Type 0} → (A → Bool) → Option A → Option A
+kept_if test None = None
+kept_if test (Some x) = if test x then Some x else None
+
+-- two that were found
+abbrev pub both : {A B : Type 0} → Option A → Option B → Option (A × B)
+both None found = None
+both (Some x) found = option_map (λ y. (x, y)) found
+
+-- ---- numbers and lists
+
+-- a whole number from 0 to 2^64-1
+abbrev pub told_count : Data → Option ℕ
+told_count d = option_and_then as_u64 (as_number d)
+
+-- a width: from 1 to 128
+abbrev pub is_width : ℕ → Bool
+is_width n = nat_le 1 n && nat_le n 128
+
+abbrev pub told_width : Data → Option ℕ
+told_width d = kept_if is_width (told_count d)
+
+-- a line: below 2^30
+abbrev pub is_line : ℕ → Bool
+is_line n = nat_lt n (2 ^ 30)
+
+abbrev pub told_line : Data → Option ℕ
+told_line d = kept_if is_line (told_count d)
+
+-- the number of a generator variable: from -2^62 to 2^62
+abbrev pub is_gen_number : ℤ → Bool
+is_gen_number n = int_le (neg_ℤ (pos (2 ^ 62))) n && int_le n (pos (2 ^ 62))
+
+abbrev pub told_gen_number : Data → Option ℤ
+told_gen_number d = kept_if is_gen_number (option_and_then as_i64 (as_number d))
+
+-- one more in front
+abbrev pub told_first : {A : Type 0} → Option A → Option (List A) → Option (List A)
+told_first None rest = None
+told_first (Some x) rest = option_map (λ xs. x ∷ xs) rest
+
+abbrev pub told_items : {A : Type 0} → (Data → Option A) → Items → Option (List A)
+told_items told no_items = Some []
+told_items told (item d ds) = told_first (told d) (told_items told ds)
+
+-- a list of any length
+abbrev pub told_list : {A : Type 0} → (Data → Option A) → Data → Option (List A)
+told_list told d = option_and_then (told_items told) (as_array d)
+
+-- fewer than 2^32 entries
+abbrev pub is_short : {A : Type 0} → List A → Bool
+is_short xs = nat_lt (length xs) (2 ^ 32)
+
+abbrev pub told_short : {A : Type 0} → (Data → Option A) → Data → Option (List A)
+told_short told d = kept_if is_short (told_list told d)
+
+-- a list of exactly two
+abbrev pub told_two : Data → Option (Data × Data)
+told_two d = if is_some (at 2 d) then None else both (at 0 d) (at 1 d)
+
+-- the member of an object that has this key; of two of one key the last
+abbrev pub told_member : {A : Type 0} → (Data → Option A) → List ℕ → Data → Option A
+told_member told key d = option_and_then told (get key d)
+
+-- ---- the entries of the lists
+
+abbrev pub node_of : Option (List ℕ) → Option ℕ → Option NodeName
+node_of None width = None
+node_of (Some name) None = None
+node_of (Some name) (Some width) = Some (record { name = name; width = width })
+
+abbrev pub told_node : Data → Option NodeName
+told_node d = option_and_then (λ two. node_of (as_str two.0) (told_width two.1)) (told_two d)
+
+abbrev pub gen_of : Option (List ℕ) → Option ℤ → Option GenVariable
+gen_of None number = None
+gen_of (Some name) None = None
+gen_of (Some name) (Some number) = Some (record { name = name; value = number })
+
+abbrev pub told_gen : Data → Option GenVariable
+told_gen d = option_and_then (λ two. gen_of (as_str two.0) (told_gen_number two.1)) (told_two d)
+
+abbrev pub variant_of : Option (List ℕ) → Option (List GenVariable) → Option VariantParts
+variant_of None gens = None
+variant_of (Some name) None = None
+variant_of (Some name) (Some gens) = Some (record { «module» = name; gens = gens })
+
+abbrev pub told_variant : Data → Option VariantParts
+told_variant d = option_and_then (λ two. variant_of (as_str two.0) (told_short told_gen two.1)) (told_two d)
+
+abbrev pub instance_of : Option (List ℕ) → Option ℕ → Option InstanceEntry
+instance_of None variant = None
+instance_of (Some path) None = None
+instance_of (Some path) (Some variant) = Some (record { path = path; variant = variant })
+
+abbrev pub told_instance : Data → Option InstanceEntry
+told_instance d = option_and_then (λ two. instance_of (as_str two.0) (told_count two.1)) (told_two d)
+
+-- ---- slots, over the nodes
+
+-- the width of a node. One that is not there is taken to have width 1, so that no rule on widths is broken by it: its
+-- number is judged for itself
+abbrev pub width_at : List NodeName → ℕ → ℕ
+width_at nodes id = option_map_or (λ node. node.width) (slice_get nodes id) 1
+
+-- a node by its number, or a literal
+abbrev pub told_ref : List NodeName → Data → Option Ref
+told_ref nodes d =
+    option_or (option_map (λ id. Node (record { 0 = id }) (width_at nodes id)) (told_count d))
+    (option_map Const (option_and_then told_literal (as_str d)))
+
+-- a word in place of a value
+abbrev pub mark_of : List ℕ → Option Binding
+mark_of text = if bytes_eq text (codes "unset") then Some Unset else if bytes_eq text (codes "removed") then Some Removed else None
+
+abbrev pub told_cell : List NodeName → Data → Option Binding
+told_cell nodes d = option_or (option_and_then mark_of (as_str d)) (option_map Value (told_ref nodes d))
+
+-- a value of width 1
+abbrev pub is_bit : Ref → Bool
+is_bit at = width_of at == 1
+
+abbrev pub told_on : List NodeName → Data → Option Ref
+told_on nodes d = kept_if is_bit (told_ref nodes d)
+
+abbrev pub row_of : Option Ref → Option (List Binding) → Option Row
+row_of None cells = None
+row_of (Some on) None = None
+row_of (Some on) (Some cells) = Some (record { on = on; cells = cells })
+
+abbrev pub told_row : List NodeName → Data → Option Row
+told_row nodes d = row_of (told_member (told_on nodes) (codes "on") d) (told_member (told_short (told_cell nodes)) (codes "cells") d)
+
+abbrev pub slot_of : Option ℕ → Option ℕ → Option (List GenVariable) → Option (List (List ℕ)) → Option (List Row) → Option SlotEntry
+slot_of None line gens names rows = None
+slot_of (Some variant) None gens names rows = None
+slot_of (Some variant) (Some line) None names rows = None
+slot_of (Some variant) (Some line) (Some gens) None rows = None
+slot_of (Some variant) (Some line) (Some gens) (Some names) None = None
+slot_of (Some variant) (Some line) (Some gens) (Some names) (Some rows) =
+    Some (record { variant = variant; line = line; gens = gens; names = names; rows = rows })
+
+abbrev pub told_slot : List NodeName → Data → Option SlotEntry
+told_slot nodes d =
+    slot_of (told_member told_count (codes "variant") d) (told_member told_line (codes "line") d) (told_member (told_short told_gen) (codes "gens") d)
+    (told_member (told_short as_str) (codes "names") d) (told_member (told_short (told_row nodes)) (codes "rows") d)

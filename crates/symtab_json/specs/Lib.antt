@@ -1,0 +1,11 @@
+pub mod Paths
+pub mod Files
+pub mod Literals
+pub mod Entries
+pub mod Places
+pub mod Judged
+pub mod Told
+pub mod Fit
+pub mod Sample
+pub mod ReadBack
+pub mod Laws

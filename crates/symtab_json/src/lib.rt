@@ -1,0 +1,20 @@
+//! The symbol file: the parts of a symbol table as JSON, written and read.
+#![tactic(auto)]
+
+mod entries;
+mod fault;
+mod judged;
+mod laws;
+mod literal;
+mod numbers;
+mod parts;
+mod quoted;
+mod read;
+mod readings;
+mod told;
+mod written;
+
+pub use fault::{Part, TableFault};
+pub use laws::{files_read_back, literals_are_shown, tables_are_told, writes_the_sample};
+pub use read::read_table;
+pub use written::write_table;
