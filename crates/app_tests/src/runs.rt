@@ -35,7 +35,7 @@ struct Case {
     asked: &'static [&'static str],
 }
 
-static CASES: [Case; 14] = [
+static CASES: [Case; 15] = [
     Case {
         words: &["trail", "keep", "P.hg", "P.stim", "P"],
         reads: &[],
@@ -55,6 +55,16 @@ static CASES: [Case; 14] = [
         least: 200,
         front: "module \\P (clk, \\a , \\y );\n",
         asked: &["P.hg"],
+    },
+    Case {
+        words: &["sim", "opt", "P.hg", "P.stim", "P"],
+        reads: &[],
+        puts: &[],
+        room: AMPLE,
+        status: 0,
+        least: 200,
+        front: "$timescale 1ns $end\n$scope module P $end\n$var wire 1 ! clk $end\n",
+        asked: &["P.hg", "P.stim"],
     },
     Case {
         words: &[],

@@ -41,5 +41,6 @@ over_front j task mode a stim old new e t = subst (λ (k : Judged). TakesTextFro
 
 -- ---- what is asked over the rows of a stimulus
 
-pub trail_written : (task : OverRows) (mode : Mode) (a : Accepted) (stim : Stimulus) (old new : Option (List ℕ)) → TakesTrail (design_of a.design) (length a.order) mode stim.rows old new → TakesWork (over task mode a stim) old new
-trail_written over_tasks.Trail mode a stim old new t = record { taken = λ text is. subst (λ (l : List ℕ). Appends old new l) (sym is.2) (t.taken is.0 is.1) }
+pub trail_written : (task : OverRows) (mode : Mode) (a : Accepted) (stim : Stimulus) (old new : Option (List ℕ)) → task ≡ over_tasks.Trail → TakesTrail (design_of a.design) (length a.order) mode stim.rows old new → TakesWork (over task mode a stim) old new
+trail_written task mode a stim old new e t =
+    subst (λ (x : OverRows). TakesWork (over x mode a stim) old new) (sym e) (record { taken = λ text is. subst (λ (l : List ℕ). Appends old new l) (sym is.2) (t.taken is.0 is.1) })

@@ -9,7 +9,7 @@ use Rattle.dbg_app.specs.declared.command.OfDesign as code_alone
 use Rattle.dbg_app.specs.declared.command.OfDesign.TheVariants as alone
 use Rattle.dbg_app.specs.declared.command.OverRows as code_over
 use Rattle.dbg_app.specs.declared.command.OverRows.TheVariants as over
-use Rattle.dbg_app.specs.Command.{Task, Trail, Verilog, Command, argument_of}
+use Rattle.dbg_app.specs.Command.{Task, Trail, Verilog, Waves, Command, argument_of}
 
 -- what the words from this place on give the top
 abbrev pub given_in : ℕ → List (List ℕ) → Gens
@@ -20,6 +20,7 @@ alone_as alone.Verilog = Verilog
 
 abbrev pub over_as : code_over.OverRows → Task
 over_as over.Trail = Trail
+over_as over.Waves = Waves
 
 abbrev pub task_as : code_task.Task → Task
 task_as (tasks.Alone task) = alone_as task

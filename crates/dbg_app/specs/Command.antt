@@ -49,10 +49,11 @@ is_argument word = is_some (argument_of word)
 abbrev pub mode_of : List ℕ → Option Mode
 mode_of word = if bytes_eq word (codes "opt") then Some Opt else if bytes_eq word (codes "keep") then Some Keep else None
 
--- what is asked of a design: the trail of its run, or its Verilog
+-- what is asked of a design: the trail of its run, its Verilog, or the waves of its run
 pub data Task : Type 0 where
   Trail : Task
   Verilog : Task
+  Waves : Task
 
 -- a command: what it asks, in which mode, of which source file, over which stimulus file where it names one, and of which top
 pub record Command : Type 0 where
@@ -88,7 +89,8 @@ abbrev pub command_of : List (List ℕ) → Option Command
 command_of [] = None
 command_of (word ∷ words) =
     if bytes_eq word (codes "trail") then over_rows Trail (word ∷ words) else
-    if bytes_eq word (codes "compile") then of_design Verilog (word ∷ words) else None
+    if bytes_eq word (codes "compile") then of_design Verilog (word ∷ words) else
+    if bytes_eq word (codes "sim") then over_rows Waves (word ∷ words) else None
 
 -- the names of the files, in the order of the words
 abbrev pub stimulus_names : Option (List ℕ) → List (List ℕ)

@@ -23,6 +23,8 @@ pub(crate) enum OfDesign {
 pub(crate) enum OverRows {
     /// The trail of its run.
     Trail,
+    /// The waves of its run.
+    Waves,
 }
 
 /// What is asked, and the file of the stimulus where one is named.
@@ -139,6 +141,7 @@ pub(crate) fn read_command<'a>(words: &'a Words) -> Option<Command<'a>>
     match words.word(0) {
         "trail" => over_rows(OverRows::Trail, words),
         "compile" => of_design(OfDesign::Verilog, words),
+        "sim" => over_rows(OverRows::Waves, words),
         _ => None,
     }
 }

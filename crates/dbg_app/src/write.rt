@@ -15,6 +15,7 @@ use std::alloc::Global;
 use stim_text::Stim;
 use trail_net::write_trail;
 use verilog_net::write_verilog;
+use wave_net::write_waves;
 use world_core::Mode;
 
 /// Writes what is asked of a design alone.
@@ -61,6 +62,7 @@ fn write_over<S: Sink>(
     let Accepted { design, order, .. } = accepted;
     match task {
         OverRows::Trail => write_trail(alloc, design, order, mode, stim, out)?,
+        OverRows::Waves => write_waves(alloc, design, order, mode, stim, out)?,
     }
     Ok(())
 }
