@@ -12,13 +12,15 @@ use Rattle.world_core.specs.World.{trail_text}
 use Rattle.world_core.specs.Source.{source_world}
 use Rattle.trim_laws.specs.Runs.{RunsOver}
 use Rattle.trim_core.specs.KeptNet.{kept_net}
+use Rattle.trim_core.specs.KeptTable.{kept_table}
+use Rattle.symbol_net.specs.Line.{symbols_line}
 use Rattle.verilog_out.specs.Printed.{printed}
 use Rattle.vcd_write.specs.Run.{waves_text}
 use Rattle.design_judge.specs.declared.DesignFault.{DesignFault}
 use Rattle.design_judge.specs.declared.DesignFault.TheVariants.{CombLoop}
 use Rattle.design_judge.specs.Refusals.{design_line, stimulus_line}
 use Rattle.design_judge.specs.Judgement.{IsAccepted, IsRefused, IsLooped, ArePortsOf}
-use Rattle.dbg_app.specs.Command.{Task, Trail, Verilog, Waves, Command}
+use Rattle.dbg_app.specs.Command.{Task, Trail, Verilog, Symbols, Waves, Command}
 
 -- a status, and the text that goes with it
 pub record Answer : Type 0 where
@@ -64,11 +66,12 @@ pub record Holds (files : Contents) (command : Command) (held : Held) : Type 0 w
   pub runs : RunsOver held.design held.rows held.run
   pub mode : held.mode ≡ command.mode
 
--- the text of each command: the trail of the run; the net of the trees that the mode keeps, printed with the ports; the waves of that net
--- over the rows, as a value change dump file
+-- the text of each command: the trail of the run; the net of the trees that the mode keeps, printed with the ports; the table of these trees as
+-- a symbol file, and a line feed; the waves of that net over the rows, as a value change dump file
 abbrev pub text_of : Task → Held → List ℕ
 text_of Trail held = trail_text (source_world held.design held.driven held.mode held.run)
 text_of Verilog held = printed (kept_net held.design held.driven held.mode) held.ports
+text_of Symbols held = symbols_line (kept_table held.design held.driven held.mode)
 text_of Waves held = waves_text (kept_net held.design held.driven held.mode) (record { ports = held.ports; rows = held.rows })
 
 -- ---- what a command asks for

@@ -9,7 +9,7 @@ use Rattle.dbg_app.specs.declared.command.OfDesign as code_alone
 use Rattle.dbg_app.specs.declared.command.OfDesign.TheVariants as alone
 use Rattle.dbg_app.specs.declared.command.OverRows as code_over
 use Rattle.dbg_app.specs.declared.command.OverRows.TheVariants as over
-use Rattle.dbg_app.specs.Command.{Task, Trail, Verilog, Waves, Command, argument_of}
+use Rattle.dbg_app.specs.Command.{Task, Trail, Verilog, Symbols, Waves, Command, argument_of}
 
 -- what the words from this place on give the top
 abbrev pub given_in : ℕ → List (List ℕ) → Gens
@@ -17,6 +17,7 @@ given_in first words = filter_map argument_of (drop first words)
 
 abbrev pub alone_as : code_alone.OfDesign → Task
 alone_as alone.Verilog = Verilog
+alone_as alone.Symbols = Symbols
 
 abbrev pub over_as : code_over.OverRows → Task
 over_as over.Trail = Trail

@@ -49,10 +49,11 @@ is_argument word = is_some (argument_of word)
 abbrev pub mode_of : List ℕ → Option Mode
 mode_of word = if bytes_eq word (codes "opt") then Some Opt else if bytes_eq word (codes "keep") then Some Keep else None
 
--- what is asked of a design: the trail of its run, its Verilog, or the waves of its run
+-- what is asked of a design: the trail of its run, its Verilog, its symbol file, or the waves of its run
 pub data Task : Type 0 where
   Trail : Task
   Verilog : Task
+  Symbols : Task
   Waves : Task
 
 -- a command: what it asks, in which mode, of which source file, over which stimulus file where it names one, and of which top
@@ -90,6 +91,7 @@ command_of [] = None
 command_of (word ∷ words) =
     if bytes_eq word (codes "trail") then over_rows Trail (word ∷ words) else
     if bytes_eq word (codes "compile") then of_design Verilog (word ∷ words) else
+    if bytes_eq word (codes "symbols") then of_design Symbols (word ∷ words) else
     if bytes_eq word (codes "sim") then over_rows Waves (word ∷ words) else None
 
 -- the names of the files, in the order of the words

@@ -82,7 +82,7 @@ HasText (judged.Alone task mode a) = HasRun (alone task mode a)
 HasText (judged.Over task mode a stim) = (stim.ports ≡ a.ports) × HasRun (over task mode a stim)
 
 -- how a run with it ends, where all of the text is written
-abbrev pub way_of : Judged → outcome.Way
+abbrev pub way_of : Judged → outcome.Ending
 way_of judged.NoCommand = outcome.NoCommand
 way_of (judged.NoDesign fault) = outcome.NoDesign
 way_of (judged.NoStimulus fault) = outcome.NoStimulus

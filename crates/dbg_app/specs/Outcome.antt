@@ -16,16 +16,16 @@ use Rattle.dbg_app.specs.declared.halt.Halt.TheVariants.{ReadFault, WriteFault, 
 -- The ways in which a run ends. The words are judged before the source, the source before the stimulus, and all of them before a byte
 -- is written. A file that is not read ends the run where it stands in that order. An output that fails, or want of memory, takes the
 -- place of what else would have come.
-pub data Way : Type 0 where
-  Written : Way
-  NoCommand : Way
-  NoDesign : Way
-  NoStimulus : Way
-  NotRead : Way
-  NotTaken : Way
-  OutOfMemory : Way
+pub data Ending : Type 0 where
+  Written : Ending
+  NoCommand : Ending
+  NoDesign : Ending
+  NoStimulus : Ending
+  NotRead : Ending
+  NotTaken : Ending
+  OutOfMemory : Ending
 
-abbrev pub status_of : Way → ℕ
+abbrev pub status_of : Ending → ℕ
 status_of Written = 0
 status_of NoCommand = 2
 status_of NoDesign = 3

@@ -16,6 +16,8 @@ use world_core::Mode;
 pub(crate) enum OfDesign {
     /// Its Verilog.
     Verilog,
+    /// Its symbol file.
+    Symbols,
 }
 
 /// What is asked of a design over the rows of a stimulus.
@@ -141,6 +143,7 @@ pub(crate) fn read_command<'a>(words: &'a Words) -> Option<Command<'a>>
     match words.word(0) {
         "trail" => over_rows(OverRows::Trail, words),
         "compile" => of_design(OfDesign::Verilog, words),
+        "symbols" => of_design(OfDesign::Symbols, words),
         "sim" => over_rows(OverRows::Waves, words),
         _ => None,
     }

@@ -21,13 +21,13 @@ pub struct Ended {
 
 /// Does what the words say.
 ///
-/// The commands are `trail MODE SRC STIM TOP [NAME=N]..`, `sim MODE SRC STIM TOP [NAME=N]..` and `compile MODE SRC TOP [NAME=N]..`,
-/// where MODE is `opt` or `keep`. The files are read in the order of the words, and each is judged before the next is read. Nothing is written before all of
-/// them were judged.
+/// The commands are `trail MODE SRC STIM TOP [NAME=N]..`, `sim MODE SRC STIM TOP [NAME=N]..`, `compile MODE SRC TOP [NAME=N]..` and
+/// `symbols MODE SRC TOP [NAME=N]..`, where MODE is `opt` or `keep`. The files are read in the order of the words, and each is judged
+/// before the next is read. Nothing is written before all of them were judged.
 ///
 /// | Status | Where | Output |
 /// |---|---|---|
-/// | 0 | none of the rest | the whole trail, the waves as a value change dump file, or the design as a Verilog module |
+/// | 0 | none of the rest | the whole trail, the waves as a value change dump file, the design as a Verilog module, or its symbol file |
 /// | 2 | the words are no command | `usage fault` |
 /// | 3 | SRC is no source, or its design from the module TOP is refused | `design fault`, with the number and name of the refusal, and its fields |
 /// | 4 | STIM is refused for the design's ports | `stimulus fault`, with the number and name of the refusal, and its row and column |

@@ -13,6 +13,7 @@ use design_judge::{Accepted, design_line, stimulus_line};
 use io_edge::Sink;
 use std::alloc::Global;
 use stim_text::Stim;
+use symbol_net::write_symbols;
 use trail_net::write_trail;
 use verilog_net::write_verilog;
 use wave_net::write_waves;
@@ -39,6 +40,7 @@ fn write_alone<S: Sink>(
     } = accepted;
     match task {
         OfDesign::Verilog => write_verilog(alloc, design, order, mode, ports, out)?,
+        OfDesign::Symbols => write_symbols(alloc, design, order, mode, out)?,
     }
     Ok(())
 }

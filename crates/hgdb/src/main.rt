@@ -22,6 +22,8 @@ Usage:
                     print each executed statement with the variables before it
   hgdb compile MODE SRC TOP [NAME=N]..
                     print the design as a Verilog module
+  hgdb symbols MODE SRC TOP [NAME=N]..
+                    print where each variable of the source is found
   hgdb sim MODE SRC STIM TOP [NAME=N]..
                     print the values of the design's net as a value change dump
   hgdb --help       print this text
