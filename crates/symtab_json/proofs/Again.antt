@@ -27,10 +27,10 @@ use Rattle.symtab_json.specs.declared.entries.SlotEntry.{SlotEntry}
 use Rattle.symtab_json.specs.declared.entries.Entries.{Entries}
 use Rattle.symtab_json.specs.declared.entries.Outside.{Outside}
 use Rattle.symtab_json.specs.declared.fault.TableFault.TheVariants as fault
-use Rattle.symtab_json.specs.Files.{node_tree, variant_tree, instance_tree, row_tree, slot_tree, table_tree, symbols_text}
-use Rattle.symtab_json.specs.Entries.{kept_if, is_line, slot_of, told_instance, told_node, told_row, told_slot, told_variant}
-use Rattle.symtab_json.specs.Places.{are_apart, instances_with}
-use Rattle.symtab_json.specs.Judged.{have_paths, have_names, variants_len, has_cells, is_full, are_full, is_first, told_instances, told_nodes, told_slots, told_top, told_variants, outside_list, first_outside, ref_outside, cell_outside, row_outside, slot_outside, instance_outside, entries_outside, instance_parts, slot_parts, parts_of}
+use Rattle.symtab_json.specs.Files.{node_json, variant_json, instance_json, row_json, slot_json, table_json, symbols_text}
+use Rattle.symtab_json.specs.Entries.{kept_if, is_line, made_slot, told_instance, told_node, told_row, told_slot, told_variant}
+use Rattle.symtab_json.specs.Places.{are_apart, instance_count}
+use Rattle.symtab_json.specs.Judged.{paths_differ, names_of_nodes_differ, variants_len, has_cells, is_full, are_full, is_first, told_instances, told_nodes, told_slots, told_top, told_variants, outside_list, first_outside, ref_outside, cell_outside, row_outside, slot_outside, instance_outside, entries_outside, instance_parts, slot_parts, told_parts}
 use Rattle.symtab_json.specs.Told.{by_variants, by_top, by_slots, by_nodes, by_instances, by_json, by_entries, by_numbers, told_tree, told_entries, json_of}
 use Rattle.symtab_json.specs.ReadBack.{RowIsValue, SlotIsText, AreTexts, FilesReadBack}
 use Rattle.symtab_json.proofs.Backs.{kept_back, short_back, list_same, short_same, each, every, every_two, apart_back, node_back, gens_back, variant_back, row_back}
@@ -59,28 +59,28 @@ same_variants (i ∷ is) = ap (λ xs. i.variant ∷ xs) (same_variants is)
 
 -- ---- each part
 
-instances_back : (p : TableParts) → IsTable p → told_instances (table_tree p) ≡ Some (map instance_entry p.instances)
+instances_back : (p : TableParts) → IsTable p → told_instances (table_json p) ≡ Some (map instance_entry p.instances)
 instances_back p h =
-    ap (kept_if have_paths) (short_back told_instance instance_tree instance_entry p.instances h.short_instances
-    (each (λ i. told_instance (instance_tree i) ≡ Some (instance_entry i)) (λ i. refl) p.instances))
-    ∙ kept_back have_paths (map instance_entry p.instances) (ap are_apart (same_paths p.instances) ∙ apart_back (paths_of p.instances) h.paths)
+    ap (kept_if paths_differ) (short_back told_instance instance_json instance_entry p.instances h.short_instances
+    (each (λ i. told_instance (instance_json i) ≡ Some (instance_entry i)) (λ i. refl) p.instances))
+    ∙ kept_back paths_differ (map instance_entry p.instances) (ap are_apart (same_paths p.instances) ∙ apart_back (paths_of p.instances) h.paths)
 
-nodes_back : (p : TableParts) → IsTable p → told_nodes (table_tree p) ≡ Some p.nodes
+nodes_back : (p : TableParts) → IsTable p → told_nodes (table_json p) ≡ Some p.nodes
 nodes_back p h =
-    ap (kept_if have_names) (list_same told_node node_tree p.nodes
-    (every (λ n. IsWidth n.width) (λ n. told_node (node_tree n) ≡ Some n) node_back p.nodes (recursion_from_All (λ n. IsWidth n.width) p.nodes h.widths)))
-    ∙ kept_back have_names p.nodes (apart_back _ h.node_names)
+    ap (kept_if names_of_nodes_differ) (list_same told_node node_json p.nodes
+    (every (λ n. IsWidth n.width) (λ n. told_node (node_json n) ≡ Some n) node_back p.nodes (recursion_from_All (λ n. IsWidth n.width) p.nodes h.widths)))
+    ∙ kept_back names_of_nodes_differ p.nodes (apart_back _ h.node_names)
 
 all_slots : (line : Option ℕ) (gens : Option _) (names : Option _) (rows : Option _) (s : Slot) → line ≡ Some s.line → gens ≡ Some s.gens → names ≡ Some s.names → rows ≡ Some s.rows →
-    slot_of (Some s.variant) line gens names rows ≡ Some (slot_entry s)
-all_slots line gens names rows s a b c d = λ i. slot_of (Some s.variant) (a i) (b i) (c i) (d i)
+    made_slot (Some s.variant) line gens names rows ≡ Some (slot_entry s)
+all_slots line gens names rows s a b c d = λ i. made_slot (Some s.variant) (a i) (b i) (c i) (d i)
 
-slot_back : (nodes : List NodeName) (variants : ℕ) (of : List ℕ) (s : Slot) → IsSlot nodes variants of s → SlotIsText s → told_slot nodes (slot_tree s) ≡ Some (slot_entry s)
+slot_back : (nodes : List NodeName) (variants : ℕ) (of : List ℕ) (s : Slot) → IsSlot nodes variants of s → SlotIsText s → told_slot nodes (slot_json s) ≡ Some (slot_entry s)
 slot_back nodes variants of s h t =
     all_slots _ _ _ _ s (kept_back is_line s.line (lt-ltb s.line 1073741824 h.line)) (gens_back s.gens h.gens)
     (short_same as_str string s.names h.short_names (each (λ n. as_str (string n) ≡ Some n) (λ n. refl) s.names))
-    (short_same (told_row nodes) row_tree s.rows h.short_rows
-    (every_two (IsRow nodes s.names) RowIsValue (λ row. told_row nodes (row_tree row) ≡ Some row) (row_back nodes s.names) s.rows (recursion_from_All (IsRow nodes s.names) s.rows h.rows) t.rows))
+    (short_same (told_row nodes) row_json s.rows h.short_rows
+    (every_two (IsRow nodes s.names) RowIsValue (λ row. told_row nodes (row_json row) ≡ Some row) (row_back nodes s.names) s.rows (recursion_from_All (IsRow nodes s.names) s.rows h.rows) t.rows))
 
 same_number : (n : ℕ) → (n == n) ≡ true
 same_number n = grind (arith, nat_tests)
@@ -94,10 +94,10 @@ cells_full nodes names [] h = refl
 cells_full nodes names (row ∷ rows) h =
     and_from (has_cells (length names) row) _ (ap (λ n. n == length names) h.0.count ∙ same_number (length names)) (cells_full nodes names rows h.1)
 
-slot_full : (p : TableParts) (s : Slot) → IsSlot p.nodes (length p.variants) (variants_of p.instances) s → is_full (length p.variants) (instances_with (map instance_entry p.instances)) (slot_entry s) ≡ true
+slot_full : (p : TableParts) (s : Slot) → IsSlot p.nodes (length p.variants) (variants_of p.instances) s → is_full (length p.variants) (instance_count (map instance_entry p.instances)) (slot_entry s) ≡ true
 slot_full p s h =
-    let count : length s.rows ≡ instances_with (map instance_entry p.instances) s.variant = h.count ∙ ap (λ xs. length (places s.variant xs)) (sym (same_variants p.instances)) in
-    and_from _ _ (or_right (nat_le (length p.variants) s.variant) _ (ap (λ n. n == instances_with (map instance_entry p.instances) s.variant) count ∙ same_number (instances_with (map instance_entry p.instances) s.variant)))
+    let count : length s.rows ≡ instance_count (map instance_entry p.instances) s.variant = h.count ∙ ap (λ xs. length (places s.variant xs)) (sym (same_variants p.instances)) in
+    and_from _ _ (or_right (nat_le (length p.variants) s.variant) _ (ap (λ n. n == instance_count (map instance_entry p.instances) s.variant) count ∙ same_number (instance_count (map instance_entry p.instances) s.variant)))
     (and_from _ _ (cells_full p.nodes s.names s.rows (recursion_from_All (IsRow p.nodes s.names) s.rows h.rows)) (apart_back s.names h.names))
 
 list_full : (n : ℕ) (count : ℕ → ℕ) (slots : List Slot) → AllByRecursion (λ s. is_full n count (slot_entry s) ≡ true) slots → are_full n count (map slot_entry slots) ≡ true
@@ -108,33 +108,33 @@ items_count : {A : Type 0} (tree : A → Data) (xs : List A) → items_len (item
 items_count tree [] = refl
 items_count tree (x ∷ xs) = ap suc (items_count tree xs)
 
-slots_back : (p : TableParts) → IsTable p → AreTexts p → told_slots (table_tree p) (map instance_entry p.instances) p.nodes ≡ Some (map slot_entry p.slots)
+slots_back : (p : TableParts) → IsTable p → AreTexts p → told_slots (table_json p) (map instance_entry p.instances) p.nodes ≡ Some (map slot_entry p.slots)
 slots_back p h t =
     let of = variants_of p.instances in
-    let count = instances_with (map instance_entry p.instances) in
+    let count = instance_count (map instance_entry p.instances) in
     let slots = recursion_from_All (IsSlot p.nodes (length p.variants) of) p.slots h.slots in
     let full : are_full (length p.variants) count (map slot_entry p.slots) ≡ true =
     list_full (length p.variants) count p.slots (every (IsSlot p.nodes (length p.variants) of) (λ s. is_full (length p.variants) count (slot_entry s) ≡ true) (slot_full p) p.slots slots) in
-    let many : variants_len (table_tree p) ≡ length p.variants = items_count variant_tree p.variants in
-    ap (kept_if (are_full (variants_len (table_tree p)) count)) (short_back (told_slot p.nodes) slot_tree slot_entry p.slots h.short_slots
-    (every_two (IsSlot p.nodes (length p.variants) of) SlotIsText (λ s. told_slot p.nodes (slot_tree s) ≡ Some (slot_entry s)) (slot_back p.nodes (length p.variants) of) p.slots slots t.slots))
-    ∙ kept_back (are_full (variants_len (table_tree p)) count) (map slot_entry p.slots) (ap (λ n. are_full n count (map slot_entry p.slots)) many ∙ full)
+    let many : variants_len (table_json p) ≡ length p.variants = items_count variant_json p.variants in
+    ap (kept_if (are_full (variants_len (table_json p)) count)) (short_back (told_slot p.nodes) slot_json slot_entry p.slots h.short_slots
+    (every_two (IsSlot p.nodes (length p.variants) of) SlotIsText (λ s. told_slot p.nodes (slot_json s) ≡ Some (slot_entry s)) (slot_back p.nodes (length p.variants) of) p.slots slots t.slots))
+    ∙ kept_back (are_full (variants_len (table_json p)) count) (map slot_entry p.slots) (ap (λ n. are_full n count (map slot_entry p.slots)) many ∙ full)
 
 first_back : (instances : List InstanceParts) (top : List ℕ) → slice_get (paths_of instances) 0 ≡ Some top → is_first (map instance_entry instances) top ≡ true
 first_back [] top e = absurd (cc)
 first_back (i ∷ is) top e = (bytes_eq-Decides i.path top).1 (let same : i.path ≡ top = cc in same)
 
-top_back : (p : TableParts) → IsTable p → told_top (table_tree p) (map instance_entry p.instances) ≡ Some p.top
+top_back : (p : TableParts) → IsTable p → told_top (table_json p) (map instance_entry p.instances) ≡ Some p.top
 top_back p h = kept_back (is_first (map instance_entry p.instances)) p.top (first_back p.instances p.top h.top)
 
-variants_back : (p : TableParts) → IsTable p → told_variants (table_tree p) ≡ Some p.variants
+variants_back : (p : TableParts) → IsTable p → told_variants (table_json p) ≡ Some p.variants
 variants_back p h =
-    short_same told_variant variant_tree p.variants h.short_variants
-    (every (λ v. AreGens v.gens) (λ v. told_variant (variant_tree v) ≡ Some v) variant_back p.variants (recursion_from_All (λ v. AreGens v.gens) p.variants h.variants))
+    short_same told_variant variant_json p.variants h.short_variants
+    (every (λ v. AreGens v.gens) (λ v. told_variant (variant_json v) ≡ Some v) variant_back p.variants (recursion_from_All (λ v. AreGens v.gens) p.variants h.variants))
 
-tree_back : (p : TableParts) → IsTable p → AreTexts p → told_tree (table_tree p) ≡ Ok (entries_of p)
+tree_back : (p : TableParts) → IsTable p → AreTexts p → told_tree (table_json p) ≡ Ok (entries_of p)
 tree_back p h t =
-    let d = table_tree p in
+    let d = table_json p in
     let is = map instance_entry p.instances in
     let ss = map slot_entry p.slots in
     ap (by_instances d) (instances_back p h) ∙ ap (by_nodes d is) (nodes_back p h) ∙ ap (by_slots d is p.nodes) (slots_back p h t)
@@ -195,7 +195,7 @@ same_slots : (slots : List Slot) → map slot_parts (map slot_entry slots) ≡ s
 same_slots [] = refl
 same_slots (s ∷ ss) = ap (λ xs. s ∷ xs) (same_slots ss)
 
-parts_back : (p : TableParts) → parts_of (entries_of p) ≡ p
+parts_back : (p : TableParts) → told_parts (entries_of p) ≡ p
 parts_back p = λ i. record { top = p.top; nodes = p.nodes; variants = p.variants; instances = same_instances p.instances i; slots = same_slots p.slots i }
 
 pub files_read_back : FilesReadBack
@@ -203,5 +203,5 @@ files_read_back p h t short =
     let text = symbols_text p in
     let within : nat_lt (2 ^ 26) (length text) ≡ false = grind (arith, nat_tests) in
     let entries : told_entries text ≡ Ok (entries_of p) =
-    ap (λ b. cond b (Err fault.TooLong) (by_json (json_of text))) within ∙ ap by_json (json_back (table_tree p) (round_table p h t)) ∙ tree_back p h t in
+    ap (λ b. cond b (Err fault.TooLong) (by_json (json_of text))) within ∙ ap by_json (json_back (table_json p) (round_table p h t)) ∙ tree_back p h t in
     ap by_entries entries ∙ ap (by_numbers (entries_of p)) (entries_inside p h) ∙ ap Ok (parts_back p)

@@ -23,8 +23,8 @@ use Rattle.symtab.specs.declared.parts.Row.{Row}
 use Rattle.serde_json.specs.Data.{Data, string}
 use Rattle.serde_json.specs.Find.{as_i64, of_integer}
 use Rattle.serde_json.specs.View.{items_of}
-use Rattle.symtab_json.specs.Files.{list_tree, node_tree, gen_tree, variant_tree, ref_tree, cell_tree, row_tree}
-use Rattle.symtab_json.specs.Entries.{kept_if, is_width, is_gen_number, told_items, told_first, told_list, told_short, is_short, node_of, told_node, gen_of, told_gen, variant_of, told_variant, told_ref, mark_of, told_cell, is_bit, told_on, row_of, told_row}
+use Rattle.symtab_json.specs.Files.{list_json, node_json, gen_json, variant_json, ref_json, cell_json, row_json}
+use Rattle.symtab_json.specs.Entries.{kept_if, is_node_width, is_gen_number, told_items, told_first, told_list, told_short, is_short, made_node, told_node, made_gen, told_gen, made_variant, told_variant, told_ref, told_mark, told_cell, is_one_wide, told_on, made_row, told_row}
 use Rattle.symtab_json.specs.Places.{are_apart, are_new}
 use Rattle.symtab_json.specs.ReadBack.{RefIsValue, CellIsValue, RowIsValue}
 use Rattle.symtab_json.proofs.Shown.{literal_back, decimal_all}
@@ -47,17 +47,17 @@ short_yes : {A B : Type 0} (f : A → B) (xs : List A) → IsShort xs → is_sho
 short_yes f xs h = lt-ltb (length (map f xs)) 4294967296 (let n : length (map f xs) < 4294967296 = omega (arith, h, length_map f xs) in n)
 
 pub short_back : {A B : Type 0} (told : Data → Option B) (tree : A → Data) (f : A → B) (xs : List A) → IsShort xs →
-    AllByRecursion (λ x. told (tree x) ≡ Some (f x)) xs → told_short told (list_tree tree xs) ≡ Some (map f xs)
+    AllByRecursion (λ x. told (tree x) ≡ Some (f x)) xs → told_short told (list_json tree xs) ≡ Some (map f xs)
 short_back told tree f xs few h = ap (kept_if is_short) (items_back told tree f xs h) ∙ kept_back is_short (map f xs) (short_yes f xs few)
 
 itself : {A : Type 0} (xs : List A) → map (λ x. x) xs ≡ xs
 itself [] = refl
 itself (x ∷ xs) = ap (λ ys. x ∷ ys) (itself xs)
 
-pub list_same : {A : Type 0} (told : Data → Option A) (tree : A → Data) (xs : List A) → AllByRecursion (λ x. told (tree x) ≡ Some x) xs → told_list told (list_tree tree xs) ≡ Some xs
+pub list_same : {A : Type 0} (told : Data → Option A) (tree : A → Data) (xs : List A) → AllByRecursion (λ x. told (tree x) ≡ Some x) xs → told_list told (list_json tree xs) ≡ Some xs
 list_same told tree xs h = items_back told tree (λ x. x) xs h ∙ ap Some (itself xs)
 
-pub short_same : {A : Type 0} (told : Data → Option A) (tree : A → Data) (xs : List A) → IsShort xs → AllByRecursion (λ x. told (tree x) ≡ Some x) xs → told_short told (list_tree tree xs) ≡ Some xs
+pub short_same : {A : Type 0} (told : Data → Option A) (tree : A → Data) (xs : List A) → IsShort xs → AllByRecursion (λ x. told (tree x) ≡ Some x) xs → told_short told (list_json tree xs) ≡ Some xs
 short_same told tree xs few h = short_back told tree (λ x. x) xs few h ∙ ap Some (itself xs)
 
 pub each : {A : Type 0} (P : A → Type 0) → ((x : A) → P x) → (xs : List A) → AllByRecursion P xs
@@ -104,8 +104,8 @@ apart_back texts h = new_back [] texts h
 
 -- ---- nodes, generator variables, variants
 
-pub node_back : (node : NodeName) → IsWidth node.width → told_node (node_tree node) ≡ Some node
-node_back node w = ap (node_of (Some node.name)) (kept_back is_width node.width (and_from _ _ (le-leb 1 node.width w.some) (le-leb node.width 128 w.most)))
+pub node_back : (node : NodeName) → IsWidth node.width → told_node (node_json node) ≡ Some node
+node_back node w = ap (made_node (Some node.name)) (kept_back is_node_width node.width (and_from _ _ (le-leb 1 node.width w.some) (le-leb node.width 128 w.most)))
 
 is_true : (b : Bool) → T b → b ≡ true
 is_true true t = refl
@@ -115,18 +115,18 @@ integer_back : (z : ℤ) → IsGenNumber z → as_i64 (of_integer z) ≡ Some z
 integer_back (pos n) h = ap (λ b. cond b (Some (pos n)) None) (lt-ltb n 9223372036854775808 (let least : n ≤ 2 ^ 62 = leb-true n 4611686018427387904 (is_true _ h.most.le) in let l : n < 9223372036854775808 = omega (arith, least) in l))
 integer_back (negsuc n) h = refl
 
-pub gen_back : (variable : GenVariable) → IsGenNumber variable.value → told_gen (gen_tree variable) ≡ Some variable
+pub gen_back : (variable : GenVariable) → IsGenNumber variable.value → told_gen (gen_json variable) ≡ Some variable
 gen_back variable h =
-    ap (gen_of (Some variable.name)) (ap (kept_if is_gen_number) (integer_back variable.value h)
+    ap (made_gen (Some variable.name)) (ap (kept_if is_gen_number) (integer_back variable.value h)
     ∙ kept_back is_gen_number variable.value (and_from _ _ (is_true _ h.least.le) (is_true _ h.most.le)))
 
-pub gens_back : (gens : List GenVariable) → AreGens gens → told_short told_gen (list_tree gen_tree gens) ≡ Some gens
+pub gens_back : (gens : List GenVariable) → AreGens gens → told_short told_gen (list_json gen_json gens) ≡ Some gens
 gens_back gens h =
-    short_same told_gen gen_tree gens h.short
-    (every (λ variable. IsGenNumber variable.value) (λ variable. told_gen (gen_tree variable) ≡ Some variable) gen_back gens (recursion_from_All (λ variable. IsGenNumber variable.value) gens h.numbers))
+    short_same told_gen gen_json gens h.short
+    (every (λ variable. IsGenNumber variable.value) (λ variable. told_gen (gen_json variable) ≡ Some variable) gen_back gens (recursion_from_All (λ variable. IsGenNumber variable.value) gens h.numbers))
 
-pub variant_back : (variant : VariantParts) → AreGens variant.gens → told_variant (variant_tree variant) ≡ Some variant
-variant_back variant h = ap (variant_of (Some variant.module)) (gens_back variant.gens h)
+pub variant_back : (variant : VariantParts) → AreGens variant.gens → told_variant (variant_json variant) ≡ Some variant
+variant_back variant h = ap (made_variant (Some variant.module)) (gens_back variant.gens h)
 
 -- ---- rows
 
@@ -134,7 +134,7 @@ width_back : (found : Option NodeName) (width : ℕ) → option_map (λ (n : Nod
 width_back None width e = absurd (cc)
 width_back (Some node) width e = cc
 
-pub ref_back : (nodes : List NodeName) (at : Ref) → IsFound nodes at → RefIsValue at → told_ref nodes (ref_tree at) ≡ Some at
+pub ref_back : (nodes : List NodeName) (at : Ref) → IsFound nodes at → RefIsValue at → told_ref nodes (ref_json at) ≡ Some at
 ref_back nodes (Node id width) found value = ap (λ w. Some (Node id w)) (width_back (slice_get nodes id.0) width found)
 ref_back nodes (Const bits) found value = ap (option_map Const) (literal_back bits value)
 
@@ -153,28 +153,28 @@ no_word (d ∷ ds) rest x xs some all q = differs_at _ d x (ds ++ rest) xs (firs
     first true b e = refl
     first false b e = e
 
-no_mark : (bits : Bits) → IsBits bits → mark_of (shown bits) ≡ None
+no_mark : (bits : Bits) → IsBits bits → told_mark (shown bits) ≡ None
 no_mark bits h =
     let small : bits.width < 2 ^ 64 = omega (arith, h.most) in
     let rest = 39 ∷ 104 ∷ hex_digits ((bits.width + 3) / 4) bits.value in
     let split : shown bits ≡ decimal bits.width ++ rest = append_assoc (decimal bits.width) (39 ∷ 104 ∷ []) (hex_digits ((bits.width + 3) / 4) bits.value) in
     let some = decimal_nonempty bits.width small in
     let all = decimal_all bits.width small in
-    ap mark_of split
+    ap told_mark split
     ∙ ap₂ (λ a b. cond a (Some Unset) (cond b (Some Removed) None))
     (no_word (decimal bits.width) rest 117 (110 ∷ 115 ∷ 101 ∷ 116 ∷ []) some all refl) (no_word (decimal bits.width) rest 114 (101 ∷ 109 ∷ 111 ∷ 118 ∷ 101 ∷ 100 ∷ []) some all refl)
 
-pub cell_back : (nodes : List NodeName) (cell : Binding) → IsCell nodes cell → CellIsValue cell → told_cell nodes (cell_tree cell) ≡ Some cell
+pub cell_back : (nodes : List NodeName) (cell : Binding) → IsCell nodes cell → CellIsValue cell → told_cell nodes (cell_json cell) ≡ Some cell
 cell_back nodes (Value (Node id width)) found value = ap (option_map Value) (ref_back nodes (Node id width) found value)
 cell_back nodes (Value (Const bits)) found value =
     ap (λ o. option_or o (option_map Value (told_ref nodes (string (shown bits))))) (no_mark bits value) ∙ ap (option_map Value) (ref_back nodes (Const bits) found value)
 cell_back nodes Unset found value = refl
 cell_back nodes Removed found value = refl
 
-on_back : (nodes : List NodeName) (at : Ref) → IsFound nodes at → width_of at ≡ 1 → RefIsValue at → told_on nodes (ref_tree at) ≡ Some at
-on_back nodes at found bit value = ap (kept_if is_bit) (ref_back nodes at found value) ∙ kept_back is_bit at (ap (λ w. w == 1) bit)
+on_back : (nodes : List NodeName) (at : Ref) → IsFound nodes at → width_of at ≡ 1 → RefIsValue at → told_on nodes (ref_json at) ≡ Some at
+on_back nodes at found bit value = ap (kept_if is_one_wide) (ref_back nodes at found value) ∙ kept_back is_one_wide at (ap (λ w. w == 1) bit)
 
-pub row_back : (nodes : List NodeName) (names : List (List ℕ)) (row : Row) → IsRow nodes names row → RowIsValue row → told_row nodes (row_tree row) ≡ Some row
+pub row_back : (nodes : List NodeName) (names : List (List ℕ)) (row : Row) → IsRow nodes names row → RowIsValue row → told_row nodes (row_json row) ≡ Some row
 row_back nodes names row h v =
-    let cells = every_two (IsCell nodes) CellIsValue (λ cell. told_cell nodes (cell_tree cell) ≡ Some cell) (cell_back nodes) row.cells (recursion_from_All (IsCell nodes) row.cells h.cells) v.cells in
-    ap₂ row_of (on_back nodes row.on h.on h.on_width v.on) (short_same (told_cell nodes) cell_tree row.cells h.short cells)
+    let cells = every_two (IsCell nodes) CellIsValue (λ cell. told_cell nodes (cell_json cell) ≡ Some cell) (cell_back nodes) row.cells (recursion_from_All (IsCell nodes) row.cells h.cells) v.cells in
+    ap₂ made_row (on_back nodes row.on h.on h.on_width v.on) (short_same (told_cell nodes) cell_json row.cells h.short cells)

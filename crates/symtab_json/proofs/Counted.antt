@@ -1,4 +1,4 @@
--- Variants that were counted.
+-- Variants that were times_counted.
 use Rattle.std.proofs.Common.{◌≡◌, ℕ, ◌+◌, ◌<◌, ◌==◌, Bool, true, false, cond, List, [], ◌∷◌, length, take, get_or, refl, ap, ◌∙◌, length-append}
 use Rattle.symtab.specs.Places.{places}
 use Rattle.symtab.proofs.Grouped.{places_more}

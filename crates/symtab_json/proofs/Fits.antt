@@ -20,13 +20,13 @@ use Rattle.symtab_json.specs.declared.entries.InstanceEntry.{InstanceEntry}
 use Rattle.symtab_json.specs.declared.entries.SlotEntry.{SlotEntry}
 use Rattle.symtab_json.specs.declared.entries.Entries.{Entries}
 use Rattle.symtab_json.specs.Entries.{is_short, told_count, told_instance, told_items, told_list, told_member, told_node, told_short, told_slot, told_variant}
-use Rattle.symtab_json.specs.Places.{instances_with}
-use Rattle.symtab_json.specs.Judged.{have_paths, told_instances, have_names, told_nodes, list_len, variants_len, has_cells, is_full, are_full, told_slots, is_first, told_top, told_variants, row_outside, cell_outside, ref_outside, slot_outside, instance_outside, outside_list, first_outside, entries_outside, instance_parts, slot_parts}
+use Rattle.symtab_json.specs.Places.{instance_count}
+use Rattle.symtab_json.specs.Judged.{paths_differ, told_instances, names_of_nodes_differ, told_nodes, list_len, variants_len, has_cells, is_full, are_full, told_slots, is_first, told_top, told_variants, row_outside, cell_outside, ref_outside, slot_outside, instance_outside, outside_list, first_outside, entries_outside, instance_parts, slot_parts}
 use Rattle.symtab_json.specs.declared.fault.Part.TheVariants as part
 use Rattle.symtab_json.specs.declared.fault.TableFault.{TableFault}
 use Rattle.symtab_json.specs.declared.fault.TableFault.TheVariants as fault
 use Rattle.symtab_json.specs.Told.{misshapen, by_variants, by_top, by_slots, by_nodes, by_instances, by_version, by_json, told_entries, json_of}
-use Rattle.symtab_json.specs.Fit.{IsFit}
+use Rattle.symtab_json.specs.Fit.{AreTableParts}
 use Rattle.symtab_json.proofs.Found.{kept_parts, and_then_parts, items_told, list_told, short_told, names_differ, all_one, all_two, all_three, all_pass}
 use Rattle.symtab_json.proofs.Rules.{node_read, variant_read, RowRead, SlotRead, slot_read}
 use Rattle.symtab_json.proofs.Outside.{or_none, none_outside, inside_list, ref_found, cell_found}
@@ -125,7 +125,7 @@ row_count variants variant rows count inside e = elim (or_cases (nat_le variants
 ]
 
 slot_fits : (variants : ℕ) (nodes : List NodeName) (instances : List InstanceEntry) (slot : SlotEntry) →
-    SlotRead nodes slot → is_full variants (instances_with instances) slot ≡ true → slot_outside variants (length nodes) slot ≡ None →
+    SlotRead nodes slot → is_full variants (instance_count instances) slot ≡ true → slot_outside variants (length nodes) slot ≡ None →
     IsSlot nodes variants (variants_of (map instance_parts instances)) (slot_parts slot)
 slot_fits variants nodes instances slot told full inside =
     let both = or_none (outside_list variants slot.variant) (first_outside (row_outside (length nodes)) slot.rows) inside in
@@ -167,21 +167,21 @@ variants_are d variants e =
     let told = items_told told_variant (λ v. ⊤) (λ x v is. tt) items.0 variants items.2 in
     ap (λ o. option_map_or list_len o 0) found.1 ∙ ap (λ o. option_map_or items_len o 0) items.1 ∙ sym told.1
 
-entries_fit : (d : Data) (e : Entries) → AreOf d e → entries_outside e ≡ None → IsFit e
+entries_fit : (d : Data) (e : Entries) → AreOf d e → entries_outside e ≡ None → AreTableParts e
 entries_fit d e of inside =
     let both = or_none (first_outside (instance_outside (length e.variants)) e.instances) (first_outside (slot_outside (length e.variants) (length e.nodes)) e.slots) inside in
-    let kept_instances = kept_parts have_paths (told_member (told_short told_instance) (codes "instances") d) e.instances of.instances in
+    let kept_instances = kept_parts paths_differ (told_member (told_short told_instance) (codes "instances") d) e.instances of.instances in
     let instances_at = and_then_parts (told_short told_instance) (get (codes "instances") d) e.instances kept_instances.0 in
     let instances_told = short_told told_instance (λ i. ⊤) (λ x i is. tt) instances_at.0 e.instances instances_at.2 in
-    let kept_nodes = kept_parts have_names (told_member (told_list told_node) (codes "nodes") d) e.nodes of.nodes in
+    let kept_nodes = kept_parts names_of_nodes_differ (told_member (told_list told_node) (codes "nodes") d) e.nodes of.nodes in
     let nodes_at = and_then_parts (told_list told_node) (get (codes "nodes") d) e.nodes kept_nodes.0 in
     let nodes_told = list_told told_node (λ node. IsWidth node.width) node_read nodes_at.0 e.nodes nodes_at.2 in
-    let kept_slots = kept_parts (are_full (variants_len d) (instances_with e.instances)) (told_member (told_short (told_slot e.nodes)) (codes "slots") d) e.slots of.slots in
+    let kept_slots = kept_parts (are_full (variants_len d) (instance_count e.instances)) (told_member (told_short (told_slot e.nodes)) (codes "slots") d) e.slots of.slots in
     let slots_at = and_then_parts (told_short (told_slot e.nodes)) (get (codes "slots") d) e.slots kept_slots.0 in
     let slots_told = short_told (told_slot e.nodes) (SlotRead e.nodes) (slot_read e.nodes) slots_at.0 e.slots slots_at.2 in
     let count = variants_are d e.variants of.variants in
-    let full : AllByRecursion (λ slot. is_full (length e.variants) (instances_with e.instances) slot ≡ true) e.slots =
-    subst (λ n. AllByRecursion (λ slot. is_full n (instances_with e.instances) slot ≡ true) e.slots) count (all_pass (is_full (variants_len d) (instances_with e.instances)) e.slots kept_slots.1) in
+    let full : AllByRecursion (λ slot. is_full (length e.variants) (instance_count e.instances) slot ≡ true) e.slots =
+    subst (λ n. AllByRecursion (λ slot. is_full n (instance_count e.instances) slot ≡ true) e.slots) count (all_pass (is_full (variants_len d) (instance_count e.instances)) e.slots kept_slots.1) in
     let variants_at = and_then_parts (told_short told_variant) (get (codes "variants") d) e.variants of.variants in
     let variants_told = short_told told_variant (λ v. AreGens v.gens) variant_read variants_at.0 e.variants variants_at.2 in
     let top = kept_parts (is_first e.instances) (told_member _ (codes "top") d) e.top of.top in
@@ -189,7 +189,7 @@ entries_fit d e of inside =
     let instances_inside : AllByRecursion (λ i. i.variant < length e.variants) e.instances =
     all_one (λ i none. inside_list (length e.variants) i.variant none) e.instances (none_outside (instance_outside (length e.variants)) e.instances both.0) in
     let slots_inside = none_outside (slot_outside (length e.variants) (length e.nodes)) e.slots both.1 in
-    let slots = all_three (SlotRead e.nodes) (λ slot. is_full (length e.variants) (instances_with e.instances) slot ≡ true) (λ slot. slot_outside (length e.variants) (length e.nodes) slot ≡ None)
+    let slots = all_three (SlotRead e.nodes) (λ slot. is_full (length e.variants) (instance_count e.instances) slot ≡ true) (λ slot. slot_outside (length e.variants) (length e.nodes) slot ≡ None)
     (λ slot. IsSlot e.nodes (length e.variants) (variants_of (map instance_parts e.instances)) (slot_parts slot))
     (slot_fits (length e.variants) e.nodes e.instances) e.slots slots_told.0 full slots_inside in
     record {
@@ -210,5 +210,5 @@ entries_fit d e of inside =
     }
 
 -- the entries of a text
-pub text_fits : (text : List ℕ) (e : Entries) → told_entries text ≡ Ok e → entries_outside e ≡ None → IsFit e
+pub text_fits : (text : List ℕ) (e : Entries) → told_entries text ≡ Ok e → entries_outside e ≡ None → AreTableParts e
 text_fits text e told inside = let of = of_text (nat_lt (2 ^ 26) (length text)) text e told in entries_fit of.0 e of.1 inside

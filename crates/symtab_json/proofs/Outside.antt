@@ -10,7 +10,7 @@ use Rattle.bv_core.specs.declared.Binding.TheVariants.{Value, Unset, Removed}
 use Rattle.symtab.specs.Shape.{IsFound, IsCell}
 use Rattle.symtab.specs.declared.parts.NodeName.{NodeName}
 use Rattle.symtab_json.specs.declared.entries.Outside.{Outside}
-use Rattle.symtab_json.specs.Entries.{width_at}
+use Rattle.symtab_json.specs.Entries.{told_width_at}
 use Rattle.symtab_json.specs.Judged.{outside_list, first_outside, ref_outside, cell_outside}
 use Rattle.symtab_json.proofs.Rules.{RefRead, CellRead}
 
@@ -35,7 +35,7 @@ get_inside [] i h = absurd (omega arith)
 get_inside (x ∷ xs) zero h = (x, refl)
 get_inside (x ∷ xs) (suc i) h = get_inside xs i (omega arith)
 
-width_found : (nodes : List NodeName) (id width : ℕ) (node : NodeName) → slice_get nodes id ≡ Some node → width ≡ width_at nodes id → option_map (λ (n : NodeName). n.width) (slice_get nodes id) ≡ Some width
+width_found : (nodes : List NodeName) (id width : ℕ) (node : NodeName) → slice_get nodes id ≡ Some node → width ≡ told_width_at nodes id → option_map (λ (n : NodeName). n.width) (slice_get nodes id) ≡ Some width
 width_found nodes id width node found is =
     ap (option_map (λ (n : NodeName). n.width)) found ∙ ap Some (sym (is ∙ ap (λ o. option_map_or (λ (n : NodeName). n.width) o 1) found))
 

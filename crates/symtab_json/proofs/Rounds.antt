@@ -18,7 +18,7 @@ use Rattle.serde_json.specs.View.{items_of}
 use Rattle.serde_json.specs.Written.{outline, items_outline, members_outline, compact_text, items_text, members_text, comma_if}
 use Rattle.serde_json.proofs.Texts.{print-outline}
 use Rattle.serde_json.proofs.Numbers.{number_of-decimal, number_of-negative}
-use Rattle.symtab_json.specs.Files.{count_tree, list_tree, pair_tree}
+use Rattle.symtab_json.specs.Files.{count_json, list_json, pair_json}
 use Rattle.symtab_json.specs.Told.{json_of}
 
 -- a value whose JSON is read as the value, is UTF-8, and nests so deep at most
@@ -45,7 +45,7 @@ pub record RoundMembers (n : ℕ) (ms : Members) : Type 0 where
 pub round_string : (n : ℕ) (s : List ℕ) → IsUtf8 s → Round n (string s)
 round_string n s u = record { back = refl; numbers = tt; utf8 = IsUtf8-quoted s u; deep = omega arith }
 
-pub round_count : (n k : ℕ) → k < 2 ^ 64 → Round n (count_tree k)
+pub round_count : (n k : ℕ) → k < 2 ^ 64 → Round n (count_json k)
 round_count n k h = record { back = ap (option_map number) (number_of-decimal k h); numbers = IsNumber-decimal k h; utf8 = IsUtf8-from_ascii _ (IsAscii-decimal k h); deep = omega arith }
 
 pub round_integer : (n : ℕ) (z : ℤ) → mag z < 2 ^ 63 → Round n (number (of_integer z))
@@ -86,10 +86,10 @@ round_items : {A : Type 0} (n : ℕ) (tree : A → Data) (xs : List A) → AllBy
 round_items n tree [] h = round_none n
 round_items n tree (x ∷ xs) h = round_item n (tree x) (items_of (map tree xs)) h.0 (round_items n tree xs h.1)
 
-pub round_list : {A : Type 0} (n : ℕ) (tree : A → Data) (xs : List A) → AllByRecursion (λ x. Round n (tree x)) xs → Round (suc n) (list_tree tree xs)
+pub round_list : {A : Type 0} (n : ℕ) (tree : A → Data) (xs : List A) → AllByRecursion (λ x. Round n (tree x)) xs → Round (suc n) (list_json tree xs)
 round_list n tree xs h = round_array n (items_of (map tree xs)) (round_items n tree xs h)
 
-pub round_pair : (n : ℕ) (first second : Data) → Round n first → Round n second → Round (suc n) (pair_tree first second)
+pub round_pair : (n : ℕ) (first second : Data) → Round n first → Round n second → Round (suc n) (pair_json first second)
 round_pair n first second p q = round_array n (item first (item second no_items)) (round_item n first (item second no_items) p (round_item n second no_items q (round_none n)))
 
 -- ---- objects

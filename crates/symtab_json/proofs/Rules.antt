@@ -20,7 +20,7 @@ use Rattle.serde_json.specs.Data.{Data}
 use Rattle.serde_json.specs.Find.{get, as_str, as_number, as_i64}
 use Rattle.symtab_json.specs.declared.entries.SlotEntry.{SlotEntry}
 use Rattle.symtab_json.specs.Literals.{told_literal}
-use Rattle.symtab_json.specs.Entries.{node_of, gen_of, variant_of, row_of, slot_of, mark_of, told_count, is_width, told_width, is_line, told_line, is_gen_number, told_gen_number, told_two, told_node, told_gen, told_variant, width_at, told_ref, told_cell, is_bit, told_on, told_row, told_short, told_member, told_slot}
+use Rattle.symtab_json.specs.Entries.{made_node, made_gen, made_variant, made_row, made_slot, told_mark, told_count, is_node_width, told_width, is_line, told_line, is_gen_number, told_gen_number, told_two, told_node, told_gen, told_variant, told_width_at, told_ref, told_cell, is_one_wide, told_on, told_row, told_short, told_member, told_slot}
 use Rattle.symtab_json.proofs.Found.{kept_parts, and_then_parts, short_told}
 
 -- ---- nodes, generator variables, variants
@@ -28,26 +28,26 @@ use Rattle.symtab_json.proofs.Found.{kept_parts, and_then_parts, short_told}
 as_test : (b : Bool) → b ≡ true → T b
 as_test b e = subst (λ c. T c) (sym e) tt
 
-node_width : (name : Option (List ℕ)) (width : Option ℕ) (node : NodeName) → node_of name width ≡ Some node → width ≡ Some node.width
+node_width : (name : Option (List ℕ)) (width : Option ℕ) (node : NodeName) → made_node name width ≡ Some node → width ≡ Some node.width
 node_width None width node e = absurd (cc)
 node_width (Some name) None node e = absurd (cc)
 node_width (Some name) (Some width) node e = let same : record { name = name; width = width } ≡ node = cc in ap (λ (n : NodeName). Some n.width) same
 
 pub node_read : (d : Data) (node : NodeName) → told_node d ≡ Some node → IsWidth node.width
 node_read d node e =
-    let found = and_then_parts (λ two. node_of (as_str two.0) (told_width two.1)) (told_two d) node e in
-    let kept = kept_parts is_width (told_count found.0.1) node.width (node_width (as_str found.0.0) (told_width found.0.1) node found.2) in
+    let found = and_then_parts (λ two. made_node (as_str two.0) (told_width two.1)) (told_two d) node e in
+    let kept = kept_parts is_node_width (told_count found.0.1) node.width (node_width (as_str found.0.0) (told_width found.0.1) node found.2) in
     let parts = and_parts _ _ kept.1 in
     record { some = leb-true 1 node.width parts.0; most = leb-true node.width 128 parts.1 }
 
-gen_value : (name : Option (List ℕ)) (number : Option ℤ) (gen' : GenVariable) → gen_of name number ≡ Some gen' → number ≡ Some gen'.value
+gen_value : (name : Option (List ℕ)) (number : Option ℤ) (gen' : GenVariable) → made_gen name number ≡ Some gen' → number ≡ Some gen'.value
 gen_value None number gen' e = absurd (cc)
 gen_value (Some name) None gen' e = absurd (cc)
 gen_value (Some name) (Some number) gen' e = let same : record { name = name; value = number } ≡ gen' = cc in ap (λ (g : GenVariable). Some g.value) same
 
 gen_read : (d : Data) (gen' : GenVariable) → told_gen d ≡ Some gen' → IsGenNumber gen'.value
 gen_read d gen' e =
-    let found = and_then_parts (λ two. gen_of (as_str two.0) (told_gen_number two.1)) (told_two d) gen' e in
+    let found = and_then_parts (λ two. made_gen (as_str two.0) (told_gen_number two.1)) (told_two d) gen' e in
     let kept = kept_parts is_gen_number (option_and_then as_i64 (as_number found.0.1)) gen'.value (gen_value (as_str found.0.0) (told_gen_number found.0.1) gen' found.2) in
     let parts = and_parts _ _ kept.1 in
     record { least = le_z_yes (as_test _ parts.0); most = le_z_yes (as_test _ parts.1) }
@@ -57,20 +57,20 @@ gens_read d gens e =
     let told = short_told told_gen (λ gen'. IsGenNumber gen'.value) gen_read d gens e in
     record { short = told.1; numbers = All-from_recursion (λ gen'. IsGenNumber gen'.value) gens told.0 }
 
-variant_gens : (name : Option (List ℕ)) (gens : Option (List GenVariable)) (variant : VariantParts) → variant_of name gens ≡ Some variant → gens ≡ Some variant.gens
+variant_gens : (name : Option (List ℕ)) (gens : Option (List GenVariable)) (variant : VariantParts) → made_variant name gens ≡ Some variant → gens ≡ Some variant.gens
 variant_gens None gens variant e = absurd (cc)
 variant_gens (Some name) None variant e = absurd (cc)
 variant_gens (Some name) (Some gens) variant e = let same : record { «module» = name; gens = gens } ≡ variant = cc in ap (λ (v : VariantParts). Some v.gens) same
 
 pub variant_read : (d : Data) (variant : VariantParts) → told_variant d ≡ Some variant → AreGens variant.gens
 variant_read d variant e =
-    let found = and_then_parts (λ two. variant_of (as_str two.0) (told_short told_gen two.1)) (told_two d) variant e in
+    let found = and_then_parts (λ two. made_variant (as_str two.0) (told_short told_gen two.1)) (told_two d) variant e in
     gens_read found.0.1 variant.gens (variant_gens (as_str found.0.0) (told_short told_gen found.0.1) variant found.2)
 
 -- ---- rows, whose nodes are told with the widths that the nodes have
 
 abbrev pub RefRead : List NodeName → Ref → Type 0
-RefRead nodes (Node id width) = width ≡ width_at nodes id.0
+RefRead nodes (Node id width) = width ≡ told_width_at nodes id.0
 RefRead nodes (Const bits) = ⊤
 
 abbrev pub CellRead : List NodeName → Binding → Type 0
@@ -85,8 +85,8 @@ pub record RowRead (nodes : List NodeName) (row : Row) : Type 0 where
   pub cells : AllByRecursion (CellRead nodes) row.cells
 
 ref_of : (nodes : List NodeName) (id : Option ℕ) (bits : Option Bits) (at : Ref) →
-    option_or (option_map (λ n. Node (record { 0 = n }) (width_at nodes n)) id) (option_map Const bits) ≡ Some at → RefRead nodes at
-ref_of nodes (Some id) bits at e = let same : Node (record { 0 = id }) (width_at nodes id) ≡ at = cc in subst (RefRead nodes) same refl
+    option_or (option_map (λ n. Node (record { 0 = n }) (told_width_at nodes n)) id) (option_map Const bits) ≡ Some at → RefRead nodes at
+ref_of nodes (Some id) bits at e = let same : Node (record { 0 = id }) (told_width_at nodes id) ≡ at = cc in subst (RefRead nodes) same refl
 ref_of nodes None (Some bits) at e = let same : Const bits ≡ at = cc in subst (RefRead nodes) same tt
 ref_of nodes None None at e = absurd (cc)
 
@@ -106,11 +106,11 @@ cell_of nodes None None cell marked found e = absurd (cc)
 
 pub cell_read : (nodes : List NodeName) (d : Data) (cell : Binding) → told_cell nodes d ≡ Some cell → CellRead nodes cell
 cell_read nodes d cell e =
-    cell_of nodes (option_and_then mark_of (as_str d)) (told_ref nodes d) cell
-    (λ c is. let found = and_then_parts mark_of (as_str d) c is in mark_read_at nodes _ _ c found.2)
+    cell_of nodes (option_and_then told_mark (as_str d)) (told_ref nodes d) cell
+    (λ c is. let found = and_then_parts told_mark (as_str d) c is in mark_read_at nodes _ _ c found.2)
     (λ r is. ref_read nodes d r is) e
 
-row_parts : (on : Option Ref) (cells : Option (List Binding)) (row : Row) → row_of on cells ≡ Some row → (on ≡ Some row.on) × (cells ≡ Some row.cells)
+row_parts : (on : Option Ref) (cells : Option (List Binding)) (row : Row) → made_row on cells ≡ Some row → (on ≡ Some row.on) × (cells ≡ Some row.cells)
 row_parts None cells row e = absurd (cc)
 row_parts (Some on) None row e = absurd (cc)
 row_parts (Some on) (Some cells) row e =
@@ -120,7 +120,7 @@ pub row_read : (nodes : List NodeName) (d : Data) (row : Row) → told_row nodes
 row_read nodes d row e =
     let parts = row_parts (told_member (told_on nodes) (codes "on") d) (told_member (told_short (told_cell nodes)) (codes "cells") d) row e in
     let on = and_then_parts (told_on nodes) (get (codes "on") d) row.on parts.0 in
-    let kept = kept_parts is_bit (told_ref nodes on.0) row.on on.2 in
+    let kept = kept_parts is_one_wide (told_ref nodes on.0) row.on on.2 in
     let cells = and_then_parts (told_short (told_cell nodes)) (get (codes "cells") d) row.cells parts.1 in
     let told = short_told (told_cell nodes) (CellRead nodes) (cell_read nodes) cells.0 row.cells cells.2 in
     record { on = ref_read nodes on.0 row.on kept.0; bit = eqb-true (width_of row.on) 1 kept.1; short = told.1; cells = told.0 }
@@ -141,7 +141,7 @@ record SlotParts (line : Option ℕ) (gens : Option (List GenVariable)) (names :
   pub rows_are : rows ≡ Some slot.rows
 
 slot_split : (variant line : Option ℕ) (gens : Option (List GenVariable)) (names : Option (List (List ℕ))) (rows : Option (List Row)) (slot : SlotEntry) →
-    slot_of variant line gens names rows ≡ Some slot → SlotParts line gens names rows slot
+    made_slot variant line gens names rows ≡ Some slot → SlotParts line gens names rows slot
 slot_split None line gens names rows slot e = absurd (cc)
 slot_split (Some variant) None gens names rows slot e = absurd (cc)
 slot_split (Some variant) (Some line) None names rows slot e = absurd (cc)

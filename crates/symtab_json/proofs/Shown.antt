@@ -12,7 +12,7 @@ use Rattle.std.proofs.Math.Pow.{pow_mono}
 use Rattle.text_core.specs.Digits.{digit_of, is_digit_of, number_of}
 use Rattle.bv_core.specs.Value.{Bits, IsBits}
 use Rattle.bv_core.specs.Text.{hex_digit, hex_digits, shown}
-use Rattle.symtab_json.specs.Literals.{is_bits, width_len, value_of, value_around, value_in, if_shown, told_literal}
+use Rattle.symtab_json.specs.Literals.{is_bits, width_len, literal_of_width, literal_around, literal_in, if_shown, told_literal}
 
 digit_is : (d : ℕ) → d < 10 → digit_of (48 + d) ≡ d
 digit_is d l = grind (arith, nat_tests)
@@ -70,7 +70,7 @@ bits_yes b h = and_all _ _ _ (le-leb 1 b.width h.some) (le-leb b.width 128 h.mos
     and_all true false z p q r = absurd (cc)
     and_all false y z p q r = absurd (cc)
 
-value_back : (b : Bits) → IsBits b → value_in (shown b) ≡ Some b
+value_back : (b : Bits) → IsBits b → literal_in (shown b) ≡ Some b
 value_back b h =
     let digits = decimal b.width in
     let hex = hex_digits ((b.width + 3) / 4) b.value in
@@ -84,9 +84,9 @@ value_back b h =
     let value : number_of 16 hex ≡ b.value = hex_back ((b.width + 3) / 4) b.value room in
     let front : take (width_len text) text ≡ digits = ap (λ n. take n text) count ∙ take_at digits (39 ∷ 104 ∷ hex) (length digits) refl in
     let tail : drop (width_len text) text ≡ 39 ∷ 104 ∷ hex = ap (λ n. drop n text) count ∙ drop_at digits (39 ∷ 104 ∷ hex) (length digits) refl in
-    let whole : value_of b.width hex ≡ Some b = ap (λ v. cond (is_bits (record { width = b.width; value = v })) (Some (record { width = b.width; value = v })) None) value
+    let whole : literal_of_width b.width hex ≡ Some b = ap (λ v. cond (is_bits (record { width = b.width; value = v })) (Some (record { width = b.width; value = v })) None) value
     ∙ ap (λ t. cond t (Some b) None) (bits_yes b h) in
-    ap value_in split ∙ ap₂ value_around front tail ∙ ap (λ w. value_of w hex) width ∙ whole
+    ap literal_in split ∙ ap₂ literal_around front tail ∙ ap (λ w. literal_of_width w hex) width ∙ whole
 
 pub literal_back : (b : Bits) → IsBits b → told_literal (shown b) ≡ Some b
 literal_back b h = ap (option_and_then (if_shown (shown b))) (value_back b h) ∙ ap (λ t. cond t (Some b) None) ((bytes_eq-Decides (shown b) (shown b)).1 refl)

@@ -8,8 +8,8 @@ use Rattle.symtab.specs.declared.parts.TableParts.{TableParts}
 use Rattle.symtab_json.specs.declared.entries.Entries.{Entries}
 use Rattle.symtab_json.specs.declared.entries.Outside.{Outside}
 use Rattle.symtab_json.specs.declared.fault.TableFault.{TableFault}
-use Rattle.symtab_json.specs.Judged.{entries_outside, parts_of}
-use Rattle.symtab_json.specs.Literals.{value_in, if_shown, told_literal}
+use Rattle.symtab_json.specs.Judged.{entries_outside, told_parts}
+use Rattle.symtab_json.specs.Literals.{literal_in, if_shown, told_literal}
 use Rattle.symtab_json.specs.Told.{by_entries, by_numbers, told_entries}
 use Rattle.symtab_json.specs.Laws.{LiteralsAreShown, TablesAreTold}
 use Rattle.symtab_json.proofs.Fits.{text_fits}
@@ -24,10 +24,10 @@ shown_of text None bits e = absurd (cc)
 shown_of text (Some found) bits e = shown_at (bytes_eq (shown found) text) text found bits refl e
 
 pub literals_are_shown : LiteralsAreShown
-literals_are_shown text bits h = (λ e. shown_of text (value_in text) bits e, λ e. ap told_literal e ∙ literal_back bits h)
+literals_are_shown text bits h = (λ e. shown_of text (literal_in text) bits e, λ e. ap told_literal e ∙ literal_back bits h)
 
 table_at : (text : List ℕ) (e : Entries) (outside : Option Outside) (parts : TableParts) → told_entries text ≡ Ok e → entries_outside e ≡ outside → by_numbers e outside ≡ Ok parts → IsTable parts
-table_at text e None parts told inside h = let same : parts_of e ≡ parts = cc in subst IsTable same (text_fits text e told inside).table
+table_at text e None parts told inside h = let same : told_parts e ≡ parts = cc in subst IsTable same (text_fits text e told inside).table
 table_at text e (Some o) parts told inside h = absurd (cc)
 
 table_of : (text : List ℕ) (told : Result Entries TableFault) (parts : TableParts) → told_entries text ≡ told → by_entries told ≡ Ok parts → IsTable parts

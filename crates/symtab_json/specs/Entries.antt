@@ -22,9 +22,9 @@ kept_if test None = None
 kept_if test (Some x) = if test x then Some x else None
 
 -- two that were found
-abbrev pub both : {A B : Type 0} → Option A → Option B → Option (A × B)
-both None found = None
-both (Some x) found = option_map (λ y. (x, y)) found
+abbrev pub two_found : {A B : Type 0} → Option A → Option B → Option (A × B)
+two_found None found = None
+two_found (Some x) found = option_map (λ y. (x, y)) found
 
 -- ---- numbers and lists
 
@@ -33,11 +33,11 @@ abbrev pub told_count : Data → Option ℕ
 told_count d = option_and_then as_u64 (as_number d)
 
 -- a width: from 1 to 128
-abbrev pub is_width : ℕ → Bool
-is_width n = nat_le 1 n && nat_le n 128
+abbrev pub is_node_width : ℕ → Bool
+is_node_width n = nat_le 1 n && nat_le n 128
 
 abbrev pub told_width : Data → Option ℕ
-told_width d = kept_if is_width (told_count d)
+told_width d = kept_if is_node_width (told_count d)
 
 -- a line: below 2^30
 abbrev pub is_line : ℕ → Bool
@@ -75,7 +75,7 @@ told_short told d = kept_if is_short (told_list told d)
 
 -- a list of exactly two
 abbrev pub told_two : Data → Option (Data × Data)
-told_two d = if is_some (at 2 d) then None else both (at 0 d) (at 1 d)
+told_two d = if is_some (at 2 d) then None else two_found (at 0 d) (at 1 d)
 
 -- the member of an object that has this key; of two of one key the last
 abbrev pub told_member : {A : Type 0} → (Data → Option A) → List ℕ → Data → Option A
@@ -83,83 +83,83 @@ told_member told key d = option_and_then told (get key d)
 
 -- ---- the entries of the lists
 
-abbrev pub node_of : Option (List ℕ) → Option ℕ → Option NodeName
-node_of None width = None
-node_of (Some name) None = None
-node_of (Some name) (Some width) = Some (record { name = name; width = width })
+abbrev pub made_node : Option (List ℕ) → Option ℕ → Option NodeName
+made_node None width = None
+made_node (Some name) None = None
+made_node (Some name) (Some width) = Some (record { name = name; width = width })
 
 abbrev pub told_node : Data → Option NodeName
-told_node d = option_and_then (λ two. node_of (as_str two.0) (told_width two.1)) (told_two d)
+told_node d = option_and_then (λ two. made_node (as_str two.0) (told_width two.1)) (told_two d)
 
-abbrev pub gen_of : Option (List ℕ) → Option ℤ → Option GenVariable
-gen_of None number = None
-gen_of (Some name) None = None
-gen_of (Some name) (Some number) = Some (record { name = name; value = number })
+abbrev pub made_gen : Option (List ℕ) → Option ℤ → Option GenVariable
+made_gen None number = None
+made_gen (Some name) None = None
+made_gen (Some name) (Some number) = Some (record { name = name; value = number })
 
 abbrev pub told_gen : Data → Option GenVariable
-told_gen d = option_and_then (λ two. gen_of (as_str two.0) (told_gen_number two.1)) (told_two d)
+told_gen d = option_and_then (λ two. made_gen (as_str two.0) (told_gen_number two.1)) (told_two d)
 
-abbrev pub variant_of : Option (List ℕ) → Option (List GenVariable) → Option VariantParts
-variant_of None gens = None
-variant_of (Some name) None = None
-variant_of (Some name) (Some gens) = Some (record { «module» = name; gens = gens })
+abbrev pub made_variant : Option (List ℕ) → Option (List GenVariable) → Option VariantParts
+made_variant None gens = None
+made_variant (Some name) None = None
+made_variant (Some name) (Some gens) = Some (record { «module» = name; gens = gens })
 
 abbrev pub told_variant : Data → Option VariantParts
-told_variant d = option_and_then (λ two. variant_of (as_str two.0) (told_short told_gen two.1)) (told_two d)
+told_variant d = option_and_then (λ two. made_variant (as_str two.0) (told_short told_gen two.1)) (told_two d)
 
-abbrev pub instance_of : Option (List ℕ) → Option ℕ → Option InstanceEntry
-instance_of None variant = None
-instance_of (Some path) None = None
-instance_of (Some path) (Some variant) = Some (record { path = path; variant = variant })
+abbrev pub made_instance : Option (List ℕ) → Option ℕ → Option InstanceEntry
+made_instance None variant = None
+made_instance (Some path) None = None
+made_instance (Some path) (Some variant) = Some (record { path = path; variant = variant })
 
 abbrev pub told_instance : Data → Option InstanceEntry
-told_instance d = option_and_then (λ two. instance_of (as_str two.0) (told_count two.1)) (told_two d)
+told_instance d = option_and_then (λ two. made_instance (as_str two.0) (told_count two.1)) (told_two d)
 
 -- ---- slots, over the nodes
 
 -- the width of a node. One that is not there is taken to have width 1, so that no rule on widths is broken by it: its
 -- number is judged for itself
-abbrev pub width_at : List NodeName → ℕ → ℕ
-width_at nodes id = option_map_or (λ node. node.width) (slice_get nodes id) 1
+abbrev pub told_width_at : List NodeName → ℕ → ℕ
+told_width_at nodes id = option_map_or (λ node. node.width) (slice_get nodes id) 1
 
 -- a node by its number, or a literal
 abbrev pub told_ref : List NodeName → Data → Option Ref
 told_ref nodes d =
-    option_or (option_map (λ id. Node (record { 0 = id }) (width_at nodes id)) (told_count d))
+    option_or (option_map (λ id. Node (record { 0 = id }) (told_width_at nodes id)) (told_count d))
     (option_map Const (option_and_then told_literal (as_str d)))
 
 -- a word in place of a value
-abbrev pub mark_of : List ℕ → Option Binding
-mark_of text = if bytes_eq text (codes "unset") then Some Unset else if bytes_eq text (codes "removed") then Some Removed else None
+abbrev pub told_mark : List ℕ → Option Binding
+told_mark text = if bytes_eq text (codes "unset") then Some Unset else if bytes_eq text (codes "removed") then Some Removed else None
 
 abbrev pub told_cell : List NodeName → Data → Option Binding
-told_cell nodes d = option_or (option_and_then mark_of (as_str d)) (option_map Value (told_ref nodes d))
+told_cell nodes d = option_or (option_and_then told_mark (as_str d)) (option_map Value (told_ref nodes d))
 
 -- a value of width 1
-abbrev pub is_bit : Ref → Bool
-is_bit at = width_of at == 1
+abbrev pub is_one_wide : Ref → Bool
+is_one_wide at = width_of at == 1
 
 abbrev pub told_on : List NodeName → Data → Option Ref
-told_on nodes d = kept_if is_bit (told_ref nodes d)
+told_on nodes d = kept_if is_one_wide (told_ref nodes d)
 
-abbrev pub row_of : Option Ref → Option (List Binding) → Option Row
-row_of None cells = None
-row_of (Some on) None = None
-row_of (Some on) (Some cells) = Some (record { on = on; cells = cells })
+abbrev pub made_row : Option Ref → Option (List Binding) → Option Row
+made_row None cells = None
+made_row (Some on) None = None
+made_row (Some on) (Some cells) = Some (record { on = on; cells = cells })
 
 abbrev pub told_row : List NodeName → Data → Option Row
-told_row nodes d = row_of (told_member (told_on nodes) (codes "on") d) (told_member (told_short (told_cell nodes)) (codes "cells") d)
+told_row nodes d = made_row (told_member (told_on nodes) (codes "on") d) (told_member (told_short (told_cell nodes)) (codes "cells") d)
 
-abbrev pub slot_of : Option ℕ → Option ℕ → Option (List GenVariable) → Option (List (List ℕ)) → Option (List Row) → Option SlotEntry
-slot_of None line gens names rows = None
-slot_of (Some variant) None gens names rows = None
-slot_of (Some variant) (Some line) None names rows = None
-slot_of (Some variant) (Some line) (Some gens) None rows = None
-slot_of (Some variant) (Some line) (Some gens) (Some names) None = None
-slot_of (Some variant) (Some line) (Some gens) (Some names) (Some rows) =
+abbrev pub made_slot : Option ℕ → Option ℕ → Option (List GenVariable) → Option (List (List ℕ)) → Option (List Row) → Option SlotEntry
+made_slot None line gens names rows = None
+made_slot (Some variant) None gens names rows = None
+made_slot (Some variant) (Some line) None names rows = None
+made_slot (Some variant) (Some line) (Some gens) None rows = None
+made_slot (Some variant) (Some line) (Some gens) (Some names) None = None
+made_slot (Some variant) (Some line) (Some gens) (Some names) (Some rows) =
     Some (record { variant = variant; line = line; gens = gens; names = names; rows = rows })
 
 abbrev pub told_slot : List NodeName → Data → Option SlotEntry
 told_slot nodes d =
-    slot_of (told_member told_count (codes "variant") d) (told_member told_line (codes "line") d) (told_member (told_short told_gen) (codes "gens") d)
+    made_slot (told_member told_count (codes "variant") d) (told_member told_line (codes "line") d) (told_member (told_short told_gen) (codes "gens") d)
     (told_member (told_short as_str) (codes "names") d) (told_member (told_short (told_row nodes)) (codes "rows") d)

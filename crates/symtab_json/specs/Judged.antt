@@ -20,23 +20,23 @@ use Rattle.symtab_json.specs.declared.entries.SlotEntry.{SlotEntry}
 use Rattle.symtab_json.specs.declared.entries.Entries.{Entries}
 use Rattle.symtab_json.specs.declared.entries.Outside.{Outside}
 use Rattle.symtab_json.specs.Entries.{kept_if, told_instance, told_list, told_member, told_node, told_short, told_slot, told_variant}
-use Rattle.symtab_json.specs.Places.{are_apart, instances_with}
+use Rattle.symtab_json.specs.Places.{are_apart, instance_count}
 
 -- ---- the rules of each part
 
 -- the paths differ
-abbrev pub have_paths : List InstanceEntry → Bool
-have_paths instances = are_apart (map (λ instance. instance.path) instances)
+abbrev pub paths_differ : List InstanceEntry → Bool
+paths_differ instances = are_apart (map (λ instance. instance.path) instances)
 
 abbrev pub told_instances : Data → Option (List InstanceEntry)
-told_instances d = kept_if have_paths (told_member (told_short told_instance) (codes "instances") d)
+told_instances d = kept_if paths_differ (told_member (told_short told_instance) (codes "instances") d)
 
 -- the names differ
-abbrev pub have_names : List NodeName → Bool
-have_names nodes = are_apart (map (λ node. node.name) nodes)
+abbrev pub names_of_nodes_differ : List NodeName → Bool
+names_of_nodes_differ nodes = are_apart (map (λ node. node.name) nodes)
 
 abbrev pub told_nodes : Data → Option (List NodeName)
-told_nodes d = kept_if have_names (told_member (told_list told_node) (codes "nodes") d)
+told_nodes d = kept_if names_of_nodes_differ (told_member (told_list told_node) (codes "nodes") d)
 
 -- how many entries a list has; none where it is no list
 abbrev pub list_len : Data → ℕ
@@ -62,7 +62,7 @@ are_full variants instances slots = list_all (is_full variants instances) slots
 
 abbrev pub told_slots : Data → List InstanceEntry → List NodeName → Option (List SlotEntry)
 told_slots d instances nodes =
-    kept_if (are_full (variants_len d) (instances_with instances)) (told_member (told_short (told_slot nodes)) (codes "slots") d)
+    kept_if (are_full (variants_len d) (instance_count instances)) (told_member (told_short (told_slot nodes)) (codes "slots") d)
 
 -- an instance with this path
 abbrev pub has_path : List ℕ → InstanceEntry → Bool
@@ -123,8 +123,8 @@ instance_parts instance = record { path = instance.path; variant = instance.vari
 abbrev pub slot_parts : SlotEntry → Slot
 slot_parts slot = record { variant = slot.variant; line = slot.line; gens = slot.gens; names = slot.names; rows = slot.rows }
 
-abbrev pub parts_of : Entries → TableParts
-parts_of e = record {
+abbrev pub told_parts : Entries → TableParts
+told_parts e = record {
   top = e.top;
   nodes = e.nodes;
   variants = e.variants;

@@ -14,16 +14,16 @@ abbrev pub width_len : List ℕ → ℕ
 width_len text = prefix_len (is_digit_of 10) text
 
 -- the value of this width that digits to base 16 stand for, where it is one
-abbrev pub value_of : ℕ → List ℕ → Option Bits
-value_of width digits =
+abbrev pub literal_of_width : ℕ → List ℕ → Option Bits
+literal_of_width width digits =
     if is_bits (record { width = width; value = number_of 16 digits }) then Some (record { width = width; value = number_of 16 digits }) else None
 
 -- the value whose width stands before 'h, and whose number stands behind it
-abbrev pub value_around : List ℕ → List ℕ → Option Bits
-value_around digits tail = if starts_with nat_eq tail (codes "'h") then value_of (number_of 10 digits) (drop 2 tail) else None
+abbrev pub literal_around : List ℕ → List ℕ → Option Bits
+literal_around digits tail = if starts_with nat_eq tail (codes "'h") then literal_of_width (number_of 10 digits) (drop 2 tail) else None
 
-abbrev pub value_in : List ℕ → Option Bits
-value_in text = value_around (take (width_len text) text) (drop (width_len text) text)
+abbrev pub literal_in : List ℕ → Option Bits
+literal_in text = literal_around (take (width_len text) text) (drop (width_len text) text)
 
 -- a value, if it is printed as this text
 abbrev pub if_shown : List ℕ → Bits → Option Bits
@@ -31,4 +31,4 @@ if_shown text b = if bytes_eq (shown b) text then Some b else None
 
 -- the value that is printed as this text
 abbrev pub told_literal : List ℕ → Option Bits
-told_literal text = option_and_then (if_shown text) (value_in text)
+told_literal text = option_and_then (if_shown text) (literal_in text)

@@ -16,14 +16,14 @@ are_new before (text ∷ texts) = not (has before text) && are_new (before ++ te
 abbrev pub are_apart : List (List ℕ) → Bool
 are_apart texts = are_new [] texts
 
--- the numbers that were counted, and how often
-abbrev pub Counts : Type 0
-Counts = HashMap ℕ ℕ (BuildHasherDefault FoldHasher)
+-- the numbers that were times_counted, and how often
+abbrev pub VariantCounts : Type 0
+VariantCounts = HashMap ℕ ℕ (BuildHasherDefault FoldHasher)
 
--- how often a number was counted
-abbrev pub counted : Counts → ℕ → ℕ
-counted counts number = unwrap_or (get nat_eq counts number) 0
+-- how often a number was times_counted
+abbrev pub times_counted : VariantCounts → ℕ → ℕ
+times_counted counts number = unwrap_or (get nat_eq counts number) 0
 
 -- how many of these instances have a variant
-abbrev pub instances_with : List InstanceEntry → ℕ → ℕ
-instances_with instances variant = length (places variant (map (λ instance. instance.variant) instances))
+abbrev pub instance_count : List InstanceEntry → ℕ → ℕ
+instance_count instances variant = length (places variant (map (λ instance. instance.variant) instances))

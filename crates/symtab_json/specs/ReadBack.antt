@@ -43,7 +43,7 @@ pub record SlotIsText (slot : Slot) : Type 0 where
   pub names : AllByRecursion IsUtf8 slot.names
   pub rows : AllByRecursion RowIsValue slot.rows
 
--- all names are UTF-8 and all literals are values, as every `Bv` is; and the nodes are counted by 64 bits, as every list is
+-- all names are UTF-8 and all literals are values, as every `Bv` is; and the nodes are times_counted by 64 bits, as every list is
 pub record AreTexts (parts : TableParts) : Type 0 where
   pub top : IsUtf8 parts.top
   pub few : length parts.nodes < 2 ^ 64

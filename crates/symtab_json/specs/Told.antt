@@ -16,7 +16,7 @@ use Rattle.symtab_json.specs.declared.fault.Part.TheVariants as part
 use Rattle.symtab_json.specs.declared.fault.TableFault.{TableFault}
 use Rattle.symtab_json.specs.declared.fault.TableFault.TheVariants as fault
 use Rattle.symtab_json.specs.Entries.{told_count, told_member}
-use Rattle.symtab_json.specs.Judged.{told_instances, told_nodes, told_slots, told_top, told_variants, entries_outside, parts_of}
+use Rattle.symtab_json.specs.Judged.{told_instances, told_nodes, told_slots, told_top, told_variants, entries_outside, told_parts}
 
 -- ---- the parts, in the order of their names: the first that breaks a rule of shape is the fault
 
@@ -69,7 +69,7 @@ told_entries text = if nat_lt (2 ^ 26) (length text) then Err fault.TooLong else
 -- ---- and the numbers go last
 
 abbrev pub by_numbers : Entries → Option Outside → Result TableParts TableFault
-by_numbers e None = Ok (parts_of e)
+by_numbers e None = Ok (told_parts e)
 by_numbers e (Some outside) = Err (fault.BadReference outside.id outside.size)
 
 abbrev pub by_entries : Result Entries TableFault → Result TableParts TableFault

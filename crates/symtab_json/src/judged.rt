@@ -4,7 +4,7 @@
 ghost use Rattle.std.specs.Prelude.{◌≡◌, ◌||◌, ◌==◌, List, ℕ, IfOk, map, nat_le};
 ghost use Rattle.std.specs.List.{list_all};
 ghost use Rattle.symtab_json.specs.Judged.{are_full, has_cells, is_first, is_full};
-ghost use Rattle.symtab_json.specs.Places.{are_apart, counted, instances_with};
+ghost use Rattle.symtab_json.specs.Places.{are_apart, times_counted, instance_count};
 
 use crate::entries::{InstanceEntry, SlotEntry};
 use names::NameSet;
@@ -64,7 +64,7 @@ pub(crate) fn counts_of(
     alloc: Global,
     instances: &[InstanceEntry],
 ) -> Result<HashMap<u64, u64>, NoMemory>
-    ensures { IfOk result (λ counts. counted counts ≡ instances_with instances.now) }
+    ensures { IfOk result (λ counts. times_counted counts ≡ instance_count instances.now) }
 {
     let mut counts: HashMap<u64, u64> = HashMap::new(alloc);
     for instance in instances {
@@ -76,7 +76,7 @@ pub(crate) fn counts_of(
 
 /// Whether a variant that is one of so many has as many instances as this.
 fn has_rows(variants: usize, counts: &HashMap<u64, u64>, variant: u64, rows: usize) -> bool
-    ensures { result ≡ (nat_le variants variant || rows == counted counts.now variant) }
+    ensures { result ≡ (nat_le variants variant || rows == times_counted counts.now variant) }
 {
     variants as u64 <= variant || rows as u64 == counts.get(&variant).copied().unwrap_or(0)
 }
@@ -96,7 +96,7 @@ fn is_full(
     counts: &HashMap<u64, u64>,
     slot: &SlotEntry,
 ) -> Result<bool, NoMemory>
-    ensures { IfOk result (λ full. full ≡ is_full variants (counted counts.now) slot.now) }
+    ensures { IfOk result (λ full. full ≡ is_full variants (times_counted counts.now) slot.now) }
 {
     let rows = slot.rows.items();
     if !has_rows(variants, counts, slot.variant, rows.len()) {
@@ -116,7 +116,7 @@ pub(crate) fn are_full(
     counts: &HashMap<u64, u64>,
     slots: &[SlotEntry],
 ) -> Result<bool, NoMemory>
-    ensures { IfOk result (λ full. full ≡ are_full variants (counted counts.now) slots.now) }
+    ensures { IfOk result (λ full. full ≡ are_full variants (times_counted counts.now) slots.now) }
 {
     for slot in slots {
         if !is_full(alloc, variants, counts, slot)? {

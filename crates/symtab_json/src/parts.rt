@@ -6,7 +6,7 @@ ghost use Rattle.bv_core.specs.declared.Binding.{Binding};
 ghost use Rattle.symtab.specs.declared.parts.Row.{Row};
 ghost use Rattle.serde_json.specs.Data.{number, string};
 ghost use Rattle.serde_json.specs.Find.{of_integer};
-ghost use Rattle.symtab_json.specs.Files.{count_tree, list_tree, node_tree, gen_tree, variant_tree, instance_tree, ref_tree, cell_tree, row_tree, slot_tree, table_tree};
+ghost use Rattle.symtab_json.specs.Files.{count_json, list_json, node_json, gen_json, variant_json, instance_json, ref_json, cell_json, row_json, slot_json, table_json};
 
 use crate::quoted::push_quoted;
 use crate::written::{Written, push_count, push_list, push_member, push_pair};
@@ -17,7 +17,7 @@ use symtab::{GenVariable, InstanceParts, NodeName, Row, Slot, TableParts, Varian
 use text_core::{Listed, NoMemory, Text};
 
 impl Written for u8 {
-    ghost tree = { count_tree };
+    ghost tree = { count_json };
 
     fn write(&self, _alloc: Global, text: &mut Vec<u8>) -> Result<(), NoMemory> {
         push_count(text, u64::from(*self))
@@ -25,7 +25,7 @@ impl Written for u8 {
 }
 
 impl Written for u32 {
-    ghost tree = { count_tree };
+    ghost tree = { count_json };
 
     fn write(&self, _alloc: Global, text: &mut Vec<u8>) -> Result<(), NoMemory> {
         push_count(text, u64::from(*self))
@@ -50,7 +50,7 @@ impl Written for Text {
 }
 
 impl<T: Written> Written for Listed<T> {
-    ghost tree = { λ items. list_tree (λ item. T.tree item) items };
+    ghost tree = { λ items. list_json (λ item. T.tree item) items };
 
     fn write(&self, alloc: Global, text: &mut Vec<u8>) -> Result<(), NoMemory> {
         push_list(alloc, text, self.items())
@@ -58,7 +58,7 @@ impl<T: Written> Written for Listed<T> {
 }
 
 impl Written for NodeName {
-    ghost tree = { node_tree };
+    ghost tree = { node_json };
 
     fn write(&self, alloc: Global, text: &mut Vec<u8>) -> Result<(), NoMemory> {
         push_pair(alloc, text, &self.name, &self.width)
@@ -66,7 +66,7 @@ impl Written for NodeName {
 }
 
 impl Written for GenVariable {
-    ghost tree = { gen_tree };
+    ghost tree = { gen_json };
 
     fn write(&self, alloc: Global, text: &mut Vec<u8>) -> Result<(), NoMemory> {
         push_pair(alloc, text, &self.name, &self.value)
@@ -74,7 +74,7 @@ impl Written for GenVariable {
 }
 
 impl Written for VariantParts {
-    ghost tree = { variant_tree };
+    ghost tree = { variant_json };
 
     fn write(&self, alloc: Global, text: &mut Vec<u8>) -> Result<(), NoMemory> {
         push_pair(alloc, text, &self.module, &self.gens)
@@ -82,7 +82,7 @@ impl Written for VariantParts {
 }
 
 impl Written for InstanceParts {
-    ghost tree = { instance_tree };
+    ghost tree = { instance_json };
 
     fn write(&self, alloc: Global, text: &mut Vec<u8>) -> Result<(), NoMemory> {
         push_pair(alloc, text, &self.path, &self.variant)
@@ -90,7 +90,7 @@ impl Written for InstanceParts {
 }
 
 impl Written for Ref {
-    ghost tree = { ref_tree };
+    ghost tree = { ref_json };
 
     fn write(&self, alloc: Global, text: &mut Vec<u8>) -> Result<(), NoMemory> {
         match *self {
@@ -101,7 +101,7 @@ impl Written for Ref {
 }
 
 impl Written for Binding {
-    ghost tree = { cell_tree };
+    ghost tree = { cell_json };
 
     fn write(&self, alloc: Global, text: &mut Vec<u8>) -> Result<(), NoMemory> {
         match self {
@@ -113,7 +113,7 @@ impl Written for Binding {
 }
 
 impl Written for Row {
-    ghost tree = { row_tree };
+    ghost tree = { row_json };
 
     fn write(&self, alloc: Global, text: &mut Vec<u8>) -> Result<(), NoMemory> {
         text.push(b'{')?;
@@ -125,7 +125,7 @@ impl Written for Row {
 }
 
 impl Written for Slot {
-    ghost tree = { slot_tree };
+    ghost tree = { slot_json };
 
     fn write(&self, alloc: Global, text: &mut Vec<u8>) -> Result<(), NoMemory> {
         text.push(b'{')?;
@@ -140,7 +140,7 @@ impl Written for Slot {
 }
 
 impl Written for TableParts {
-    ghost tree = { table_tree };
+    ghost tree = { table_json };
 
     fn write(&self, alloc: Global, text: &mut Vec<u8>) -> Result<(), NoMemory> {
         text.push(b'{')?;

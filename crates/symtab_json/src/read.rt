@@ -3,8 +3,8 @@
 
 ghost use Rattle.std.specs.Prelude.{◌≡◌, Ok, IfOk, IfErr, Option, option_map, Some};
 ghost use Rattle.serde_json.specs.View.{view};
-ghost use Rattle.symtab_json.specs.Judged.{told_instances, told_nodes, told_slots, told_top, list_len, variants_len, parts_of};
-ghost use Rattle.symtab_json.specs.Fit.{IsFit};
+ghost use Rattle.symtab_json.specs.Judged.{told_instances, told_nodes, told_slots, told_top, list_len, variants_len, told_parts};
+ghost use Rattle.symtab_json.specs.Fit.{AreTableParts};
 ghost use Rattle.symtab_json.specs.Told.{IsFaultOf, by_instances, by_slots, json_of, told_entries, told_table, told_tree};
 
 use crate::entries::{Entries, InstanceEntry, SlotEntry};
@@ -221,8 +221,8 @@ fn read_entries(alloc: Global, text: &[u8]) -> Result<Entries, TableFault>
 
 /// The table of entries that keep the rules of shape, all of whose numbers are in their lists.
 fn table_of(alloc: Global, entries: Entries) -> Result<Table, NoMemory>
-    requires { IsFit entries }
-    ensures { IfOk result (λ table. table ≡ parts_of entries) }
+    requires { AreTableParts entries }
+    ensures { IfOk result (λ table. table ≡ told_parts entries) }
 {
     let parts = TableParts {
         top: entries.top,

@@ -2,7 +2,7 @@
 
 ghost use Rattle.std.specs.Prelude.{◌≡◌, IfOk, codes};
 ghost use Rattle.serde_json.specs.View.{view};
-ghost use Rattle.symtab_json.specs.Entries.{mark_of, told_cell, told_gen, told_instance, told_line, told_member, told_node, told_on, told_ref, told_row, told_slot, told_variant, width_at};
+ghost use Rattle.symtab_json.specs.Entries.{told_mark, told_cell, told_gen, told_instance, told_line, told_member, told_node, told_on, told_ref, told_row, told_slot, told_variant, told_width_at};
 
 use crate::entries::{InstanceEntry, SlotEntry};
 use crate::literal::literal;
@@ -86,8 +86,8 @@ impl Told for InstanceEntry {
 }
 
 /// The width of a node; 1 where there is no such node.
-fn width_at(nodes: &[NodeName], id: u64) -> u8
-    ensures { result ≡ width_at nodes.now id }
+fn told_width_at(nodes: &[NodeName], id: u64) -> u8
+    ensures { result ≡ told_width_at nodes.now id }
 {
     match nodes.get(id as usize) {
         Some(node) => node.width,
@@ -100,7 +100,7 @@ impl Told for Ref {
 
     fn read(alloc: Global, nodes: &[NodeName], value: &Value) -> Result<Option<Self>, NoMemory> {
         if let Some(id) = value.as_u64() {
-            return Ok(Some(Ref::Node(NodeId(id), width_at(nodes, id))));
+            return Ok(Some(Ref::Node(NodeId(id), told_width_at(nodes, id))));
         }
         let Some(text) = value.as_str() else {
             return Ok(None);
@@ -110,8 +110,8 @@ impl Told for Ref {
 }
 
 /// What a word stands for that is no value.
-fn mark_of(text: &str) -> Option<Binding>
-    ensures { result ≡ mark_of text.now }
+fn told_mark(text: &str) -> Option<Binding>
+    ensures { result ≡ told_mark text.now }
 {
     if text == "unset" {
         Some(Binding::Unset)
@@ -126,7 +126,7 @@ impl Told for Binding {
     ghost told = { told_cell };
 
     fn read(alloc: Global, nodes: &[NodeName], value: &Value) -> Result<Option<Self>, NoMemory> {
-        if let Some(mark) = value.as_str().and_then(mark_of) {
+        if let Some(mark) = value.as_str().and_then(told_mark) {
             return Ok(Some(mark));
         }
         Ok(Ref::read(alloc, nodes, value)?.map(Binding::Value))

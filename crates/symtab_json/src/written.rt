@@ -7,7 +7,7 @@ ghost use Rattle.serde_json.specs.Data.{Data};
 ghost use Rattle.serde_json.specs.Find.{of_integer};
 ghost use Rattle.serde_json.specs.View.{items_of};
 ghost use Rattle.serde_json.specs.Written.{comma_if, compact_text, items_text};
-ghost use Rattle.symtab_json.specs.Files.{count_tree, list_tree, pair_tree, symbols_text};
+ghost use Rattle.symtab_json.specs.Files.{count_json, list_json, pair_json, symbols_text};
 
 use crate::quoted::push_quoted;
 use itoa::Buffer;
@@ -26,7 +26,7 @@ pub trait Written {
 
 /// Adds a whole number.
 pub(crate) fn push_count(text: &mut Vec<u8>, number: u64) -> Result<(), NoMemory>
-    ensures { OnOk result (text.new.items ≡ text.old.items ++ compact_text (count_tree number)) }
+    ensures { OnOk result (text.new.items ≡ text.old.items ++ compact_text (count_json number)) }
 {
     text.extend_from_slice(Buffer::new().format(number).as_bytes())?;
     Ok(())
@@ -49,7 +49,7 @@ pub(crate) fn push_pair<A: Written, B: Written>(
     first: &A,
     second: &B,
 ) -> Result<(), NoMemory>
-    ensures { OnOk result (text.new.items ≡ text.old.items ++ compact_text (pair_tree (A.tree first.now) (B.tree second.now))) }
+    ensures { OnOk result (text.new.items ≡ text.old.items ++ compact_text (pair_json (A.tree first.now) (B.tree second.now))) }
 {
     text.push(b'[')?;
     first.write(alloc, text)?;
@@ -95,7 +95,7 @@ pub(crate) fn push_list<T: Written>(
     text: &mut Vec<u8>,
     items: &[T],
 ) -> Result<(), NoMemory>
-    ensures { OnOk result (text.new.items ≡ text.old.items ++ compact_text (list_tree (λ item. T.tree item) items.now)) }
+    ensures { OnOk result (text.new.items ≡ text.old.items ++ compact_text (list_json (λ item. T.tree item) items.now)) }
 {
     text.push(b'[')?;
     push_items(alloc, text, items)
