@@ -1,3 +1,4 @@
 pub mod Keeps
 pub mod Ends
 pub mod Nearest
+pub mod Readers

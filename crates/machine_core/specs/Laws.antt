@@ -7,7 +7,7 @@ use Rattle.machine_core.specs.declared.turn.Motion.TheVariants.{Idle, Running}
 use Rattle.trace_core.specs.declared.scan.Way.{Way}
 use Rattle.trace_core.specs.declared.scan.Want.{Want}
 use Rattle.machine_core.specs.Positions.{position_count, end_place, ahead}
-use Rattle.machine_core.specs.Reading.{Reader}
+use Rattle.machine_core.specs.Reading.{Reading, IsReading, Reader, IsReader}
 use Rattle.machine_core.specs.Machine.{Machine, Turn, stopped_at, edge_turn, Refused, asked_outcome, answer_of, counted}
 use Rattle.machine_core.specs.Journal.{Entry, journal_output, batch_output, until_idle, notices_of}
 use Rattle.machine_core.specs.Matching.{matches}
@@ -42,3 +42,8 @@ nearest_ahead w m way want = find (matches w m.breakpoints want) (ahead (positio
 abbrev pub RunsToTheNearest : Type 0
 RunsToTheNearest = (w : World) (m : Machine) (way : Way) (want : Want) → m.motion ≡ Running way want → m.place ≤ end_place w
     → until_idle w m ≡ record { after = (comes_to w m way (nearest_ahead w m way want)).after; lines = notices_of w (comes_to w m way (nearest_ahead w m way want)).turned }
+
+-- each text is read in one way, so there is one reader
+pub record HaveOneReading : Type 0 where
+  pub some : (read : Reader) × IsReader read
+  pub one : (text : List ℕ) (r s : Reading) → IsReading text r → IsReading text s → r ≡ s

@@ -1,6 +1,6 @@
 //! Laws of the machine, over the definitions alone.
 
-ghost use Rattle.machine_core.specs.Laws.{AnswersAlike, RefusedChangeNothing, MovesByTurnsAlone, BatchesEnd, RunsToTheNearest};
+ghost use Rattle.machine_core.specs.Laws.{AnswersAlike, RefusedChangeNothing, MovesByTurnsAlone, BatchesEnd, RunsToTheNearest, HaveOneReading};
 ghost use Rattle.machine_core.specs.Sample.{table_f_is_debugged};
 
 /// The law that over worlds that differ in nothing that can be seen every journal has one output, and every batch. Computes
@@ -29,6 +29,12 @@ pub fn batches_end()
 /// does, however many turns that takes, and that nothing else is told on the way. Computes nothing.
 pub fn runs_to_the_nearest()
     ensures { RunsToTheNearest }
+{}
+
+/// The law that each text is read as a condition in one way, or stops being one at one place: so there is one reader. Computes
+/// nothing.
+pub fn texts_have_one_reading()
+    ensures { HaveOneReading }
 {}
 
 /// A session over a small world, from the definitions, as it was worked by hand. Computes nothing.

@@ -14,7 +14,7 @@ mod utf8;
 
 pub use laws::{
     batches_end, moves_by_turns_alone, refused_requests_change_nothing, runs_to_the_nearest,
-    same_worlds_answer_alike, table_f_is_debugged,
+    same_worlds_answer_alike, table_f_is_debugged, texts_have_one_reading,
 };
 pub use reply::{At, Body, Going, Reply, Shown};
 pub use request::{Asked, BadText, Cmd, Request};
