@@ -1,0 +1,3 @@
+pub mod Armed
+pub mod Waiting
+pub mod Scan
