@@ -5,4 +5,5 @@ pub mod Order
 pub mod Ready
 pub mod Searched
 pub mod Tests
+pub mod Turns
 pub mod Values

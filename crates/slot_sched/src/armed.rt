@@ -17,8 +17,8 @@ pub(crate) struct Trap {
     pub(crate) cond: Option<Cond>,
 }
 
-/// An armed breakpoint: its number, its slots, the instance that was named, if one was, the text of its condition, if there is one,
-/// and where it waits.
+/// An armed breakpoint: its number, its slots, the instance that was named, if one was, the text of its condition, if there is
+/// one, and where it waits.
 #[derive(Drop)]
 pub(crate) struct Armed {
     pub(crate) number: u64,

@@ -87,8 +87,8 @@ impl Schedule {
         }
     }
 
-    /// The number of the breakpoint at this place, counted from 0, in the order in which they were armed. None exactly where no more
-    /// are armed. Takes no memory.
+    /// The number of the breakpoint at this place, counted from 0: the numbers rise, in the order in which they were armed. None
+    /// exactly where no more are armed. Takes no memory.
     pub fn armed(&self, i: usize) -> Option<u64>
         ensures { result ≡ option_map (λ b. b.number) (slice_get (breakpoints self.now) i) }
     {
@@ -232,8 +232,8 @@ impl Schedule {
         None
     }
 
-    /// The nearest match from a place, which is 0 for the start and a position plus one otherwise; or whether the end or the start is
-    /// reached. It looks at 64 positions at most, seeks each cycle of theirs once, and takes no memory.
+    /// The nearest match from a place, which is 0 for the start and a position plus one otherwise; or whether the end or the
+    /// start is reached. It looks at 64 positions at most, seeks each cycle of theirs once, and takes no memory.
     pub fn search<T: Trace>(
         &self,
         table: &Table,
@@ -266,8 +266,8 @@ impl Schedule {
         }
     }
 
-    /// The nearest match from a position, where -1 is the start and the number of positions is the end; or whether the end or the start
-    /// is reached. It looks at 64 positions at most, seeks each cycle of theirs once, and takes no memory.
+    /// The nearest match from a position, where -1 is the start and the number of positions is the end; or whether the end or
+    /// the start is reached. It looks at 64 positions at most, seeks each cycle of theirs once, and takes no memory.
     pub fn scan<T: Trace>(
         &self,
         table: &Table,
