@@ -1,0 +1,44 @@
+-- Lists of breakpoints from which one is taken.
+use Rattle.std.proofs.Common.{◌≡◌, ℕ, ◌+◌, ◌≤◌, ◌==◌, ◌||◌, Bool, true, false, cond, not, List, [], ◌∷◌, ◌++◌, map, filter, refl, ap, arith}
+use Rattle.std.specs.List.{list_any}
+use Rattle.machine_core.specs.Matching.{Breakpoint}
+use Rattle.machine_core.specs.Machine.{has_number}
+use Rattle.slot_sched.specs.declared.armed.Armed.{Armed}
+use Rattle.slot_sched.specs.Armed.{breakpoint_of, AreRising}
+
+abbrev pub others : ℕ → Armed → Bool
+others bp a = not (a.number == bp)
+
+pub others_mapped : (bp : ℕ) (armed : List Armed) → map breakpoint_of (filter (others bp) armed) ≡ filter (λ b. not (has_number bp b)) (map breakpoint_of armed)
+others_mapped bp [] = refl
+others_mapped bp (a ∷ armed) = by_test (others bp a) _ _ (others_mapped bp armed)
+  where
+    by_test : (b : Bool) (xs : List Armed) (ys : List Breakpoint) → map breakpoint_of xs ≡ ys → map breakpoint_of (cond b (a ∷ xs) xs) ≡ cond b (breakpoint_of a ∷ ys) ys
+    by_test true xs ys e = ap (λ l. breakpoint_of a ∷ l) e
+    by_test false xs ys e = e
+
+pub all_others : (bp : ℕ) (bs : List Breakpoint) → list_any (has_number bp) bs ≡ false → filter (λ b. not (has_number bp b)) bs ≡ bs
+all_others bp [] e = refl
+all_others bp (b ∷ bs) e = by_test (has_number bp b) (list_any (has_number bp) bs) e (filter (λ c. not (has_number bp c)) bs) (all_others bp bs)
+  where
+    by_test : (t rest : Bool) → (t || rest) ≡ false → (xs : List Breakpoint) → (rest ≡ false → xs ≡ bs) → cond (not t) (b ∷ xs) xs ≡ b ∷ bs
+    by_test true rest e xs h = cc
+    by_test false rest e xs h = ap (λ l. b ∷ l) (h e)
+
+-- ---- rising numbers
+
+rising_from : (low least : ℕ) (xs : List ℕ) (next : ℕ) → low ≤ least → AreRising least xs next → AreRising low xs next
+rising_from low least [] next l h = omega (arith, l, h)
+rising_from low least (x ∷ xs) next l h = (omega (arith, l, h.0), h.1)
+
+pub rising_kept : (test : Breakpoint → Bool) (least : ℕ) (bs : List Breakpoint) (next : ℕ) → AreRising least (map (λ b. b.number) bs) next → AreRising least (map (λ b. b.number) (filter test bs)) next
+rising_kept test least [] next h = h
+rising_kept test least (b ∷ bs) next h = by_test (test b) (filter test bs) (rising_kept test (b.number + 1) bs next h.1)
+  where
+    by_test : (t : Bool) (xs : List Breakpoint) → AreRising (b.number + 1) (map (λ c. c.number) xs) next → AreRising least (map (λ c. c.number) (cond t (b ∷ xs) xs)) next
+    by_test true xs more = (h.0, more)
+    by_test false xs more = rising_from least (b.number + 1) (map (λ c. c.number) xs) next (omega (arith, h.0)) more
+
+pub rising_more : (least : ℕ) (xs : List ℕ) (next : ℕ) → AreRising least xs next → AreRising least (xs ++ next ∷ []) (next + 1)
+rising_more least [] next h = (h, omega arith)
+rising_more least (x ∷ xs) next h = (h.0, rising_more (x + 1) xs next h.1)

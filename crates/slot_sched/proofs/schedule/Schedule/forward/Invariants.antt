@@ -1,0 +1,12 @@
+use Rattle.std.proofs.Common.{◌≡◌, ◌-◌, Some, find}
+use Rattle.std.specs.Prelude.{IfSome}
+use Rattle.list_core.specs.Lists.{from}
+use Rattle.slot_sched.specs.Scan.{position_stops}
+use Rattle.slot_sched.proofs.schedule.Schedule.forward.Given as goal
+
+abbrev pub invariant-loop-p : goal.invariant-loop-p
+invariant-loop-p g l =
+    (g.T.Trace.samples l.trace ≡ g.T.Trace.samples l.fn.trace)
+    × (find (position_stops l.table (g.T.Trace.samples l.fn.trace) l.self.armed.items l.want) (from l.first (l.end - l.first))
+    ≡ find (position_stops l.table (g.T.Trace.samples l.fn.trace) l.self.armed.items l.want) (from l.p (l.end - l.p)))
+    × IfSome l.stands (λ at. g.T.Trace.cursor l.trace ≡ Some at)

@@ -1,0 +1,73 @@
+-- The breakpoints that a schedule holds, and when they are those of a table.
+use Rattle.std.specs.Prelude.{◌≡◌, ℕ, ◌+◌, ◌<◌, ◌≤◌, ◌==◌, Bool, List, [], ◌∷◌, length, map, filter, Option, Some, None, Ok, option_map, All, Contains}
+use Rattle.std.specs.List.{flat_map}
+use Rattle.symtab.specs.declared.parts.TableParts.{TableParts}
+use Rattle.symtab.specs.Lookups.{instances_of, binding_of}
+use Rattle.cond_lang.specs.declared.cond.Cond.{Cond}
+use Rattle.cond_lang.specs.declared.text.CondText.{CondText}
+use Rattle.cond_lang.specs.Bound.{scope_of, bound_by}
+use Rattle.cond_lang.specs.Judged.{judged}
+use Rattle.cond_lang.specs.Shown.{cond_tree, cond_width}
+use Rattle.cond_lang.specs.TextShown.{text_expr, text_offsets}
+use Rattle.machine_core.specs.Matching.{Breakpoint, is_wanted}
+use Rattle.slot_sched.specs.declared.armed.Trap.{Trap}
+use Rattle.slot_sched.specs.declared.armed.Armed.{Armed}
+use Rattle.slot_sched.specs.declared.schedule.Schedule.{Schedule}
+
+-- ---- what a schedule holds
+
+abbrev pub breakpoint_of : Armed → Breakpoint
+breakpoint_of a = record { number = a.number; slots = a.slots.items; instance = a.instance; condition = option_map text_expr a.text }
+
+-- the breakpoints, in the order in which they were armed
+abbrev pub breakpoints : Schedule → List Breakpoint
+breakpoints s = map breakpoint_of s.armed.items
+
+-- the number of the next one
+abbrev pub next_number : Schedule → ℕ
+next_number s = s.given + 1
+
+abbrev pub is_number : ℕ → Armed → Bool
+is_number bp a = a.number == bp
+
+-- numbers that rise, from the least on and below the next
+abbrev pub AreRising : (least : ℕ) → List ℕ → (next : ℕ) → Type 0
+AreRising least [] next = least ≤ next
+AreRising least (x ∷ xs) next = (least ≤ x) × AreRising (x + 1) xs next
+
+-- the numbers of the breakpoints rise, from 1 on, and are below that of the next one; so no number is given twice
+abbrev pub AreInOrder : Schedule → Type 0
+AreInOrder s = AreRising 1 (map (λ b. b.number) (breakpoints s)) (next_number s)
+
+-- ---- of a table
+
+-- the instances that have one of these slots, slot after slot, in preorder; where one was named, that one alone
+abbrev pub traps_of : TableParts → Option ℕ → List ℕ → List (ℕ × ℕ)
+traps_of parts named slots = flat_map (λ k. map (λ i. (k, i)) (filter (is_wanted named) (instances_of parts k))) slots
+
+abbrev pub trap_place : Trap → ℕ × ℕ
+trap_place t = (t.slot, t.instance)
+
+-- a condition of width 1 is the text's, with its names found at a slot of an instance, where each has a value; there is none where
+-- there is no text
+abbrev pub IsBoundAt : TableParts → (slot instance : ℕ) → Option CondText → Option Cond → Type 0
+IsBoundAt parts k i None None = Unit {0}
+IsBoundAt parts k i None (Some cond) = ⊥
+IsBoundAt parts k i (Some text) None = ⊥
+IsBoundAt parts k i (Some text) (Some cond) =
+    (cond_width cond ≡ 1) × (cond_tree cond ≡ bound_by (binding_of parts k i) (text_expr text))
+    × (judged (scope_of (binding_of parts k i)) (text_expr text) (text_offsets text) ≡ Ok 1)
+
+pub record IsTrap (parts : TableParts) (text : Option CondText) (t : Trap) : Type 0 where
+  pub slot : t.slot < length parts.slots
+  pub instance : Contains (instances_of parts t.slot) t.instance
+  pub bound : IsBoundAt parts t.slot t.instance text t.cond
+
+-- a breakpoint waits at each instance that it was armed for, and at no other
+pub record IsArmed (parts : TableParts) (a : Armed) : Type 0 where
+  pub places : map trap_place a.traps.items ≡ traps_of parts a.instance a.slots.items
+  pub each : All (IsTrap parts a.text) a.traps.items
+
+-- the breakpoints are of this table: their slots, instances and bound names are what is found in it
+abbrev pub AreOf : TableParts → Schedule → Type 0
+AreOf parts s = All (IsArmed parts) s.armed.items

@@ -1,0 +1,5 @@
+pub mod Armed
+pub mod Waiting
+pub mod Scan
+pub mod Laws
+pub mod Sample

@@ -1,0 +1,15 @@
+//! The breakpoints of a debugger, and the search for the next position that one of them, or a step, stops at.
+//!
+//! A search looks at as many positions as one turn of a session. What it looks for is defined in `machine_core`, over the world
+//! that a table and a trace tell; `specs/Waiting.antt` has what this crate looks at instead, slot by slot.
+#![tactic(auto)]
+
+mod armed;
+mod found;
+mod laws;
+mod sampled;
+mod schedule;
+
+pub use found::Found;
+pub use laws::{sample_is_searched, turns_by_search};
+pub use schedule::Schedule;

@@ -1,0 +1,77 @@
+//! What a trace shows in the cycle at which it stands.
+
+ghost use Rattle.std.specs.Prelude.{◌≡◌, ◌<◌, Contains};
+ghost use Rattle.symtab.specs.Lookups.{instances_of};
+ghost use Rattle.trace_core.specs.Known.{known, is_one};
+ghost use Rattle.trace_world.specs.Fitting.{FitsTable};
+ghost use Rattle.slot_sched.specs.Waiting.{cycle_samples, IsSet, IsValue, IsTest, is_thread, is_true, test_holds};
+
+use bv_core::{NodeId, Ref, Sample, Truth};
+use cond_lang::{Cond, truth};
+use symtab::Table;
+use trace_core::Trace;
+
+/// The sample of a node.
+fn sample_at<T: Trace>(trace: &T, node: NodeId) -> Sample
+    requires set { IsSet (T.samples trace.now) (T.cursor trace.now) }
+    requires node { node.0 < (T.samples trace.now).nodes }
+    ensures sample { result ≡ cycle_samples (T.samples trace.now) (T.cursor trace.now) node.0 }
+    ensures value { IsValue result }
+{
+    let sample = trace.value(node);
+    if let Sample::Known(value) = sample {
+        let _width = value.width();
+    }
+    sample
+}
+
+/// Whether a sample is known and is 1.
+fn is_one(sample: Sample) -> bool
+    ensures { result ≡ is_one (known sample) }
+{
+    match sample {
+        Sample::Known(value) => value.value() == 1,
+        Sample::Unknown => false,
+    }
+}
+
+/// Whether an instance has a slot as a thread.
+pub(crate) fn is_thread<T: Trace>(table: &Table, trace: &T, slot: u32, instance: u32) -> bool
+    requires fits { FitsTable table.now (T.samples trace.now) }
+    requires set { IsSet (T.samples trace.now) (T.cursor trace.now) }
+    requires instance { Contains (instances_of table.now slot) instance }
+    ensures { result ≡ is_thread table.now (cycle_samples (T.samples trace.now) (T.cursor trace.now)) slot instance }
+{
+    match table.enable(slot, instance) {
+        Ref::Node(node, _) => is_one(sample_at(trace, node)),
+        Ref::Const(value) => value.value() == 1,
+    }
+}
+
+/// Whether a condition is true.
+fn is_true(truth: Truth) -> bool
+    ensures { result ≡ is_true truth }
+{
+    match truth {
+        Truth::True => true,
+        Truth::False | Truth::Unknown => false,
+    }
+}
+
+/// Whether there is no condition, or it is known and true.
+pub(crate) fn test_holds<T: Trace>(trace: &T, cond: &Option<Cond>) -> bool
+    requires set { IsSet (T.samples trace.now) (T.cursor trace.now) }
+    requires test { IsTest (T.samples trace.now) cond.now }
+    ensures { result ≡ test_holds (cycle_samples (T.samples trace.now) (T.cursor trace.now)) cond.now }
+{
+    let Some(cond) = cond else {
+        return true;
+    };
+    let value = |node: NodeId| -> Sample
+        requires set { IsSet (T.samples trace.now) (T.cursor trace.now) }
+        requires node { node.0 < (T.samples trace.now).nodes }
+        ensures sample { result ≡ cycle_samples (T.samples trace.entry.now) (T.cursor trace.entry.now) node.0 }
+        ensures value { IsValue result }
+    { sample_at(trace, node) };
+    is_true(truth(cond, &value))
+}
