@@ -8,8 +8,10 @@ use Rattle.dbg_app.specs.declared.command.Task.TheVariants as tasks
 use Rattle.dbg_app.specs.declared.command.OfDesign as code_alone
 use Rattle.dbg_app.specs.declared.command.OfDesign.TheVariants as alone
 use Rattle.dbg_app.specs.declared.command.OverRows as code_over
+use Rattle.dbg_app.specs.declared.command.Form as code_form
+use Rattle.dbg_app.specs.declared.command.Form.TheVariants as forms
 use Rattle.dbg_app.specs.declared.command.OverRows.TheVariants as over
-use Rattle.dbg_app.specs.Command.{Task, Trail, Verilog, Symbols, Waves, Command, argument_of}
+use Rattle.dbg_app.specs.Command.{Task, Trail, Verilog, Symbols, Waves, Form, Over, Alone, Command, argument_of}
 
 -- what the words from this place on give the top
 abbrev pub given_in : ℕ → List (List ℕ) → Gens
@@ -22,6 +24,10 @@ alone_as alone.Symbols = Symbols
 abbrev pub over_as : code_over.OverRows → Task
 over_as over.Trail = Trail
 over_as over.Waves = Waves
+
+abbrev pub form_as : code_form.Form → Form
+form_as (forms.Alone task) = Alone (alone_as task)
+form_as (forms.Over task) = Over (over_as task)
 
 abbrev pub task_as : code_task.Task → Task
 task_as (tasks.Alone task) = alone_as task

@@ -85,14 +85,27 @@ abbrev pub of_design : Task → List (List ℕ) → Option Command
 of_design task (word ∷ mode ∷ source ∷ top ∷ rest) = option_and_then (command_with task source None top rest) (mode_of mode)
 of_design task words = None
 
--- the commands by their first words: what stands behind the word, and what is asked
+-- what a first word asks: of a design over the rows of a stimulus, which is then named; or of the design alone
+pub data Form : Type 0 where
+  Over : Task → Form
+  Alone : Task → Form
+
+-- the commands by their first words
+abbrev pub form_of : List ℕ → Option Form
+form_of word =
+    if bytes_eq word (codes "trail") then Some (Over Trail) else
+    if bytes_eq word (codes "compile") then Some (Alone Verilog) else
+    if bytes_eq word (codes "symbols") then Some (Alone Symbols) else
+    if bytes_eq word (codes "sim") then Some (Over Waves) else None
+
+-- and by those behind it
+abbrev pub command_by : List (List ℕ) → Form → Option Command
+command_by words (Over task) = over_rows task words
+command_by words (Alone task) = of_design task words
+
 abbrev pub command_of : List (List ℕ) → Option Command
 command_of [] = None
-command_of (word ∷ words) =
-    if bytes_eq word (codes "trail") then over_rows Trail (word ∷ words) else
-    if bytes_eq word (codes "compile") then of_design Verilog (word ∷ words) else
-    if bytes_eq word (codes "symbols") then of_design Symbols (word ∷ words) else
-    if bytes_eq word (codes "sim") then over_rows Waves (word ∷ words) else None
+command_of (word ∷ words) = option_and_then (command_by (word ∷ words)) (form_of word)
 
 -- the names of the files, in the order of the words
 abbrev pub stimulus_names : Option (List ℕ) → List (List ℕ)

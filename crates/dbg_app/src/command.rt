@@ -3,8 +3,8 @@
 ghost use Rattle.std.specs.Prelude.{◌≡◌, ◌<◌, ◌≤◌, length, drop};
 ghost use Rattle.std.specs.Option.{option_map};
 ghost use Rattle.std.specs.List.{list_all};
-ghost use Rattle.dbg_app.specs.Command.{command_of, command_with as the_command_with, has_stimulus as the_has_stimulus, is_argument, mode_of, of_design as the_of_design, over_rows as the_over_rows};
-ghost use Rattle.dbg_app.specs.Asked.{alone_as, command_as, over_as, stimulus_as, task_as};
+ghost use Rattle.dbg_app.specs.Command.{command_of, command_with as the_command_with, form_of as the_form_of, has_stimulus as the_has_stimulus, is_argument, mode_of, of_design as the_of_design, over_rows as the_over_rows};
+ghost use Rattle.dbg_app.specs.Asked.{alone_as, command_as, form_as, over_as, stimulus_as, task_as};
 
 use crate::arguments::argument_of;
 use gen_token::is_name;
@@ -27,6 +27,13 @@ pub(crate) enum OverRows {
     Trail,
     /// The waves of its run.
     Waves,
+}
+
+/// What a first word asks: of a design alone, or over the rows of a stimulus, which is then named.
+#[derive(Clone, Copy)]
+enum Form {
+    Alone(OfDesign),
+    Over(OverRows),
 }
 
 /// What is asked, and the file of the stimulus where one is named.
@@ -133,6 +140,19 @@ fn of_design<'a>(task: OfDesign, words: &'a Words) -> Option<Command<'a>>
     command_with(task, mode, words.word(2), words.word(3), words, 4)
 }
 
+/// What a first word asks, if a command has it.
+fn form_of(word: &str) -> Option<Form>
+    ensures { option_map form_as result ≡ the_form_of word.now }
+{
+    match word {
+        "trail" => Some(Form::Over(OverRows::Trail)),
+        "compile" => Some(Form::Alone(OfDesign::Verilog)),
+        "symbols" => Some(Form::Alone(OfDesign::Symbols)),
+        "sim" => Some(Form::Over(OverRows::Waves)),
+        _ => None,
+    }
+}
+
 /// The command that the words are, if they are one.
 pub(crate) fn read_command<'a>(words: &'a Words) -> Option<Command<'a>>
     ensures { option_map command_as result ≡ command_of words.now }
@@ -140,11 +160,8 @@ pub(crate) fn read_command<'a>(words: &'a Words) -> Option<Command<'a>>
     if words.count() == 0 {
         return None;
     }
-    match words.word(0) {
-        "trail" => over_rows(OverRows::Trail, words),
-        "compile" => of_design(OfDesign::Verilog, words),
-        "symbols" => of_design(OfDesign::Symbols, words),
-        "sim" => over_rows(OverRows::Waves, words),
-        _ => None,
+    match form_of(words.word(0))? {
+        Form::Over(task) => over_rows(task, words),
+        Form::Alone(task) => of_design(task, words),
     }
 }
