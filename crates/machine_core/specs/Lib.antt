@@ -6,3 +6,4 @@ pub mod Machine
 pub mod Journal
 pub mod Sample
 pub mod Laws
+pub mod SampleBatch

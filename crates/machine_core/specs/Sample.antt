@@ -53,10 +53,10 @@ condition = codes "(x == 8'd9)"
 abbrev asks : Cmd → Entry
 asks cmd = Ask (Good (record { id = None; cmd = cmd }))
 
-abbrev reply : ℕ → Body → Line
+abbrev pub reply : ℕ → Body → Line
 reply seq body = Replied (record { seq = seq; id = None; body = body })
 
-abbrev stopped : (cycle slot line threads : ℕ) → List (List ℕ) → Line
+abbrev pub stopped : (cycle slot line threads : ℕ) → List (List ℕ) → Line
 stopped cycle slot line threads paths =
     Noticed (notice.Stopped (record { cycle = cycle; slot = slot; line = line; threads = threads }) [] paths)
 

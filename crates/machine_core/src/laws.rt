@@ -2,6 +2,7 @@
 
 ghost use Rattle.machine_core.specs.Laws.{AnswersAlike, RefusedChangeNothing, MovesByTurnsAlone, BatchesEnd, RunsToTheNearest, HaveOneReading};
 ghost use Rattle.machine_core.specs.Sample.{table_f_is_debugged};
+ghost use Rattle.machine_core.specs.SampleBatch.{batch_a_is_debugged};
 
 /// The law that over worlds that differ in nothing that can be seen every journal has one output, and every batch. Computes
 /// nothing.
@@ -40,4 +41,10 @@ pub fn texts_have_one_reading()
 /// A session over a small world, from the definitions, as it was worked by hand. Computes nothing.
 pub fn table_f_is_debugged()
     ensures { table_f_is_debugged }
+{}
+
+/// A batch over the world of a small design, from the definitions, as it was worked by hand: to a breakpoint, a step, what is shown
+/// there, and back to the start. Computes nothing.
+pub fn batch_a_is_debugged()
+    ensures { batch_a_is_debugged }
 {}
