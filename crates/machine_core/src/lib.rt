@@ -13,8 +13,8 @@ mod turn;
 mod utf8;
 
 pub use laws::{
-    batch_a_is_debugged, batches_end, moves_by_turns_alone, refused_requests_change_nothing, runs_to_the_nearest,
-    same_worlds_answer_alike, table_f_is_debugged, texts_have_one_reading,
+    batch_a_is_debugged, batches_end, moves_by_turns_alone, refused_requests_change_nothing,
+    runs_to_the_nearest, same_worlds_answer_alike, table_f_is_debugged, texts_have_one_reading,
 };
 pub use reply::{At, Body, Going, Reply, Shown};
 pub use request::{Asked, BadText, Cmd, Request};
