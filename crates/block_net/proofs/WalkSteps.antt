@@ -9,8 +9,8 @@ use Rattle.exec_core.specs.Trees.{Row}
 use Rattle.names.specs.Maps.{value_of, put_value}
 use Rattle.block_net.specs.declared.key.Key as code_key
 use Rattle.block_net.specs.declared.key.Key.TheVariants as keys
-use Rattle.block_net.specs.declared.step.Step.{Step}
-use Rattle.block_net.specs.declared.step.Step.TheVariants as steps
+use Rattle.block_net.specs.declared.effect.Effect.{Effect}
+use Rattle.block_net.specs.declared.effect.Effect.TheVariants as effects
 use Rattle.block_net.specs.declared.term.Term.{Term}
 use Rattle.block_net.specs.declared.term.TermId.{TermId}
 use Rattle.block_net.specs.declared.walk.Walk.{Walk}
@@ -139,13 +139,13 @@ put_at_next ns key x y id now next new is same grown =
 
 -- a slot
 pub visited : (old new : Walk) (slot : ℕ) (enable : Option TermId) → Fits old → IsWithin old.terms enable → new.terms ≡ old.terms → env_of new ≡ env_of old → Fits new
-    → new.log.items ≡ old.log.items ++ steps.Slot slot enable ∷ []
+    → new.log.items ≡ old.log.items ++ effects.Slot slot enable ∷ []
     → Walked old new (record { slot = slot; enable = tree_for old.terms enable; before = env_of old } ∷ []) (env_of old)
 visited old new slot enable f w terms env fits log = record {
   fits = fits;
   terms = record { more = []; is = terms ∙ sym (append-nil old.terms) };
   env = env;
-  more = steps.Slot slot enable ∷ [];
+  more = effects.Slot slot enable ∷ [];
   log = log;
   within = (subst (λ ns. IsWithin ns enable) (sym terms) w, tt);
   told = ap (λ ns. record { slot = slot; enable = tree_for ns enable; before = env_of old } ∷ []) terms;
@@ -154,13 +154,13 @@ visited old new slot enable f w terms env fits log = record {
 
 -- a key that is set
 pub set_key : (old new : Walk) (key : code_key.Key) (id : Option TermId) → IsWithin old.terms id → new.terms ≡ old.terms → env_of new ≡ put (key_of key) (tree_for old.terms id) (env_of old) → Fits new
-    → new.log.items ≡ old.log.items ++ steps.Set key id ∷ []
+    → new.log.items ≡ old.log.items ++ effects.Set key id ∷ []
     → Walked old new [] (put (key_of key) (tree_for old.terms id) (env_of old))
 set_key old new key id w terms env fits log = record {
   fits = fits;
   terms = record { more = []; is = terms ∙ sym (append-nil old.terms) };
   env = env;
-  more = steps.Set key id ∷ [];
+  more = effects.Set key id ∷ [];
   log = log;
   within = (subst (λ ns. IsWithin ns id) (sym terms) w, tt);
   told = refl;
@@ -181,38 +181,38 @@ grown_walked old new g = record {
 
 -- ---- one walk after another
 
-rows_more : (old new : List Term) (log : List Step) (trees : Env (Tree Name)) → Extends old new → AreWithin old log → rows_of new log trees ≡ rows_of old log trees
+rows_more : (old new : List Term) (log : List Effect) (trees : Env (Tree Name)) → Extends old new → AreWithin old log → rows_of new log trees ≡ rows_of old log trees
 rows_more old new [] trees e w = refl
-rows_more old new (steps.Set key id ∷ log) trees e w =
+rows_more old new (effects.Set key id ∷ log) trees e w =
     ap (λ t. rows_of new log (put (key_of key) t trees)) (tree_more old new id e w.0) ∙ rows_more old new log (put (key_of key) (tree_for old id) trees) e w.1
-rows_more old new (steps.Slot slot enable ∷ log) trees e w =
+rows_more old new (effects.Slot slot enable ∷ log) trees e w =
     ap₂ (λ (t : Option (Tree Name)) (rows : List Row). record { slot = slot; enable = t; before = trees } ∷ rows) (tree_more old new enable e w.0) (rows_more old new log trees e w.1)
 
-ends_more : (old new : List Term) (log : List Step) (trees : Env (Tree Name)) → Extends old new → AreWithin old log → ends_of new log trees ≡ ends_of old log trees
+ends_more : (old new : List Term) (log : List Effect) (trees : Env (Tree Name)) → Extends old new → AreWithin old log → ends_of new log trees ≡ ends_of old log trees
 ends_more old new [] trees e w = refl
-ends_more old new (steps.Set key id ∷ log) trees e w =
+ends_more old new (effects.Set key id ∷ log) trees e w =
     ap (λ t. ends_of new log (put (key_of key) t trees)) (tree_more old new id e w.0) ∙ ends_more old new log (put (key_of key) (tree_for old id) trees) e w.1
-ends_more old new (steps.Slot slot enable ∷ log) trees e w = ends_more old new log trees e w.1
+ends_more old new (effects.Slot slot enable ∷ log) trees e w = ends_more old new log trees e w.1
 
-are_within_more : (old new : List Term) (log : List Step) → Extends old new → AreWithin old log → AreWithin new log
+are_within_more : (old new : List Term) (log : List Effect) → Extends old new → AreWithin old log → AreWithin new log
 are_within_more old new [] e w = tt
-are_within_more old new (steps.Set key id ∷ log) e w = (within_more old new id e w.0, are_within_more old new log e w.1)
-are_within_more old new (steps.Slot slot enable ∷ log) e w = (within_more old new enable e w.0, are_within_more old new log e w.1)
+are_within_more old new (effects.Set key id ∷ log) e w = (within_more old new id e w.0, are_within_more old new log e w.1)
+are_within_more old new (effects.Slot slot enable ∷ log) e w = (within_more old new enable e w.0, are_within_more old new log e w.1)
 
-rows_append : (ns : List Term) (a b : List Step) (trees : Env (Tree Name)) → rows_of ns (a ++ b) trees ≡ rows_of ns a trees ++ rows_of ns b (ends_of ns a trees)
+rows_append : (ns : List Term) (a b : List Effect) (trees : Env (Tree Name)) → rows_of ns (a ++ b) trees ≡ rows_of ns a trees ++ rows_of ns b (ends_of ns a trees)
 rows_append ns [] b trees = refl
-rows_append ns (steps.Set key id ∷ a) b trees = rows_append ns a b (put (key_of key) (tree_for ns id) trees)
-rows_append ns (steps.Slot slot enable ∷ a) b trees = ap (λ (rows : List Row). record { slot = slot; enable = tree_for ns enable; before = trees } ∷ rows) (rows_append ns a b trees)
+rows_append ns (effects.Set key id ∷ a) b trees = rows_append ns a b (put (key_of key) (tree_for ns id) trees)
+rows_append ns (effects.Slot slot enable ∷ a) b trees = ap (λ (rows : List Row). record { slot = slot; enable = tree_for ns enable; before = trees } ∷ rows) (rows_append ns a b trees)
 
-ends_append : (ns : List Term) (a b : List Step) (trees : Env (Tree Name)) → ends_of ns (a ++ b) trees ≡ ends_of ns b (ends_of ns a trees)
+ends_append : (ns : List Term) (a b : List Effect) (trees : Env (Tree Name)) → ends_of ns (a ++ b) trees ≡ ends_of ns b (ends_of ns a trees)
 ends_append ns [] b trees = refl
-ends_append ns (steps.Set key id ∷ a) b trees = ends_append ns a b (put (key_of key) (tree_for ns id) trees)
-ends_append ns (steps.Slot slot enable ∷ a) b trees = ends_append ns a b trees
+ends_append ns (effects.Set key id ∷ a) b trees = ends_append ns a b (put (key_of key) (tree_for ns id) trees)
+ends_append ns (effects.Slot slot enable ∷ a) b trees = ends_append ns a b trees
 
-within_append : (ns : List Term) (a b : List Step) → AreWithin ns a → AreWithin ns b → AreWithin ns (a ++ b)
+within_append : (ns : List Term) (a b : List Effect) → AreWithin ns a → AreWithin ns b → AreWithin ns (a ++ b)
 within_append ns [] b v w = w
-within_append ns (steps.Set key id ∷ a) b v w = (v.0, within_append ns a b v.1 w)
-within_append ns (steps.Slot slot enable ∷ a) b v w = (v.0, within_append ns a b v.1 w)
+within_append ns (effects.Set key id ∷ a) b v w = (v.0, within_append ns a b v.1 w)
+within_append ns (effects.Slot slot enable ∷ a) b v w = (v.0, within_append ns a b v.1 w)
 
 pub walked_twice : (a b c : Walk) (first second : List Row) (mid last : Env (Tree Name)) → Walked a b first mid → Walked b c second last → Walked a c (first ++ second) last
 walked_twice a b c first second mid last x y =

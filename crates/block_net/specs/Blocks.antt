@@ -6,7 +6,7 @@ use Rattle.exec_core.specs.Block.{Name, Expr, Key, Now, Next, Body}
 use Rattle.exec_core.specs.Exec.{Env, start}
 use Rattle.exec_core.specs.Trees.{block_rows, block_trees}
 use Rattle.names.specs.Maps.{value_of, put_value}
-use Rattle.block_net.specs.declared.step.Step.{Step}
+use Rattle.block_net.specs.declared.effect.Effect.{Effect}
 use Rattle.block_net.specs.declared.term.Term.{Term}
 use Rattle.block_net.specs.declared.term.TermId.{TermId}
 use Rattle.block_net.specs.Terms.{tree_at, trees_of}
@@ -16,7 +16,7 @@ use Rattle.block_net.specs.Walks.{FitBy, env_by}
 -- the terms, the log, and what names have at the end, and registers in the next cycle
 pub record BlockParts : Type 0 where
   pub terms : List Term
-  pub log : List Step
+  pub log : List Effect
   pub names : List (Name × Option TermId)
   pub registers : List (Name × Option TermId)
 

@@ -14,8 +14,8 @@ use Rattle.exec_core.specs.Trees.{Row, block_rows}
 use Rattle.exec_core.specs.Sample.{child_body, q_tree}
 use Rattle.block_net.specs.declared.key.Key as code_key
 use Rattle.block_net.specs.declared.key.Key.TheVariants as keys
-use Rattle.block_net.specs.declared.step.Step.{Step}
-use Rattle.block_net.specs.declared.step.Step.TheVariants.{Set, Slot}
+use Rattle.block_net.specs.declared.effect.Effect.{Effect}
+use Rattle.block_net.specs.declared.effect.Effect.TheVariants.{Set, Slot}
 use Rattle.block_net.specs.declared.term.Term.{Term}
 use Rattle.block_net.specs.declared.term.Term.TheVariants.{Leaf, Value, Unary, Binary, Mux}
 use Rattle.block_net.specs.declared.term.TermId.{TermId}
@@ -38,7 +38,7 @@ abbrev pub q : code_key.Key
 q = keys.Now (codes "q")
 
 -- `q` is set in the then-branch, is as before at the else-branch, and has the choice at the end
-abbrev pub sample_log : List Step
+abbrev pub sample_log : List Effect
 sample_log =
     Slot 0 (Some (id 0)) ∷ Set s (Some (id 3)) ∷ Slot 1 (Some (id 0)) ∷ Slot 2 (Some (id 6)) ∷ Set q (Some (id 3)) ∷ Set q None ∷ Slot 3 (Some (id 8)) ∷ Set q (Some (id 9))
     ∷ Set q (Some (id 10)) ∷ []

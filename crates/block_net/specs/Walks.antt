@@ -8,7 +8,7 @@ use Rattle.exec_core.specs.Trees.{Row, rows, body_rows, trees_after, body_trees_
 use Rattle.names.specs.Maps.{value_of}
 use Rattle.block_net.specs.declared.key.Key as code_key
 use Rattle.block_net.specs.declared.bindings.Binding.{Binding}
-use Rattle.block_net.specs.declared.step.Step.{Step}
+use Rattle.block_net.specs.declared.effect.Effect.{Effect}
 use Rattle.block_net.specs.declared.term.Term.{Term}
 use Rattle.block_net.specs.declared.term.TermId.{TermId}
 use Rattle.block_net.specs.declared.walk.Walk.{Walk}
@@ -56,7 +56,7 @@ pub record Walked (old new : Walk) (told_rows : List Row) (trees : Env (Tree Nam
   pub fits : Fits new
   pub terms : Extends old.terms new.terms
   pub env : env_of new ≡ trees
-  pub more : List Step
+  pub more : List Effect
   pub log : new.log.items ≡ old.log.items ++ more
   pub within : AreWithin new.terms more
   pub told : rows_of new.terms more (env_of old) ≡ told_rows

@@ -17,7 +17,7 @@ use crate::body::walk_body;
 use crate::keys::assigned_by;
 use crate::terms::Terms;
 use crate::walk::Walk;
-use crate::{Key, Step, Term, TermId};
+use crate::{Effect, Key, Term, TermId};
 use design_core::{Block, Stmt};
 use names::NameMap;
 use std::alloc::Global;
@@ -29,7 +29,7 @@ use text_core::NoMemory;
 #[derive(Drop)]
 pub struct BlockTerms {
     terms: Terms,
-    log: Vec<Step>,
+    log: Vec<Effect>,
     names: NameMap<Option<TermId>>,
     registers: NameMap<Option<TermId>>,
 }
@@ -78,7 +78,7 @@ impl BlockTerms {
     }
 
     /// The log: the slots in preorder, and between them what is set.
-    pub fn log(&self) -> &[Step]
+    pub fn log(&self) -> &[Effect]
         ensures log { result.now ≡ self.now.log }
         ensures linked { AreLinked self.now }
     {

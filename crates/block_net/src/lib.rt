@@ -4,21 +4,21 @@
 mod bindings;
 mod block;
 mod body;
+mod effect;
 mod expression;
 mod growing;
 mod key;
 mod key_set;
 mod keys;
 mod laws;
-mod step;
 mod term;
 mod terms;
 mod walk;
 
 pub use block::{BlockTerms, block_terms};
+pub use effect::Effect;
 pub use expression::expr_terms;
 pub use key::Key;
 pub use keys::assigned_by;
 pub use laws::tells_the_sample;
-pub use step::Step;
 pub use term::{Term, TermId};

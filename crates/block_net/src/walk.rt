@@ -9,7 +9,7 @@ ghost use Rattle.block_net.specs.Logs.{key_of};
 ghost use Rattle.block_net.specs.Walks.{Fits, Grown, Walked, env_of};
 
 use crate::terms::Terms;
-use crate::{Key, Step, Term, TermId};
+use crate::{Effect, Key, Term, TermId};
 use design_core::{Expr, Literal, below};
 use names::NameMap;
 use std::alloc::Global;
@@ -21,7 +21,7 @@ pub(crate) struct Walk {
     pub(crate) terms: Terms,
     pub(crate) now: NameMap<Option<TermId>>,
     pub(crate) next: NameMap<Option<TermId>>,
-    pub(crate) log: Vec<Step>,
+    pub(crate) log: Vec<Effect>,
 }
 
 /// The term of a name's leaf.
@@ -83,7 +83,7 @@ impl Walk {
         requires within { IsWithin self.old.terms enable }
         ensures { OnOk result (Walked self.old self.new (record { slot = slot; enable = tree_for self.old.terms enable; before = env_of self.old } ∷ []) (env_of self.old)) }
     {
-        self.log.push(Step::Slot(slot, enable))?;
+        self.log.push(Effect::Slot(slot, enable))?;
         Ok(())
     }
 
@@ -115,7 +115,7 @@ impl Walk {
         ensures { OnOk result (Walked self.old self.new [] (put (key_of key) (tree_for self.old.terms id) (env_of self.old))) }
     {
         self.put(alloc, &key, id)?;
-        self.log.push(Step::Set(key, id))?;
+        self.log.push(Effect::Set(key, id))?;
         Ok(())
     }
 }

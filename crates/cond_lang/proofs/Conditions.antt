@@ -1,7 +1,7 @@
 -- What is read as a condition is exactly what is spelled so within the room; a fault is the first place.
 use Rattle.std.proofs.Common.{◌≡◌, ◌≤◌, ◌+◌, ℕ, suc, List, [], ◌∷◌, ◌++◌, length, Result, Ok, Err, refl, sym, ap, subst, ◌∙◌, arith, append-nil, inl, inr}
 use Rattle.gen_token.specs.Words.{Tok}
-use Rattle.gen_tree.specs.declared.Mode.TheVariants as mode
+use Rattle.gen_tree.specs.declared.Dialect.TheVariants as dialect
 use Rattle.gen_tree.specs.Brackets.{Within}
 use Rattle.gen_tree.specs.Grammar.{SpellsExpr}
 use Rattle.gen_tree.specs.Places.{IsBad, FaultAt}
@@ -19,27 +19,27 @@ use Rattle.cond_lang.specs.Reader.{whole_expr, cond_at}
 
 -- the machine over a condition
 abbrev runs : ℕ → List Tok → End
-runs room ts = run mode.Condition room (an_expr ∷ []) ts
+runs room ts = run dialect.Condition room (an_expr ∷ []) ts
 
 -- what the reader answers, and what the machine does
 abbrev Answer : ℕ → List Tok → Result Expr ℕ → Type 0
-Answer room ts (Ok e) = SpellsExpr mode.Condition e ts [] × (runs room ts ≡ accepted)
+Answer room ts (Ok e) = SpellsExpr dialect.Condition e ts [] × (runs room ts ≡ accepted)
 Answer room ts (Err left) = runs room ts ≡ stopped left
 
-at_bottom : (room : ℕ) → run mode.Condition room [] [] ≡ accepted
+at_bottom : (room : ℕ) → run dialect.Condition room [] [] ≡ accepted
 unfolding run at_end
 at_bottom room = refl
 
 -- behind a condition nothing may stand
-full : (room : ℕ) (t : Tok) (ts : List Tok) → run mode.Condition room [] (t ∷ ts) ≡ stopped (suc (length ts))
+full : (room : ℕ) (t : Tok) (ts : List Tok) → run dialect.Condition room [] (t ∷ ts) ≡ stopped (suc (length ts))
 unfolding run settle
 full room t ts = refl
 
 abbrev ReadsExpr : ℕ → List Tok → Read Expr → Type 0
-ReadsExpr room ts o = Reads mode.Condition room (an_expr ∷ []) ts room (λ e. SpellsExpr mode.Condition e ts) o
+ReadsExpr room ts o = Reads dialect.Condition room (an_expr ∷ []) ts room (λ e. SpellsExpr dialect.Condition e ts) o
 
 answers : (room : ℕ) (ts : List Tok) → Answer room ts (cond_at room ts)
-answers room ts = by (expr_at mode.Condition room ts) (expr_reads mode.Condition room ts)
+answers room ts = by (expr_at dialect.Condition room ts) (expr_reads dialect.Condition room ts)
   where
     by : (o : Read Expr) → ReadsExpr room ts o → Answer room ts (o >>= whole_expr)
     by (Err left) g = g.reads.stops []
@@ -60,10 +60,10 @@ accepted_spelled room ts e = by (cond_at room ts) refl
 nothing_follows : Follows []
 nothing_follows = record { index = refl; dot = refl; bounds = refl }
 
-spelled_read : (e : Expr) (room : ℕ) (ts : List Tok) → expr_depth e ≤ room → SpellsExpr mode.Condition e ts [] → cond_at room ts ≡ Ok e
-spelled_read e room ts le h = rw ((expr_only e).only mode.Condition room ts [] le h nothing_follows) refl
+spelled_read : (e : Expr) (room : ℕ) (ts : List Tok) → expr_depth e ≤ room → SpellsExpr dialect.Condition e ts [] → cond_at room ts ≡ Ok e
+spelled_read e room ts le h = rw ((expr_only e).only dialect.Condition room ts [] le h nothing_follows) refl
 
-spelled_accepted : (e : Expr) (ts : List Tok) → SpellsExpr mode.Condition e ts [] → runs (expr_depth e) ts ≡ accepted
+spelled_accepted : (e : Expr) (ts : List Tok) → SpellsExpr dialect.Condition e ts [] → runs (expr_depth e) ts ≡ accepted
 spelled_accepted e ts h = (told (expr_depth e) ts (Ok e) (spelled_read e (expr_depth e) ts (omega arith) h)).1
 
 abbrev expr_or : Expr → Result Expr ℕ → Expr
@@ -71,26 +71,26 @@ expr_or d (Ok e) = e
 expr_or d (Err left) = d
 
 -- a list is spelled by one expression at most
-pub one_tree : (a b : Expr) (ts : List Tok) → SpellsExpr mode.Condition a ts [] → SpellsExpr mode.Condition b ts [] → a ≡ b
+pub one_tree : (a b : Expr) (ts : List Tok) → SpellsExpr dialect.Condition a ts [] → SpellsExpr dialect.Condition b ts [] → a ≡ b
 one_tree a b ts ha hb =
     let room : ℕ = expr_depth a + expr_depth b in
     let ea : cond_at room ts ≡ Ok a = spelled_read a room ts (omega arith) ha in
     let eb : cond_at room ts ≡ Ok b = spelled_read b room ts (omega arith) hb in
     ap (expr_or a) (sym ea ∙ eb)
 
-pub read_found : (room : ℕ) (ts : List Tok) (e : Expr) → cond_at room ts ≡ Ok e → SpellsExpr mode.Condition e ts [] × Within room ts
-read_found room ts e eo = let a = told room ts (Ok e) eo in (a.0, accepted_within mode.Condition ts room (an_expr ∷ []) a.1)
+pub read_found : (room : ℕ) (ts : List Tok) (e : Expr) → cond_at room ts ≡ Ok e → SpellsExpr dialect.Condition e ts [] × Within room ts
+read_found room ts e eo = let a = told room ts (Ok e) eo in (a.0, accepted_within dialect.Condition ts room (an_expr ∷ []) a.1)
 
-pub read_only : (room : ℕ) (ts : List Tok) (e : Expr) → SpellsExpr mode.Condition e ts [] → Within room ts → cond_at room ts ≡ Ok e
+pub read_only : (room : ℕ) (ts : List Tok) (e : Expr) → SpellsExpr dialect.Condition e ts [] → Within room ts → cond_at room ts ≡ Ok e
 read_only room ts e h w = by (cond_at room ts) refl
   where
     by : (o : Result Expr ℕ) → cond_at room ts ≡ o → o ≡ Ok e
     by (Ok x) eo = ap Ok (one_tree x e ts (told room ts (Ok x) eo).0 h)
     by (Err left) eo =
-        let acc : runs room ts ≡ accepted = accepted_if_within mode.Condition ts (expr_depth e) room (an_expr ∷ []) (spelled_accepted e ts h) w in
+        let acc : runs room ts ≡ accepted = accepted_if_within dialect.Condition ts (expr_depth e) room (an_expr ∷ []) (spelled_accepted e ts h) w in
         let bad : stopped left ≡ accepted = sym (told room ts (Err left) eo) ∙ acc in absurd cc
 
-bad_is : (room : ℕ) (ts good bad : List Tok) (left : ℕ) → cond_at room ts ≡ Err left → ts ≡ good ++ bad → Within room good → Why mode.Condition room (an_expr ∷ []) good bad → IsBad IsCondition room good bad
+bad_is : (room : ℕ) (ts good bad : List Tok) (left : ℕ) → cond_at room ts ≡ Err left → ts ≡ good ++ bad → Within room good → Why dialect.Condition room (an_expr ∷ []) good bad → IsBad IsCondition room good bad
 bad_is room ts good [] left e parts w why = λ whole.
     let all : ts ≡ good = parts ∙ append-nil good in
     let is : cond_at room good ≡ Ok whole.0 = read_only room good whole.0 whole.1 w in
@@ -102,5 +102,5 @@ bad_is room ts good (t ∷ rest) left e parts w (inr deep) = inr deep
 
 pub read_fault : (room : ℕ) (ts : List Tok) (left : ℕ) → cond_at room ts ≡ Err left → FaultAt IsCondition room ts left
 read_fault room ts left e =
-    let h : Halt mode.Condition room (an_expr ∷ []) ts left = halts mode.Condition ts room left (an_expr ∷ []) (told room ts (Err left) e) in
+    let h : Halt dialect.Condition room (an_expr ∷ []) ts left = halts dialect.Condition ts room left (an_expr ∷ []) (told room ts (Err left) e) in
     record { good = h.good; bad = h.bad; parts = h.parts; count = h.count; completion = h.completion; begins = accepted_spelled (room + h.extra) (h.good ++ h.completion) h.begins; within = h.within; is_bad = bad_is room ts h.good h.bad left e h.parts h.within h.why }

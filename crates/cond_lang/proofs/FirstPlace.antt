@@ -8,7 +8,7 @@ use Rattle.gen_token.specs.Tokens.{skip, token_at, TokensFrom}
 use Rattle.gen_token.specs.Words.{Word, Tok}
 use Rattle.gen_token.proofs.OneList.{same}
 use Rattle.gen_token.proofs.ReadToken.{exact}
-use Rattle.gen_tree.specs.declared.Mode.TheVariants as mode
+use Rattle.gen_tree.specs.declared.Dialect.TheVariants as dialect
 use Rattle.gen_tree.specs.Grammar.{SpellsExpr}
 use Rattle.gen_tree.specs.Places.{FaultAt}
 use Rattle.gen_tree.specs.Brackets.{Within}
@@ -96,12 +96,12 @@ fault_first text ts end left t f = record {
         goods b.fault b.place
 
 -- tokens that are a condition have no fault
-whole_form : (text : List ℕ) (ts : List Tok) (end : Option ℕ) (e : Expr) (other : ℕ) → TokensFrom (start text) ts end → SpellsExpr mode.Condition e ts [] → Within 64 ts → IsBadForm text other → ⊥
+whole_form : (text : List ℕ) (ts : List Tok) (end : Option ℕ) (e : Expr) (other : ℕ) → TokensFrom (start text) ts end → SpellsExpr dialect.Condition e ts [] → Within 64 ts → IsBadForm text other → ⊥
 whole_form text ts end e other t s w b =
     let is : b.tokens ≡ ts = ((only_tokens text ts end t).only b.tokens b.end b.are).0 in
     none_in_whole IsCondition 64 ts b.left (e, s) w (subst (λ (us : List Tok). FaultAt IsCondition 64 us b.left) is b.fault)
 
-token_first : (text : List ℕ) (ts : List Tok) (line : ℕ) (e : Expr) → TokensFrom (start text) ts (Some line) → SpellsExpr mode.Condition e ts [] → Within 64 ts → IsFirstForm text (offset_behind text ts)
+token_first : (text : List ℕ) (ts : List Tok) (line : ℕ) (e : Expr) → TokensFrom (start text) ts (Some line) → SpellsExpr dialect.Condition e ts [] → Within 64 ts → IsFirstForm text (offset_behind text ts)
 token_first text ts line e t s w = record {
   place = bad_token (record { tokens = ts; line = line; stops = t; place = refl });
   no_token = λ other b. omega (arith, b.place, ap (offset_behind text) ((only_tokens text ts (Some line) t).only b.tokens (Some b.line) b.stops).0);
@@ -193,7 +193,7 @@ no_place text e offsets o r (bad_form b) = whole_form text r.tokens None e o r.a
 one_reading : (text : List ℕ) (first second : Expr) (offsets others : List ℕ) → Reads text first offsets → Reads text second others → (first ≡ second) × (offsets ≡ others)
 one_reading text first second offsets others r q =
     let is : q.tokens ≡ r.tokens = ((only_tokens text r.tokens None r.are).only q.tokens None q.are).0 in
-    (one_tree first second r.tokens r.spelled (subst (λ (ts : List Tok). SpellsExpr mode.Condition second ts []) is q.spelled), r.places ∙ ap (offsets_from (length text) (start text)) (sym is) ∙ sym q.places)
+    (one_tree first second r.tokens r.spelled (subst (λ (ts : List Tok). SpellsExpr dialect.Condition second ts []) is q.spelled), r.places ∙ ap (offsets_from (length text) (start text)) (sym is) ∙ sym q.places)
 
 pub one_answer : (text : List ℕ) → HasOneAnswer text
 one_answer text = record { one_reading = one_reading text; no_place = no_place text }

@@ -4,7 +4,7 @@ use Rattle.std.specs.List.{list_all}
 use Rattle.gen_token.specs.Bytes.{is_text_byte}
 use Rattle.gen_token.specs.Tokens.{skip, token_at, TokensFrom, AreTokens}
 use Rattle.gen_token.specs.Words.{Word, Tok}
-use Rattle.gen_tree.specs.declared.Mode.TheVariants as mode
+use Rattle.gen_tree.specs.declared.Dialect.TheVariants as dialect
 use Rattle.gen_tree.specs.Brackets.{Within}
 use Rattle.gen_tree.specs.Grammar.{SpellsExpr}
 use Rattle.gen_tree.specs.Places.{FaultAt}
@@ -42,7 +42,7 @@ offsets_from size at (t ∷ ts) = (size - length at.1) ∷ offsets_from size (ne
 
 -- some expression of a condition is spelled so
 abbrev pub IsCondition : List Tok → Type 0
-IsCondition tokens = (e : Expr) × SpellsExpr mode.Condition e tokens []
+IsCondition tokens = (e : Expr) × SpellsExpr dialect.Condition e tokens []
 
 -- the text is read as this expression, whose tokens have these offsets: all its bytes are those of a source, its tokens are what
 -- the expression spells, and at most 64 brackets are open at once
@@ -50,7 +50,7 @@ pub record Reads (text : List ℕ) (e : Expr) (offsets : List ℕ) : Type 0 wher
   pub bytes : list_all is_text_byte text ≡ true
   pub tokens : List Tok
   pub are : AreTokens text tokens
-  pub spelled : SpellsExpr mode.Condition e tokens []
+  pub spelled : SpellsExpr dialect.Condition e tokens []
   pub within : Within 64 tokens
   pub places : offsets ≡ offsets_from (length text) (start text) tokens
 
@@ -100,7 +100,7 @@ pub record IsFirstForm (text : List ℕ) (offset : ℕ) : Type 0 where
 pub record ReadsForm (text : List ℕ) (e : Expr) (offsets : List ℕ) : Type 0 where
   pub tokens : List Tok
   pub are : AreTokens text tokens
-  pub spelled : SpellsExpr mode.Condition e tokens []
+  pub spelled : SpellsExpr dialect.Condition e tokens []
   pub within : Within 64 tokens
   pub places : offsets ≡ offsets_from (length text) (start text) tokens
 

@@ -1,4 +1,4 @@
-//! How a text is read as a condition, by the reader of sources in its mode for conditions. Of all the places at which a text stops being
+//! How a text is read as a condition, by the reader of sources in its dialect for conditions. Of all the places at which a text stops being
 //! one the least is told, so the tokens before a bad one are read too.
 
 ghost use Rattle.std.specs.Prelude.{◌≡◌, ◌<◌, ◌≤◌, ◌^◌, IfOk, IfErr, length};
@@ -16,7 +16,7 @@ use crate::text::{CondText, cond_text};
 use crate::tokens::{Tokens, tokens_at};
 use gen_text::{ReadFault, expr};
 use gen_token::{Placed, first_other_byte};
-use gen_tree::{Expr, Mode};
+use gen_tree::{Dialect, Expr};
 use std::alloc::Global;
 
 /// Texts of so many bytes or more are not looked at: 2^30.
@@ -39,7 +39,7 @@ fn whole(found: Expr, rest: &[Placed<'_>]) -> Result<Expr, ReadFault>
 fn read_tokens(alloc: Global, tokens: &[Placed<'_>]) -> Result<Expr, ReadFault>
     ensures { Gives expr_of result (cond_at 64 (placed tokens.now)) }
 {
-    let (found, rest) = expr(alloc, Mode::Condition, ROOM, tokens)?;
+    let (found, rest) = expr(alloc, Dialect::Condition, ROOM, tokens)?;
     whole(found, rest)
 }
 

@@ -12,7 +12,7 @@ use Rattle.gen_token.specs.Tokens.{skip, token_at, TokensFrom}
 use Rattle.gen_token.proofs.Beginnings.{first_of, text_begins}
 use Rattle.gen_token.proofs.ReadToken.{exact}
 use Rattle.gen_text.specs.Source.{Reads}
-use Rattle.gen_tree.specs.declared.Mode.TheVariants as mode
+use Rattle.gen_tree.specs.declared.Dialect.TheVariants as dialect
 use Rattle.gen_tree.specs.Grammar.{◌⨾◌, Single, StartsAt, Key, Sym, Each, Braces, int_op_mark, cmp_mark, SourceInt, SourceFam, SourceExpr, SpellsIndex, SpellsLit, un_op_word, op_mark, SpellsTwo, SpellsPrim, SpellsTurns, SpellsGiven, SpellsParam, SpellsParams, assign_mark, SpellsStmt, SpellsStmts, SpellsElse, SpellsConn, SpellsItem, SpellsItems, SpellsElseItems, direction, SpellsPort, SpellsModule, Spells}
 use Rattle.gen_tree.specs.Tree.{Int, num, var, bin, Fam, Lit, plain, bits, Expr, read, out, value, unary, binary, mux, zext, slice, Stmt, assign, bind, choose, repeat, given, Stmts, no_stmt, stmt, Else, no_else, otherwise, Param, Conn, Item, wire, reg, inst, comb, ff, repeat_items, given_items, Items, no_item, item, ElseItems, no_else_items, otherwise_items, Port, Module}
 use Rattle.list_core.specs.Lists.{EachOf}
@@ -59,14 +59,14 @@ int P (num n) = one P (Number n)
 int P (var x) = one P (Name x)
 int P (bin o a b) = mark_of P mark.LeftParen ▷ int P a ▷ mark_of P (int_op_mark o) ▷ int P b ▷ mark_of P mark.RightParen
 
-index : (P : Falls) (o : Option Int) → Keeps P (SpellsIndex mode.Source o)
+index : (P : Falls) (o : Option Int) → Keeps P (SpellsIndex dialect.Source o)
 index P None = record { on = λ ts rest e h. subst P.holds e h }
 index P (Some i) = record { on = λ ts rest s h. (mark_of P mark.Hash ▷ int P i).on ts rest s h }
 
 fam : (P : Falls) (f : Fam) → Keeps P (SourceFam f)
 fam P f = one P (Name f.name) ▷ index P f.index
 
-lit : (P : Falls) (l : Lit) → Keeps P (SpellsLit mode.Source l)
+lit : (P : Falls) (l : Lit) → Keeps P (SpellsLit dialect.Source l)
 lit P (plain w v) = one P (Literal w v)
 lit P (bits w v) = key P keyword.Bits ▷ mark_of P mark.LeftParen ▷ int P w ▷ mark_of P mark.Comma ▷ int P v ▷ mark_of P mark.RightParen
 
@@ -75,7 +75,7 @@ two P (Some m) a b = mark_of P mark.LeftParen ▷ a ▷ mark_of P m ▷ b ▷ ma
 two P None a b = key P keyword.Cat ▷ mark_of P mark.LeftParen ▷ a ▷ mark_of P mark.Comma ▷ b ▷ mark_of P mark.RightParen
 
 mutual
-  prim : (P : Falls) (e : Expr) → Keeps P (SpellsPrim mode.Source e)
+  prim : (P : Falls) (e : Expr) → Keeps P (SpellsPrim dialect.Source e)
   prim P (read f) = fam P f
   prim P (out f q) = fam P f ▷ mark_of P mark.Dot ▷ one P (Name q)
   prim P (value l) = lit P l

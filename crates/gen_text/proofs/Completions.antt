@@ -6,7 +6,7 @@ use Rattle.gen_token.specs.declared.Keyword.TheVariants as keyword
 use Rattle.gen_token.specs.declared.Mark.{Mark}
 use Rattle.gen_token.specs.declared.Mark.TheVariants as mark
 use Rattle.gen_token.specs.Words.{Word, Name, Number, Literal, Reserved, Sign, Tok}
-use Rattle.gen_tree.specs.declared.Mode.{Mode}
+use Rattle.gen_tree.specs.declared.Dialect.{Dialect}
 use Rattle.gen_tree.specs.Brackets.{Side, opens, closes, neither, side, room_by, room_after, room_left, Within}
 use Rattle.gen_tree.specs.Grammar.{assign_mark}
 use Rattle.gen_text.proofs.Machine.{Fixed, fixed_word, Symbol, need, need_name, an_int, an_int_op, a_cmp, an_index, a_literal, a_dot, an_op, a_prim, an_expr, a_slice, a_stmt, stmts_end, an_else, a_param, another_param, params_end, params, a_conn, conns_end, an_item, items_end, else_items, a_port, ports_end, a_module, may_end, settle, run, run_by, at_end, accepted, stopped}
@@ -72,17 +72,17 @@ abbrev pub finish_all : List Symbol → List Tok
 finish_all [] = []
 finish_all (symbol ∷ stack) = finish symbol ++ finish_all stack
 
-record Finishes (m : Mode) (room : ℕ) (symbol : Symbol) (stack : List Symbol) (ts : List Tok) : Type 0 where
+record Finishes (m : Dialect) (room : ℕ) (symbol : Symbol) (stack : List Symbol) (ts : List Tok) : Type 0 where
   room2 : ℕ
   enough : room ≤ room2
   runs : run m (suc (suc room)) (symbol ∷ stack) (finish symbol ++ ts) ≡ run m (suc room2) stack ts
 
-need_finishes : (s : Side) (f : Fixed) (m : Mode) (room : ℕ) (stack : List Symbol) (ts : List Tok) → side (fixed_word f) ≡ s → Finishes m room (need f) stack ts
+need_finishes : (s : Side) (f : Fixed) (m : Dialect) (room : ℕ) (stack : List Symbol) (ts : List Tok) → side (fixed_word f) ≡ s → Finishes m room (need f) stack ts
 need_finishes opens f m room stack ts e = record { room2 = room; enough = omega arith; runs = shifted m (suc (suc room)) (suc room) (need f) stack [] (at (fixed_word f)) ts (rw (is_itself f) refl) (rw e refl) }
 need_finishes closes f m room stack ts e = record { room2 = suc (suc room); enough = omega arith; runs = shifted m (suc (suc room)) (suc (suc (suc room))) (need f) stack [] (at (fixed_word f)) ts (rw (is_itself f) refl) (rw e refl) }
 need_finishes neither f m room stack ts e = record { room2 = suc room; enough = omega arith; runs = shifted m (suc (suc room)) (suc (suc room)) (need f) stack [] (at (fixed_word f)) ts (rw (is_itself f) refl) (rw e refl) }
 
-finishes : (symbol : Symbol) (m : Mode) (room : ℕ) (stack : List Symbol) (ts : List Tok) → Finishes m room symbol stack ts
+finishes : (symbol : Symbol) (m : Dialect) (room : ℕ) (stack : List Symbol) (ts : List Tok) → Finishes m room symbol stack ts
 unfolding run settle
 finishes (need f) m room stack ts = need_finishes (side (fixed_word f)) f m room stack ts refl
 finishes need_name m room stack ts = record { room2 = suc room; enough = omega arith; runs = refl }
@@ -113,7 +113,7 @@ finishes (an_else clocked) m room stack ts = record { room2 = suc room; enough =
 finishes (a_stmt true) m room stack ts = record { room2 = suc room; enough = omega arith; runs = refl }
 finishes (a_stmt false) m room stack ts = record { room2 = suc room; enough = omega arith; runs = refl }
 
-all_finish : (m : Mode) (stack : List Symbol) (room : ℕ) → length stack ≤ room → run m (suc room) stack (finish_all stack) ≡ accepted
+all_finish : (m : Dialect) (stack : List Symbol) (room : ℕ) → length stack ≤ room → run m (suc room) stack (finish_all stack) ≡ accepted
 unfolding run at_end
 all_finish m [] room le = refl
 all_finish m (symbol ∷ stack) zero le = absurd (omega arith)
@@ -123,11 +123,11 @@ all_finish m (symbol ∷ stack) (suc room) le =
 
 -- ---- where it stops
 
-abbrev pub Why : Mode → ℕ → List Symbol → List Tok → List Tok → Type 0
+abbrev pub Why : Dialect → ℕ → List Symbol → List Tok → List Tok → Type 0
 Why m room stack good [] = Unit {0}
 Why m room stack good (t ∷ rest) = ((more : List Tok) (room2 : ℕ) → run m room2 stack (good ++ t ∷ more) ≡ accepted → ⊥) ⊎ ((room_left room good ≡ Some 0) × (side t.word ≡ opens))
 
-pub record Halt (m : Mode) (room : ℕ) (stack : List Symbol) (ts : List Tok) (left : ℕ) : Type 0 where
+pub record Halt (m : Dialect) (room : ℕ) (stack : List Symbol) (ts : List Tok) (left : ℕ) : Type 0 where
   pub good : List Tok
   pub bad : List Tok
   pub parts : ts ≡ good ++ bad
@@ -159,7 +159,7 @@ at_the_end (symbol ∷ stack) left e = elim (test (may_end symbol)) [
   | inr m ↦ let h : stopped 0 ≡ stopped left = rw m at e in cc
 ]
 
-here : (m : Mode) (room left : ℕ) (stack : List Symbol) (t : Tok) (ts : List Tok) → suc (length ts) ≡ left → Why m room stack [] (t ∷ ts) → Halt m room stack (t ∷ ts) left
+here : (m : Dialect) (room left : ℕ) (stack : List Symbol) (t : Tok) (ts : List Tok) → suc (length ts) ≡ left → Why m room stack [] (t ∷ ts) → Halt m room stack (t ∷ ts) left
 here m room left stack t ts count why = record {
   good = [];
   bad = t ∷ ts;
@@ -172,11 +172,11 @@ here m room left stack t ts count why = record {
   why = why;
 }
 
-abbrev Halts : Mode → List Tok → Type 0
+abbrev Halts : Dialect → List Tok → Type 0
 Halts m ts = (room left : ℕ) (stack : List Symbol) → run m room stack ts ≡ stopped left → Halt m room stack ts left
 
 -- what stands further on has its reason also behind t
-why_on : (m : Mode) (t : Tok) (room room2 : ℕ) (stack stack2 : List Symbol) (good bad : List Tok) → settle m stack t.word ≡ Some stack2 → room_after room t.word ≡ Some room2 → Why m room2 stack2 good bad → Why m room stack (t ∷ good) bad
+why_on : (m : Dialect) (t : Tok) (room room2 : ℕ) (stack stack2 : List Symbol) (good bad : List Tok) → settle m stack t.word ≡ Some stack2 → room_after room t.word ≡ Some room2 → Why m room2 stack2 good bad → Why m room stack (t ∷ good) bad
 unfolding run
 why_on m t room room2 stack stack2 good [] se re w = tt
 why_on m t room room2 stack stack2 good (u ∷ rest) se re (inl none) = inl (λ more room3 e. no_more (room_after room3 t.word) more (rw se at e))
@@ -186,7 +186,7 @@ why_on m t room room2 stack stack2 good (u ∷ rest) se re (inl none) = inl (λ 
     no_more (Some r) more e = none more r e
 why_on m t room room2 stack stack2 good (u ∷ rest) se re (inr deep) = inr (rw re deep.0, deep.1)
 
-further : (m : Mode) (t : Tok) (ts : List Tok) (room room2 left : ℕ) (stack stack2 : List Symbol) → settle m stack t.word ≡ Some stack2 → room_after room t.word ≡ Some room2 → Halt m room2 stack2 ts left → Halt m room stack (t ∷ ts) left
+further : (m : Dialect) (t : Tok) (ts : List Tok) (room room2 left : ℕ) (stack stack2 : List Symbol) → settle m stack t.word ≡ Some stack2 → room_after room t.word ≡ Some room2 → Halt m room2 stack2 ts left → Halt m room stack (t ∷ ts) left
 unfolding run
 further m t ts room room2 left stack stack2 se re h = record {
   good = t ∷ h.good;
@@ -200,17 +200,17 @@ further m t ts room room2 left stack stack2 se re h = record {
   why = why_on m t room room2 stack stack2 h.good h.bad se re h.why;
 }
 
-stuck_here : (m : Mode) (t : Tok) (room : ℕ) (stack : List Symbol) → settle m stack t.word ≡ None → (ts : List Tok) → Why m room stack [] (t ∷ ts)
+stuck_here : (m : Dialect) (t : Tok) (room : ℕ) (stack : List Symbol) → settle m stack t.word ≡ None → (ts : List Tok) → Why m room stack [] (t ∷ ts)
 unfolding run
 stuck_here m t room stack se ts = inl (λ more room2 e. let h : stopped (suc (length more)) ≡ accepted = rw se at e in absurd cc)
 
-halts_by : (m : Mode) (ts : List Tok) → Halts m ts → (s : Option (List Symbol)) (r : Option ℕ) (t : Tok) (room left : ℕ) (stack : List Symbol) → settle m stack t.word ≡ s → room_after room t.word ≡ r
+halts_by : (m : Dialect) (ts : List Tok) → Halts m ts → (s : Option (List Symbol)) (r : Option ℕ) (t : Tok) (room left : ℕ) (stack : List Symbol) → settle m stack t.word ≡ s → room_after room t.word ≡ r
     → run_by s r (suc (length ts)) (λ r s. run m r s ts) ≡ stopped left → Halt m room stack (t ∷ ts) left
 halts_by m ts more None r t room left stack se re e = here m room left stack t ts (cc) (stuck_here m t room stack se ts)
 halts_by m ts more (Some stack2) None t room left stack se re e = let n = no_room (side t.word) room re in here m room left stack t ts (cc) (inr (ap Some n.0, n.1))
 halts_by m ts more (Some stack2) (Some room2) t room left stack se re e = further m t ts room room2 left stack stack2 se re (more room2 left stack2 e)
 
-pub halts : (m : Mode) (ts : List Tok) → Halts m ts
+pub halts : (m : Dialect) (ts : List Tok) → Halts m ts
 unfolding run
 halts m [] room left stack e = record {
   good = [];

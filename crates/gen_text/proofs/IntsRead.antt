@@ -6,8 +6,8 @@ use Rattle.gen_tree.specs.declared.IntOp.{IntOp}
 use Rattle.gen_tree.specs.declared.IntOp.TheVariants as int_op
 use Rattle.gen_tree.specs.declared.Cmp.{Cmp}
 use Rattle.gen_tree.specs.declared.Cmp.TheVariants as cmp
-use Rattle.gen_tree.specs.declared.Mode.{Mode}
-use Rattle.gen_tree.specs.declared.Mode.TheVariants as mode
+use Rattle.gen_tree.specs.declared.Dialect.{Dialect}
+use Rattle.gen_tree.specs.declared.Dialect.TheVariants as dialect
 use Rattle.gen_tree.specs.Brackets.{room_after}
 use Rattle.gen_tree.specs.Tree.{Int}
 use Rattle.gen_tree.specs.Grammar.{Sym, Single, SpellsInt, SpellsIndex, SpellsFam, int_op_mark, cmp_mark}
@@ -18,20 +18,20 @@ use Rattle.gen_text.proofs.Moves.{Reads, then_read, then_word, then_seen, done, 
 use Rattle.gen_text.proofs.WordsRead.{is_mark_is, test, word_reads, name_reads}
 
 -- what the form says of the word
-abbrev pub IntIs : Mode → IntForm → Word → Type 0
+abbrev pub IntIs : Dialect → IntForm → Word → Type 0
 IntIs m (a_number n) w = w ≡ Number n
-IntIs m (a_variable x) w = (w ≡ Name x) × (m ≡ mode.Source)
-IntIs m a_group w = (w ≡ Sign mark.LeftParen) × (m ≡ mode.Source)
+IntIs m (a_variable x) w = (w ≡ Name x) × (m ≡ dialect.Source)
+IntIs m a_group w = (w ≡ Sign mark.LeftParen) × (m ≡ dialect.Source)
 IntIs m no_int w = Unit {0}
 
-pub int_is : (m : Mode) (w : Word) → IntIs m (int_form m w) w
+pub int_is : (m : Dialect) (w : Word) → IntIs m (int_form m w) w
 int_is m (Number n) = refl
-int_is mode.Source (Name x) = (refl, refl)
-int_is mode.Condition (Name x) = tt
+int_is dialect.Source (Name x) = (refl, refl)
+int_is dialect.Condition (Name x) = tt
 int_is m (Literal w v) = tt
 int_is m (Reserved k) = tt
-int_is mode.Source (Sign mark.LeftParen) = (refl, refl)
-int_is mode.Condition (Sign mark.LeftParen) = tt
+int_is dialect.Source (Sign mark.LeftParen) = (refl, refl)
+int_is dialect.Condition (Sign mark.LeftParen) = tt
 int_is m (Sign _) = tt
 
 abbrev IntOpIs : Option IntOp → Word → Type 0
@@ -53,12 +53,12 @@ int_op_side int_op.Add room = refl
 int_op_side int_op.Sub room = refl
 int_op_side int_op.Mul room = refl
 
-int_op_by : {m : Mode} (f : Option IntOp) (room : ℕ) (t : Tok) (ts : List Tok) → int_op_form t.word ≡ f → IntOpIs f t.word
+int_op_by : {m : Dialect} (f : Option IntOp) (room : ℕ) (t : Tok) (ts : List Tok) → int_op_form t.word ≡ f → IntOpIs f t.word
     → Reads m room (an_int_op ∷ []) (t ∷ ts) room (λ o. Sym (int_op_mark o) (t ∷ ts)) (some_at f ts)
 int_op_by None room t ts e h = refuses (rw e refl)
 int_op_by (Some o) room t ts e h = takes_first (rw e refl) (rw h (int_op_side o room)) (done (h, refl))
 
-int_op_reads : {m : Mode} (room : ℕ) (ts : List Tok) → Reads m room (an_int_op ∷ []) ts room (λ o. Sym (int_op_mark o) ts) (int_op_at ts)
+int_op_reads : {m : Dialect} (room : ℕ) (ts : List Tok) → Reads m room (an_int_op ∷ []) ts room (λ o. Sym (int_op_mark o) ts) (int_op_at ts)
 int_op_reads room [] = refuses_end refl
 int_op_reads room (t ∷ ts) = int_op_by (int_op_form t.word) room t ts refl (int_op_is t.word)
 
@@ -83,23 +83,23 @@ cmp_side cmp.Ne room = refl
 cmp_side cmp.Lt room = refl
 cmp_side cmp.Le room = refl
 
-cmp_by : {m : Mode} (f : Option Cmp) (room : ℕ) (t : Tok) (ts : List Tok) → cmp_form t.word ≡ f → CmpIs f t.word
+cmp_by : {m : Dialect} (f : Option Cmp) (room : ℕ) (t : Tok) (ts : List Tok) → cmp_form t.word ≡ f → CmpIs f t.word
     → Reads m room (a_cmp ∷ []) (t ∷ ts) room (λ c. Sym (cmp_mark c) (t ∷ ts)) (some_at f ts)
 cmp_by None room t ts e h = refuses (rw e refl)
 cmp_by (Some c) room t ts e h = takes_first (rw e refl) (rw h (cmp_side c room)) (done (h, refl))
 
-pub cmp_reads : {m : Mode} (room : ℕ) (ts : List Tok) → Reads m room (a_cmp ∷ []) ts room (λ c. Sym (cmp_mark c) ts) (cmp_at ts)
+pub cmp_reads : {m : Dialect} (room : ℕ) (ts : List Tok) → Reads m room (a_cmp ∷ []) ts room (λ c. Sym (cmp_mark c) ts) (cmp_at ts)
 cmp_reads room [] = refuses_end refl
 cmp_reads room (t ∷ ts) = cmp_by (cmp_form t.word) room t ts refl (cmp_is t.word)
 
 -- ---- integers
 
-abbrev pub IntReads : Mode → ℕ → (List Tok → Read Int) → Type 0
+abbrev pub IntReads : Dialect → ℕ → (List Tok → Read Int) → Type 0
 IntReads m room inner = (ts : List Tok) → Reads m room (an_int ∷ []) ts room (λ x. SpellsInt m x ts) (inner ts)
 
 -- behind the opening bracket
-group_reads : (room : ℕ) (inner : List Tok → Read Int) (t : Tok) (ts : List Tok) → IntReads mode.Source room inner → t.word ≡ Sign mark.LeftParen
-    → Reads mode.Source room (an_int ∷ an_int_op ∷ an_int ∷ need (sign mark.RightParen) ∷ []) ts (suc room) (λ x. SpellsInt mode.Source x (t ∷ ts)) (group_at inner ts)
+group_reads : (room : ℕ) (inner : List Tok → Read Int) (t : Tok) (ts : List Tok) → IntReads dialect.Source room inner → t.word ≡ Sign mark.LeftParen
+    → Reads dialect.Source room (an_int ∷ an_int_op ∷ an_int ∷ need (sign mark.RightParen) ∷ []) ts (suc room) (λ x. SpellsInt dialect.Source x (t ∷ ts)) (group_at inner ts)
 group_reads room inner t ts inner_reads is =
     then_read _ (inner_reads ts) (λ a t1 ga la.
     then_read _ (int_op_reads room t1) (λ o t2 go lo.
@@ -108,41 +108,41 @@ group_reads room inner t ts inner_reads is =
     done (ts, (is, refl), (t1, ga, (t2, go, (t3, gb, gr))))))))
 
 -- what a reader inside the brackets reads, where there is room for brackets
-abbrev InsideReads : Mode → ℕ → (List Tok → Read Int) → Type 0
+abbrev InsideReads : Dialect → ℕ → (List Tok → Read Int) → Type 0
 InsideReads m zero inner = Unit {0}
 InsideReads m (suc room) inner = IntReads m room inner
 
-int_by_reads : (m : Mode) (f : IntForm) (room : ℕ) (inner : List Tok → Read Int) (t : Tok) (ts : List Tok) → InsideReads m room inner → int_form m t.word ≡ f → IntIs m f t.word
+int_by_reads : (m : Dialect) (f : IntForm) (room : ℕ) (inner : List Tok → Read Int) (t : Tok) (ts : List Tok) → InsideReads m room inner → int_form m t.word ≡ f → IntIs m f t.word
     → Reads m room (an_int ∷ []) (t ∷ ts) room (λ x. SpellsInt m x (t ∷ ts)) (int_by room inner f ts)
 int_by_reads m (a_number n) room inner t ts h e is = takes_first (rw e refl) (rw is refl) (done (is, refl))
-int_by_reads mode.Source (a_variable x) room inner t ts h e is = takes_first (rw e refl) (rw is.0 refl) (done (is.0, refl))
-int_by_reads mode.Condition (a_variable x) room inner t ts h e is = absurd (let no : mode.Condition ≡ mode.Source = is.1 in cc)
-int_by_reads mode.Condition a_group room inner t ts h e is = absurd (let no : mode.Condition ≡ mode.Source = is.1 in cc)
-int_by_reads mode.Source a_group zero inner t ts h e is = refuses_full (an_int ∷ an_int_op ∷ an_int ∷ need (sign mark.RightParen) ∷ []) (rw e refl) (rw is.0 refl)
-int_by_reads mode.Source a_group (suc room) inner t ts h e is = takes_first (rw e refl) (rw is.0 refl) (group_reads room inner t ts h is.0)
+int_by_reads dialect.Source (a_variable x) room inner t ts h e is = takes_first (rw e refl) (rw is.0 refl) (done (is.0, refl))
+int_by_reads dialect.Condition (a_variable x) room inner t ts h e is = absurd (let no : dialect.Condition ≡ dialect.Source = is.1 in cc)
+int_by_reads dialect.Condition a_group room inner t ts h e is = absurd (let no : dialect.Condition ≡ dialect.Source = is.1 in cc)
+int_by_reads dialect.Source a_group zero inner t ts h e is = refuses_full (an_int ∷ an_int_op ∷ an_int ∷ need (sign mark.RightParen) ∷ []) (rw e refl) (rw is.0 refl)
+int_by_reads dialect.Source a_group (suc room) inner t ts h e is = takes_first (rw e refl) (rw is.0 refl) (group_reads room inner t ts h is.0)
 int_by_reads m no_int room inner t ts h e is = refuses (rw e refl)
 
-int_step_reads : (m : Mode) (room : ℕ) (inner : List Tok → Read Int) (ts : List Tok) → InsideReads m room inner → Reads m room (an_int ∷ []) ts room (λ x. SpellsInt m x ts) (int_step m room inner ts)
+int_step_reads : (m : Dialect) (room : ℕ) (inner : List Tok → Read Int) (ts : List Tok) → InsideReads m room inner → Reads m room (an_int ∷ []) ts room (λ x. SpellsInt m x ts) (int_step m room inner ts)
 int_step_reads m room inner [] h = refuses_end refl
 int_step_reads m room inner (t ∷ ts) h = int_by_reads m (int_form m t.word) room inner t ts h refl (int_is m t.word)
 
-pub int_reads : (m : Mode) (room : ℕ) → IntReads m room (int_at m room)
+pub int_reads : (m : Dialect) (room : ℕ) → IntReads m room (int_at m room)
 unfolding int_at
 int_reads m zero ts = int_step_reads m zero (λ ts. Err 0) ts tt
 int_reads m (suc room) ts = int_step_reads m (suc room) (int_at m room) ts (int_reads m room)
 
-pub int_opened : (m : Mode) (room : ℕ) (ts : List Tok) → int_at m room ts ≡ int_step m room (inner_int m room) ts
+pub int_opened : (m : Dialect) (room : ℕ) (ts : List Tok) → int_at m room ts ≡ int_step m room (inner_int m room) ts
 unfolding int_at
 int_opened m zero ts = refl
 int_opened m (suc room) ts = refl
 
 -- behind a bracket the room is one less
-pub inner_reads : (m : Mode) (room room2 : ℕ) (ts : List Tok) → room ≡ suc room2 → Reads m room2 (an_int ∷ []) ts room2 (λ x. SpellsInt m x ts) (int_at m (room - 1) ts)
+pub inner_reads : (m : Dialect) (room room2 : ℕ) (ts : List Tok) → room ≡ suc room2 → Reads m room2 (an_int ∷ []) ts room2 (λ x. SpellsInt m x ts) (int_at m (room - 1) ts)
 inner_reads m room room2 ts is = let same : room - 1 ≡ room2 = omega arith in rw same (int_reads m room2 ts)
 
 -- ---- names with an index
 
-pub index_reads : (m : Mode) (room : ℕ) (ts : List Tok) → Reads m room (an_index ∷ []) ts room (λ i. SpellsIndex m i ts) (index_at m room ts)
+pub index_reads : (m : Dialect) (room : ℕ) (ts : List Tok) → Reads m room (an_index ∷ []) ts room (λ i. SpellsIndex m i ts) (index_at m room ts)
 index_reads m room [] = passes_end refl refl
 index_reads m room (t ∷ ts) = elim (test (is_mark mark.Hash t.word)) [
   | inl e ↦
@@ -151,11 +151,11 @@ index_reads m room (t ∷ ts) = elim (test (is_mark mark.Hash t.word)) [
   | inr e ↦ rw e (passes (rw e refl) refl)
 ]
 
-pub fam_rest_reads : (m : Mode) (room : ℕ) (x : List ℕ) (from ts : List Tok) → Single (Name x) from ts
+pub fam_rest_reads : (m : Dialect) (room : ℕ) (x : List ℕ) (from ts : List Tok) → Single (Name x) from ts
     → Reads m room (an_index ∷ []) ts room (λ f. SpellsFam m f from) (fam_rest_at m room x ts)
 fam_rest_reads m room x from ts gx = then_seen _ (index_reads m room ts) (λ i rest gi li. (ts, gx, gi))
 
-pub fam_reads : (room : ℕ) (ts : List Tok) → Reads mode.Source room fam_symbols ts room (λ f. SpellsFam mode.Source f ts) (fam_at room ts)
+pub fam_reads : (room : ℕ) (ts : List Tok) → Reads dialect.Source room fam_symbols ts room (λ f. SpellsFam dialect.Source f ts) (fam_at room ts)
 fam_reads room ts =
     then_read _ (name_reads room ts) (λ x t1 gx lx.
-    fam_rest_reads mode.Source room x ts t1 gx)
+    fam_rest_reads dialect.Source room x ts t1 gx)

@@ -3,8 +3,8 @@ use Rattle.std.proofs.Common.{◌≡◌, ◌≤◌, ◌<◌, ◌+◌, ℕ, zero,
 use Rattle.std.proofs.lemmas.Bool.{cases_lt}
 use Rattle.gen_token.specs.declared.Keyword.TheVariants as keyword
 use Rattle.gen_token.specs.Words.{Tok}
-use Rattle.gen_tree.specs.declared.Mode.{Mode}
-use Rattle.gen_tree.specs.declared.Mode.TheVariants as mode
+use Rattle.gen_tree.specs.declared.Dialect.{Dialect}
+use Rattle.gen_tree.specs.declared.Dialect.TheVariants as dialect
 use Rattle.gen_tree.specs.Brackets.{opens, side, room_after, room_left, Within}
 use Rattle.gen_tree.specs.Tree.{Module}
 use Rattle.gen_tree.specs.Grammar.{SpellsModule, Spells}
@@ -36,27 +36,27 @@ one_tree a b ts ha hb =
 
 -- what the reader answers, and what the machine does
 abbrev Answer : ℕ → List Tok → Result (List Module) ℕ → Type 0
-Answer room ts (Ok b) = Spells b ts × (run mode.Source room (a_module ∷ []) ts ≡ accepted)
-Answer room ts (Err left) = run mode.Source room (a_module ∷ []) ts ≡ stopped left
+Answer room ts (Ok b) = Spells b ts × (run dialect.Source room (a_module ∷ []) ts ≡ accepted)
+Answer room ts (Err left) = run dialect.Source room (a_module ∷ []) ts ≡ stopped left
 
-at_bottom : (room : ℕ) → run mode.Source room [] [] ≡ accepted
+at_bottom : (room : ℕ) → run dialect.Source room [] [] ≡ accepted
 unfolding run at_end
 at_bottom room = refl
 
 -- at the bottom another module begins as the first does
-bottom : (room : ℕ) (t : Tok) (ts : List Tok) → run mode.Source room [] (t ∷ ts) ≡ run mode.Source room (a_module ∷ []) (t ∷ ts)
+bottom : (room : ℕ) (t : Tok) (ts : List Tok) → run dialect.Source room [] (t ∷ ts) ≡ run dialect.Source room (a_module ∷ []) (t ∷ ts)
 unfolding run settle
 bottom room t ts = elim (test (is_keyword keyword.Module t.word)) [ inl e ↦ rw e refl | inr e ↦ rw e refl ]
 
 abbrev ReadsModule : ℕ → List Tok → Read Module → Type 0
-ReadsModule room ts o = Reads mode.Source room (a_module ∷ []) ts room (λ m rest. SpellsModule m ts rest × (length rest < length ts)) o
+ReadsModule room ts o = Reads dialect.Source room (a_module ∷ []) ts room (λ m rest. SpellsModule m ts rest × (length rest < length ts)) o
 
 answers : (n room : ℕ) (ts : List Tok) → length ts < n → Answer room ts (source_by n room ts)
 unfolding source_by
 answers zero room ts lt = absurd (omega arith)
 answers (suc n) room ts lt = by (λ t1 l. answers n room t1 l) (module_at room ts) (module_reads room ts)
   where
-    put : (m : Module) (t : Tok) (t1 : List Tok) → (run mode.Source room (a_module ∷ []) ts ≡ run mode.Source room (a_module ∷ []) (t ∷ t1)) → SpellsModule m ts (t ∷ t1) → (o : Result (List Module) ℕ) → Answer room (t ∷ t1) o → Answer room ts (o >>= λ more. Ok (m ∷ more))
+    put : (m : Module) (t : Tok) (t1 : List Tok) → (run dialect.Source room (a_module ∷ []) ts ≡ run dialect.Source room (a_module ∷ []) (t ∷ t1)) → SpellsModule m ts (t ∷ t1) → (o : Result (List Module) ℕ) → Answer room (t ∷ t1) o → Answer room ts (o >>= λ more. Ok (m ∷ more))
     put m t t1 c s (Ok []) g = absurd g.0
     put m t t1 c s (Ok (m2 ∷ more)) g = ((t ∷ t1, s, g.0), c ∙ g.1)
     put m t t1 c s (Err left) g = c ∙ g
@@ -68,8 +68,8 @@ answers (suc n) room ts lt = by (λ t1 l. answers n room t1 l) (module_at room t
     by next (Ok (m, t ∷ t1)) g = put m t t1 (g.reads.0.comes [] ∙ bottom room t t1) g.reads.1.0 (source_by n room (t ∷ t1)) (next (t ∷ t1) (omega (arith, g.reads.1.1)))
 
 record Told (room : ℕ) (ts : List Tok) : Type 0 where
-  ok : (b : List Module) → source_at room ts ≡ Ok b → Spells b ts × (run mode.Source room (a_module ∷ []) ts ≡ accepted)
-  err : (left : ℕ) → source_at room ts ≡ Err left → run mode.Source room (a_module ∷ []) ts ≡ stopped left
+  ok : (b : List Module) → source_at room ts ≡ Ok b → Spells b ts × (run dialect.Source room (a_module ∷ []) ts ≡ accepted)
+  err : (left : ℕ) → source_at room ts ≡ Err left → run dialect.Source room (a_module ∷ []) ts ≡ stopped left
 
 answer : (room : ℕ) (ts : List Tok) → Told room ts
 answer room ts =
@@ -77,19 +77,19 @@ answer room ts =
     record { ok = λ b e. subst (λ (o : Result (List Module) ℕ). Answer room ts o) e all; err = λ left e. subst (λ (o : Result (List Module) ℕ). Answer room ts o) e all }
 
 -- a list that the machine accepts is the spelling of a tree
-accepted_spelled : (room : ℕ) (ts : List Tok) → run mode.Source room (a_module ∷ []) ts ≡ accepted → IsSource ts
+accepted_spelled : (room : ℕ) (ts : List Tok) → run dialect.Source room (a_module ∷ []) ts ≡ accepted → IsSource ts
 accepted_spelled room ts e = by (source_at room ts) refl
   where
     by : (o : Result (List Module) ℕ) → source_at room ts ≡ o → IsSource ts
     by (Ok b) eo = (b, ((answer room ts).ok b eo).0)
     by (Err left) eo = let h : stopped left ≡ accepted = sym ((answer room ts).err left eo) ∙ e in absurd cc
 
-spelled_accepted : (b : List Module) (ts : List Tok) → Spells b ts → run mode.Source (each_depth module_depth b) (a_module ∷ []) ts ≡ accepted
+spelled_accepted : (b : List Module) (ts : List Tok) → Spells b ts → run dialect.Source (each_depth module_depth b) (a_module ∷ []) ts ≡ accepted
 spelled_accepted b ts h = ((answer (each_depth module_depth b) ts).ok b (spelled_read b (each_depth module_depth b) ts (omega arith) h)).1
 
 -- ---- the room
 
-pub accepted_within : (m : Mode) (ts : List Tok) (room : ℕ) (stack : List Symbol) → run m room stack ts ≡ accepted → Within room ts
+pub accepted_within : (m : Dialect) (ts : List Tok) (room : ℕ) (stack : List Symbol) → run m room stack ts ≡ accepted → Within room ts
 unfolding run
 accepted_within m [] room stack e = refl
 accepted_within m (t ∷ ts) room stack e = by (λ r s. accepted_within m ts r s) (settle m stack t.word) (room_after room t.word) e
@@ -99,7 +99,7 @@ accepted_within m (t ∷ ts) room stack e = by (λ r s. accepted_within m ts r s
     by more (Some s) None e = absurd cc
     by more (Some s) (Some r) e = more r s e
 
-pub accepted_if_within : (m : Mode) (ts : List Tok) (big room : ℕ) (stack : List Symbol) → run m big stack ts ≡ accepted → Within room ts → run m room stack ts ≡ accepted
+pub accepted_if_within : (m : Dialect) (ts : List Tok) (big room : ℕ) (stack : List Symbol) → run m big stack ts ≡ accepted → Within room ts → run m room stack ts ≡ accepted
 unfolding run
 accepted_if_within m [] big room stack e w = e
 accepted_if_within m (t ∷ ts) big room stack e w = by (λ r r2 s. accepted_if_within m ts r r2 s) (settle m stack t.word) (room_after big t.word) (room_after room t.word) e w
@@ -113,7 +113,7 @@ accepted_if_within m (t ∷ ts) big room stack e w = by (λ r r2 s. accepted_if_
 -- ---- the theorem
 
 pub read_found : (room : ℕ) (ts : List Tok) (b : List Module) → source_at room ts ≡ Ok b → Spells b ts × Within room ts
-read_found room ts b e = let a = (answer room ts).ok b e in (a.0, accepted_within mode.Source ts room (a_module ∷ []) a.1)
+read_found room ts b e = let a = (answer room ts).ok b e in (a.0, accepted_within dialect.Source ts room (a_module ∷ []) a.1)
 
 pub read_only : (room : ℕ) (ts : List Tok) (b : List Module) → Spells b ts → Within room ts → source_at room ts ≡ Ok b
 read_only room ts b h w = by (source_at room ts) refl
@@ -121,10 +121,10 @@ read_only room ts b h w = by (source_at room ts) refl
     by : (o : Result (List Module) ℕ) → source_at room ts ≡ o → o ≡ Ok b
     by (Ok c) eo = ap Ok (one_tree c b ts ((answer room ts).ok c eo).0 h)
     by (Err left) eo =
-        let acc : run mode.Source room (a_module ∷ []) ts ≡ accepted = accepted_if_within mode.Source ts (each_depth module_depth b) room (a_module ∷ []) (spelled_accepted b ts h) w in
+        let acc : run dialect.Source room (a_module ∷ []) ts ≡ accepted = accepted_if_within dialect.Source ts (each_depth module_depth b) room (a_module ∷ []) (spelled_accepted b ts h) w in
         let bad : stopped left ≡ accepted = sym ((answer room ts).err left eo) ∙ acc in absurd cc
 
-bad_is : (room : ℕ) (ts good bad : List Tok) (left : ℕ) → source_at room ts ≡ Err left → ts ≡ good ++ bad → Within room good → Why mode.Source room (a_module ∷ []) good bad → IsBad IsSource room good bad
+bad_is : (room : ℕ) (ts good bad : List Tok) (left : ℕ) → source_at room ts ≡ Err left → ts ≡ good ++ bad → Within room good → Why dialect.Source room (a_module ∷ []) good bad → IsBad IsSource room good bad
 bad_is room ts good [] left e parts w why = λ whole.
     let all : ts ≡ good = parts ∙ append-nil good in
     let is : source_at room good ≡ Ok whole.0 = read_only room good whole.0 whole.1 w in
@@ -136,7 +136,7 @@ bad_is room ts good (t ∷ rest) left e parts w (inr deep) = inr deep
 
 pub read_fault : (room : ℕ) (ts : List Tok) (left : ℕ) → source_at room ts ≡ Err left → FaultAt IsSource room ts left
 read_fault room ts left e =
-    let h : Halt mode.Source room (a_module ∷ []) ts left = halts mode.Source ts room left (a_module ∷ []) ((answer room ts).err left e) in
+    let h : Halt dialect.Source room (a_module ∷ []) ts left = halts dialect.Source ts room left (a_module ∷ []) ((answer room ts).err left e) in
     record { good = h.good; bad = h.bad; parts = h.parts; count = h.count; completion = h.completion; begins = accepted_spelled (room + h.extra) (h.good ++ h.completion) h.begins; within = h.within; is_bad = bad_is room ts h.good h.bad left e h.parts h.within h.why }
 
 -- a bracket for which there is no room

@@ -5,8 +5,8 @@ use Rattle.gen_token.specs.declared.Keyword.TheVariants as keyword
 use Rattle.gen_token.specs.declared.Mark.{Mark}
 use Rattle.gen_token.specs.declared.Mark.TheVariants as mark
 use Rattle.gen_token.specs.Words.{Word, Reserved, Sign, Tok}
-use Rattle.gen_tree.specs.declared.Mode.{Mode}
-use Rattle.gen_tree.specs.declared.Mode.TheVariants as mode
+use Rattle.gen_tree.specs.declared.Dialect.{Dialect}
+use Rattle.gen_tree.specs.declared.Dialect.TheVariants as dialect
 use Rattle.gen_tree.specs.Brackets.{room_after}
 use Rattle.gen_tree.specs.Grammar.{assign_mark}
 use Rattle.gen_text.specs.Forms.{is_mark, is_keyword, name_form, IntForm, a_number, a_variable, a_group, no_int, int_form, int_op_form, cmp_form, LitForm, a_plain, a_bits, no_lit, lit_form, op_form, PrimForm, a_name, a_lit, a_bracket, a_unary, a_cat, a_mux, a_zext, prim_form, StmtForm, an_assign, a_let, an_if, a_for, a_gen, no_stmt_form, stmt_form, ItemForm, a_wire, a_reg, an_inst, a_block, a_for_item, a_gen_item, no_item_form, item_form, port_form}
@@ -140,7 +140,7 @@ module_symbols = need_name ∷ params ∷ need (sign mark.LeftBrace) ∷ ports_e
 abbrev pub until_step : Word → Option (List Symbol) → Symbol → Move
 until_step w more ends = cond (is_mark mark.RightBrace w) (shift []) (lead more (ends ∷ []))
 
-abbrev pub step : Mode → Symbol → Word → Move
+abbrev pub step : Dialect → Symbol → Word → Move
 step m (need f) w = cond (is_fixed f w) (shift []) stuck
 step m need_name w = lead (if_some [] (name_form w)) []
 step m an_int w = lead (int_lead (int_form m w)) []
@@ -189,11 +189,11 @@ settle_by skip stack below = below
 settle_by stuck stack below = None
 
 -- at the bottom another module may come in a source, and nothing in a condition
-abbrev pub bottom : Mode → Word → Option (List Symbol)
-bottom mode.Source w = cond (is_keyword keyword.Module w) (Some module_symbols) None
-bottom mode.Condition w = None
+abbrev pub bottom : Dialect → Word → Option (List Symbol)
+bottom dialect.Source w = cond (is_keyword keyword.Module w) (Some module_symbols) None
+bottom dialect.Condition w = None
 
-unfoldable pub settle : Mode → List Symbol → Word → Option (List Symbol)
+unfoldable pub settle : Dialect → List Symbol → Word → Option (List Symbol)
 settle m [] w = bottom m w
 settle m (symbol ∷ stack) w = settle_by (step m symbol w) stack (settle m stack w)
 
@@ -206,6 +206,6 @@ run_by None room left more = stopped left
 run_by (Some stack) None left more = stopped left
 run_by (Some stack) (Some room) left more = more room stack
 
-unfoldable pub run : Mode → ℕ → List Symbol → List Tok → End
+unfoldable pub run : Dialect → ℕ → List Symbol → List Tok → End
 run m room stack [] = at_end stack
 run m room stack (t ∷ ts) = run_by (settle m stack t.word) (room_after room t.word) (suc (length ts)) (λ r s. run m r s ts)

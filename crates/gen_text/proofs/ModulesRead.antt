@@ -3,7 +3,7 @@ use Rattle.std.proofs.Common.{◌≡◌, ◌<◌, ◌-◌, ℕ, suc, Bool, true,
 use Rattle.gen_token.specs.declared.Keyword.TheVariants as keyword
 use Rattle.gen_token.specs.declared.Mark.TheVariants as mark
 use Rattle.gen_token.specs.Words.{Word, Name, Number, Literal, Reserved, Sign, Tok}
-use Rattle.gen_tree.specs.declared.Mode.TheVariants as mode
+use Rattle.gen_tree.specs.declared.Dialect.TheVariants as dialect
 use Rattle.gen_tree.specs.Brackets.{room_after}
 use Rattle.gen_tree.specs.Tree.{Param, Items, Port, Module}
 use Rattle.gen_tree.specs.Grammar.{SpellsPort, SpellsModule, direction}
@@ -37,43 +37,43 @@ port_side true room = refl
 port_side false room = refl
 
 port_rest_reads : (room : ℕ) (output : Bool) (t : Tok) (ts : List Tok) → t.word ≡ Reserved (direction output)
-    → Reads mode.Source room port_symbols ts room (λ p rest. SpellsPort p (t ∷ ts) rest × (length rest < suc (length ts))) (port_rest_at room t.line output ts)
+    → Reads dialect.Source room port_symbols ts room (λ p rest. SpellsPort p (t ∷ ts) rest × (length rest < suc (length ts))) (port_rest_at room t.line output ts)
 port_rest_reads room output t ts is =
     then_read _ (name_reads room ts) (λ x t1 gx lx.
     then_word _ (word_reads (sign mark.Colon) room room t1 refl) (λ t2 g2 l2.
-    then_read _ (int_reads mode.Source room t2) (λ w t3 gw lw.
+    then_read _ (int_reads dialect.Source room t2) (λ w t3 gw lw.
     then_word _ (word_reads (sign mark.Semicolon) room room t3 refl) (λ rest gr lr.
     done ((refl, (ts, (is, refl), (t1, gx, (t2, g2, (t3, gw, gr))))), omega arith)))))
 
 port_by_reads : (f : Option Bool) (room : ℕ) (t : Tok) (ts : List Tok) → port_form t.word ≡ f → PortIs f t.word
-    → Reads mode.Source room (a_port ∷ []) (t ∷ ts) room (λ p rest. SpellsPort p (t ∷ ts) rest × (length rest < suc (length ts))) (port_by room f t.line ts)
+    → Reads dialect.Source room (a_port ∷ []) (t ∷ ts) room (λ p rest. SpellsPort p (t ∷ ts) rest × (length rest < suc (length ts))) (port_by room f t.line ts)
 port_by_reads None room t ts e is = refuses (rw e refl)
 port_by_reads (Some output) room t ts e is = takes_first (rw e refl) (rw (is, port_side output room) refl) (port_rest_reads room output t ts is)
 
-pub port_reads : (room : ℕ) (ts : List Tok) → Reads mode.Source room (a_port ∷ []) ts room (λ p rest. SpellsPort p ts rest × (length rest < length ts)) (port_at room ts)
+pub port_reads : (room : ℕ) (ts : List Tok) → Reads dialect.Source room (a_port ∷ []) ts room (λ p rest. SpellsPort p ts rest × (length rest < length ts)) (port_at room ts)
 port_reads room [] = refuses_end refl
 port_reads room (t ∷ ts) = port_by_reads (port_form t.word) room t ts refl (port_is t.word)
 
-settle_ports : (f : Option Bool) (stack : List Symbol) (w : Word) → port_form w ≡ f → is_some f ≡ true → settle mode.Source (ports_end ∷ stack) w ≡ settle mode.Source (a_port ∷ ports_end ∷ stack) w
+settle_ports : (f : Option Bool) (stack : List Symbol) (w : Word) → port_form w ≡ f → is_some f ≡ true → settle dialect.Source (ports_end ∷ stack) w ≡ settle dialect.Source (a_port ∷ ports_end ∷ stack) w
 unfolding settle
 settle_ports None stack w e h = absurd cc
 settle_ports (Some output) stack w e h = rw e refl
 
-opens_ports : (room : ℕ) (ts : List Tok) → begins_port ts ≡ true → Comes mode.Source room (ports_end ∷ []) ts room (a_port ∷ ports_end ∷ []) ts
+opens_ports : (room : ℕ) (ts : List Tok) → begins_port ts ≡ true → Comes dialect.Source room (ports_end ∷ []) ts room (a_port ∷ ports_end ∷ []) ts
 unfolding run at_end
 opens_ports room [] h = absurd cc
 opens_ports room (t ∷ ts) h = record { comes = λ stack. rw (settle_ports (port_form t.word) stack t.word refl h) refl }
 
-pub ports_read : (room : ℕ) (ts : List Tok) → EachReads mode.Source room ports_end begins_port SpellsPort ts (each_at begins_port (port_at room) ts)
-ports_read room ts = each_reads mode.Source (suc (length ts)) room ports_end a_port begins_port SpellsPort (port_at room) ts (record { opens = opens_ports room; reads = port_reads room }) (omega arith)
+pub ports_read : (room : ℕ) (ts : List Tok) → EachReads dialect.Source room ports_end begins_port SpellsPort ts (each_at begins_port (port_at room) ts)
+ports_read room ts = each_reads dialect.Source (suc (length ts)) room ports_end a_port begins_port SpellsPort (port_at room) ts (record { opens = opens_ports room; reads = port_reads room }) (omega arith)
 
 -- behind the ports
-settle_last_port : (stack : List Symbol) (w : Word) (f : Option Bool) → port_form w ≡ f → is_some f ≡ false → settle mode.Source (ports_end ∷ stack) w ≡ settle mode.Source (items_end ∷ stack) w
+settle_last_port : (stack : List Symbol) (w : Word) (f : Option Bool) → port_form w ≡ f → is_some f ≡ false → settle dialect.Source (ports_end ∷ stack) w ≡ settle dialect.Source (items_end ∷ stack) w
 unfolding settle
 settle_last_port stack w None e h = rw e refl
 settle_last_port stack w (Some output) e h = absurd cc
 
-after_ports : (room : ℕ) (ts : List Tok) → begins_port ts ≡ false → Comes mode.Source room (ports_end ∷ []) ts room (items_end ∷ []) ts
+after_ports : (room : ℕ) (ts : List Tok) → begins_port ts ≡ false → Comes dialect.Source room (ports_end ∷ []) ts room (items_end ∷ []) ts
 unfolding run at_end
 after_ports room [] h = record { comes = λ stack. refl }
 after_ports room (t ∷ ts) h = record { comes = λ stack. rw (settle_last_port stack t.word (port_form t.word) refl h) refl }
@@ -125,7 +125,7 @@ module_flat room line x ts = first (params_at room ts)
     first (Ok pars) = second pars.0 (open_at mark.LeftBrace room pars.1)
 
 module_rest_reads : (room : ℕ) (t : Tok) (ts : List Tok) → t.word ≡ Reserved keyword.Module
-    → Reads mode.Source room module_symbols ts room (λ m rest. SpellsModule m (t ∷ ts) rest × (length rest < suc (length ts))) (module_rest_at room t.line ts)
+    → Reads dialect.Source room module_symbols ts room (λ m rest. SpellsModule m (t ∷ ts) rest × (length rest < suc (length ts))) (module_rest_at room t.line ts)
 module_rest_reads room t ts is =
     then_read _ (name_reads room ts) (λ x t1 gx lx.
     rw (module_flat room t.line x t1) (
@@ -137,7 +137,7 @@ module_rest_reads room t ts is =
     then_read _ (items_read room2 t4) (λ body rest gb lb.
     done ((refl, (ts, (is, refl), (t1, gx, (t2, gp, (t3, g3, (t4, gs, (gb.0, gb.1, gb.2))))))), omega arith))))))))
 
-pub module_reads : (room : ℕ) (ts : List Tok) → Reads mode.Source room (a_module ∷ []) ts room (λ m rest. SpellsModule m ts rest × (length rest < length ts)) (module_at room ts)
+pub module_reads : (room : ℕ) (ts : List Tok) → Reads dialect.Source room (a_module ∷ []) ts room (λ m rest. SpellsModule m ts rest × (length rest < length ts)) (module_at room ts)
 unfolding module_at
 module_reads room [] = refuses_end refl
 module_reads room (t ∷ ts) = elim (test (is_keyword keyword.Module t.word)) [
@@ -148,4 +148,4 @@ module_reads room (t ∷ ts) = elim (test (is_keyword keyword.Module t.word)) [
 ]
 
 pub ports_shorten : (room : ℕ) → Shortens (port_at room)
-ports_shorten room = record { shortens = λ ts x rest e. takes mode.Source room _ SpellsPort ts x rest _ (port_reads room ts) e }
+ports_shorten room = record { shortens = λ ts x rest e. takes dialect.Source room _ SpellsPort ts x rest _ (port_reads room ts) e }

@@ -12,8 +12,8 @@ use Rattle.gen_tree.specs.declared.UnOp.{UnOp}
 use Rattle.gen_tree.specs.declared.UnOp.TheVariants as un_op
 use Rattle.gen_tree.specs.declared.Op.{Op}
 use Rattle.gen_tree.specs.declared.Op.TheVariants as op
-use Rattle.gen_tree.specs.declared.Mode.{Mode}
-use Rattle.gen_tree.specs.declared.Mode.TheVariants as mode
+use Rattle.gen_tree.specs.declared.Dialect.{Dialect}
+use Rattle.gen_tree.specs.declared.Dialect.TheVariants as dialect
 use Rattle.gen_tree.specs.Tree.{Int, num, var, bin, Fam, Lit, plain, bits, Expr, read, out, value, unary, binary, mux, zext, slice}
 use Rattle.gen_tree.specs.Grammar.{Single, Sym, Key, SpellsInt, SpellsIndex, SpellsFam, SpellsLit, SpellsTwo, SpellsPrim, SpellsExpr, int_op_mark, cmp_mark, op_mark}
 use Rattle.gen_text.specs.Forms.{is_mark}
@@ -68,43 +68,43 @@ cmp_only cmp.Ne (t ∷ ts) rest h = rw (h.0, h.1) refl
 cmp_only cmp.Lt (t ∷ ts) rest h = rw (h.0, h.1) refl
 cmp_only cmp.Le (t ∷ ts) rest h = rw (h.0, h.1) refl
 
-pub int_only : (m : Mode) (x : Int) (room : ℕ) (ts rest : List Tok) → int_depth x ≤ room → SpellsInt m x ts rest → int_at m room ts ≡ Ok (x, rest)
+pub int_only : (m : Dialect) (x : Int) (room : ℕ) (ts rest : List Tok) → int_depth x ≤ room → SpellsInt m x ts rest → int_at m room ts ≡ Ok (x, rest)
 unfolding int_at
 int_only m (num n) room [] rest le h = absurd h
 int_only m (num n) zero (t ∷ ts) rest le h = rw (h.0, h.1) refl
 int_only m (num n) (suc room) (t ∷ ts) rest le h = rw (h.0, h.1) refl
-int_only mode.Condition (var x) room ts rest le h = absurd h
-int_only mode.Source (var x) room [] rest le h = absurd h
-int_only mode.Source (var x) zero (t ∷ ts) rest le h = rw (h.0, h.1) refl
-int_only mode.Source (var x) (suc room) (t ∷ ts) rest le h = rw (h.0, h.1) refl
-int_only mode.Condition (bin o a b) room ts rest le h = absurd h
-int_only mode.Source (bin o a b) room [] rest le h = absurd h.1
-int_only mode.Source (bin o a b) zero (t ∷ ts) rest le h = absurd (omega arith)
-int_only mode.Source (bin o a b) (suc room) (t ∷ ts) rest le (t1, w, (t2, sa, (t3, so, (t4, sb, sc)))) =
-    rw (w.0, w.1, int_only mode.Source a room t1 t2 (omega arith) sa, int_op_only o t2 t3 so, int_only mode.Source b room t3 t4 (omega arith) sb, mark_only mark.RightParen t4 rest sc) refl
+int_only dialect.Condition (var x) room ts rest le h = absurd h
+int_only dialect.Source (var x) room [] rest le h = absurd h
+int_only dialect.Source (var x) zero (t ∷ ts) rest le h = rw (h.0, h.1) refl
+int_only dialect.Source (var x) (suc room) (t ∷ ts) rest le h = rw (h.0, h.1) refl
+int_only dialect.Condition (bin o a b) room ts rest le h = absurd h
+int_only dialect.Source (bin o a b) room [] rest le h = absurd h.1
+int_only dialect.Source (bin o a b) zero (t ∷ ts) rest le h = absurd (omega arith)
+int_only dialect.Source (bin o a b) (suc room) (t ∷ ts) rest le (t1, w, (t2, sa, (t3, so, (t4, sb, sc)))) =
+    rw (w.0, w.1, int_only dialect.Source a room t1 t2 (omega arith) sa, int_op_only o t2 t3 so, int_only dialect.Source b room t3 t4 (omega arith) sb, mark_only mark.RightParen t4 rest sc) refl
 
-pub index_only : (m : Mode) (i : Option Int) (room : ℕ) (ts rest : List Tok) → index_depth i ≤ room → SpellsIndex m i ts rest → begins (is_mark mark.Hash) rest ≡ false → index_at m room ts ≡ Ok (i, rest)
+pub index_only : (m : Dialect) (i : Option Int) (room : ℕ) (ts rest : List Tok) → index_depth i ≤ room → SpellsIndex m i ts rest → begins (is_mark mark.Hash) rest ≡ false → index_at m room ts ≡ Ok (i, rest)
 index_only m None room ts rest le h f = rw (h, f) refl
 index_only m (Some i) room ts rest le (t1, w, si) f =
     let e = next_is (sign mark.Hash) ts t1 w in
     rw (e.0, e.1, int_only m i room t1 rest le si) refl
 
-pub fam_rest_only : (m : Mode) (f : Fam) (room : ℕ) (ts rest : List Tok) → index_depth f.index ≤ room → SpellsIndex m f.index ts rest → begins (is_mark mark.Hash) rest ≡ false → fam_rest_at m room f.name ts ≡ Ok (f, rest)
+pub fam_rest_only : (m : Dialect) (f : Fam) (room : ℕ) (ts rest : List Tok) → index_depth f.index ≤ room → SpellsIndex m f.index ts rest → begins (is_mark mark.Hash) rest ≡ false → fam_rest_at m room f.name ts ≡ Ok (f, rest)
 fam_rest_only m f room ts rest le h n = rw (index_only m f.index room ts rest le h n) refl
 
-pub fam_only : (f : Fam) (room : ℕ) (ts rest : List Tok) → index_depth f.index ≤ room → SpellsFam mode.Source f ts rest → begins (is_mark mark.Hash) rest ≡ false → fam_at room ts ≡ Ok (f, rest)
-fam_only f room ts rest le (t1, x, h) n = rw (name_only f.name ts t1 x, fam_rest_only mode.Source f room t1 rest le h n) refl
+pub fam_only : (f : Fam) (room : ℕ) (ts rest : List Tok) → index_depth f.index ≤ room → SpellsFam dialect.Source f ts rest → begins (is_mark mark.Hash) rest ≡ false → fam_at room ts ≡ Ok (f, rest)
+fam_only f room ts rest le (t1, x, h) n = rw (name_only f.name ts t1 x, fam_rest_only dialect.Source f room t1 rest le h n) refl
 
 -- ---- literals
 
-pub lit_only : (m : Mode) (l : Lit) (room : ℕ) (ts rest : List Tok) → lit_depth l ≤ room → SpellsLit m l ts rest → lit_at m room ts ≡ Ok (l, rest)
+pub lit_only : (m : Dialect) (l : Lit) (room : ℕ) (ts rest : List Tok) → lit_depth l ≤ room → SpellsLit m l ts rest → lit_at m room ts ≡ Ok (l, rest)
 lit_only m (plain w v) room [] rest le h = absurd h
 lit_only m (plain w v) room (t ∷ ts) rest le h = rw (h.0, h.1) refl
-lit_only mode.Condition (bits w v) room ts rest le h = absurd h
-lit_only mode.Source (bits w v) room [] rest le h = absurd h.1
-lit_only mode.Source (bits w v) zero (t ∷ ts) rest le h = absurd (omega arith)
-lit_only mode.Source (bits w v) (suc room) (t ∷ ts) rest le (t1, k, (t2, s1, (t3, sw, (t4, s2, (t5, sv, s3))))) =
-    rw (k.0, k.1, mark_only mark.LeftParen t1 t2 s1, less_one room, int_only mode.Source w room t2 t3 (omega arith) sw, mark_only mark.Comma t3 t4 s2, int_only mode.Source v room t4 t5 (omega arith) sv, mark_only mark.RightParen t5 rest s3) refl
+lit_only dialect.Condition (bits w v) room ts rest le h = absurd h
+lit_only dialect.Source (bits w v) room [] rest le h = absurd h.1
+lit_only dialect.Source (bits w v) zero (t ∷ ts) rest le h = absurd (omega arith)
+lit_only dialect.Source (bits w v) (suc room) (t ∷ ts) rest le (t1, k, (t2, s1, (t3, sw, (t4, s2, (t5, sv, s3))))) =
+    rw (k.0, k.1, mark_only mark.LeftParen t1 t2 s1, less_one room, int_only dialect.Source w room t2 t3 (omega arith) sw, mark_only mark.Comma t3 t4 s2, int_only dialect.Source v room t4 t5 (omega arith) sv, mark_only mark.RightParen t5 rest s3) refl
 
 -- ---- expressions
 
@@ -154,32 +154,32 @@ follows_comma ts rest h = follows (Sign mark.Comma) ts rest refl refl refl h
 follows_close : (ts rest : List Tok) → Sym mark.RightParen ts rest → Follows ts
 follows_close ts rest h = follows (Sign mark.RightParen) ts rest refl refl refl h
 
-pub expr_opened : (m : Mode) (room : ℕ) (ts : List Tok) → expr_at m room ts ≡ expr_step m room (inner_expr m room) ts
+pub expr_opened : (m : Dialect) (room : ℕ) (ts : List Tok) → expr_at m room ts ≡ expr_step m room (inner_expr m room) ts
 unfolding expr_at
 expr_opened m zero ts = refl
 expr_opened m (suc room) ts = refl
 
 -- behind a primary expression no index and no dot stands
 record PrimOnly (e : Expr) : Type 0 where
-  only : (m : Mode) (room : ℕ) (ts rest : List Tok) → expr_depth e ≤ room → SpellsPrim m e ts rest → begins (is_mark mark.Hash) rest ≡ false → begins (is_mark mark.Dot) rest ≡ false → prim_step m room (inner_expr m room) ts ≡ Ok (e, rest)
+  only : (m : Dialect) (room : ℕ) (ts rest : List Tok) → expr_depth e ≤ room → SpellsPrim m e ts rest → begins (is_mark mark.Hash) rest ≡ false → begins (is_mark mark.Dot) rest ≡ false → prim_step m room (inner_expr m room) ts ≡ Ok (e, rest)
 
 pub record ExprOnly (e : Expr) : Type 0 where
-  pub only : (m : Mode) (room : ℕ) (ts rest : List Tok) → expr_depth e ≤ room → SpellsExpr m e ts rest → Follows rest → expr_at m room ts ≡ Ok (e, rest)
+  pub only : (m : Dialect) (room : ℕ) (ts rest : List Tok) → expr_depth e ≤ room → SpellsExpr m e ts rest → Follows rest → expr_at m room ts ≡ Ok (e, rest)
 
-from_prim : (e : Expr) → ((m : Mode) (ts rest : List Tok) → SpellsExpr m e ts rest → SpellsPrim m e ts rest) → PrimOnly e → ExprOnly e
+from_prim : (e : Expr) → ((m : Dialect) (ts rest : List Tok) → SpellsExpr m e ts rest → SpellsPrim m e ts rest) → PrimOnly e → ExprOnly e
 from_prim e plainly p = record { only = λ m room ts rest le h f. expr_opened m room ts ∙ rw (p.only m room ts rest le (plainly m ts rest h) f.index f.dot, f.bounds) refl }
 
 read_only : (f : Fam) → PrimOnly (read f)
 read_only f = record { only = by }
   where
-    by : (m : Mode) (room : ℕ) (ts rest : List Tok) → expr_depth (read f) ≤ room → SpellsPrim m (read f) ts rest → begins (is_mark mark.Hash) rest ≡ false → begins (is_mark mark.Dot) rest ≡ false → prim_step m room (inner_expr m room) ts ≡ Ok (read f, rest)
+    by : (m : Dialect) (room : ℕ) (ts rest : List Tok) → expr_depth (read f) ≤ room → SpellsPrim m (read f) ts rest → begins (is_mark mark.Hash) rest ≡ false → begins (is_mark mark.Dot) rest ≡ false → prim_step m room (inner_expr m room) ts ≡ Ok (read f, rest)
     by m room [] rest le h s d = absurd h.1
     by m room (t ∷ ts) rest le (t1, x, si) s d = rw (x.0, x.1, fam_rest_only m f room t1 rest le si s, d) refl
 
 out_only : (f : Fam) (q : List ℕ) → PrimOnly (out f q)
 out_only f q = record { only = by }
   where
-    by : (m : Mode) (room : ℕ) (ts rest : List Tok) → expr_depth (out f q) ≤ room → SpellsPrim m (out f q) ts rest → begins (is_mark mark.Hash) rest ≡ false → begins (is_mark mark.Dot) rest ≡ false → prim_step m room (inner_expr m room) ts ≡ Ok (out f q, rest)
+    by : (m : Dialect) (room : ℕ) (ts rest : List Tok) → expr_depth (out f q) ≤ room → SpellsPrim m (out f q) ts rest → begins (is_mark mark.Hash) rest ≡ false → begins (is_mark mark.Dot) rest ≡ false → prim_step m room (inner_expr m room) ts ≡ Ok (out f q, rest)
     by m room [] rest le h s d = absurd h.1.1
     by m room (t ∷ ts) rest le (t2, (t1, x, si), (t3, w, n)) s d =
         let e = next_is (sign mark.Dot) t2 t3 w in
@@ -188,19 +188,19 @@ out_only f q = record { only = by }
 value_only : (l : Lit) → PrimOnly (value l)
 value_only l = record { only = λ m room ts rest le h s d. by m l room ts rest le h }
   where
-    by : (m : Mode) (l : Lit) (room : ℕ) (ts rest : List Tok) → lit_depth l ≤ room → SpellsLit m l ts rest → prim_step m room (inner_expr m room) ts ≡ Ok (value l, rest)
+    by : (m : Dialect) (l : Lit) (room : ℕ) (ts rest : List Tok) → lit_depth l ≤ room → SpellsLit m l ts rest → prim_step m room (inner_expr m room) ts ≡ Ok (value l, rest)
     by m (plain w v) room [] rest le h = absurd h
     by m (plain w v) room (t ∷ ts) rest le h = rw (h.0, h.1) refl
-    by mode.Condition (bits w v) room ts rest le h = absurd h
-    by mode.Source (bits w v) room [] rest le h = absurd h.1
-    by mode.Source (bits w v) zero (t ∷ ts) rest le h = absurd (omega arith)
-    by mode.Source (bits w v) (suc room) (t ∷ ts) rest le (t1, k, (t2, s1, (t3, sw, (t4, s2, (t5, sv, s3))))) =
-        rw (k.0, k.1, mark_only mark.LeftParen t1 t2 s1, less_one room, int_only mode.Source w room t2 t3 (omega arith) sw, mark_only mark.Comma t3 t4 s2, int_only mode.Source v room t4 t5 (omega arith) sv, mark_only mark.RightParen t5 rest s3) refl
+    by dialect.Condition (bits w v) room ts rest le h = absurd h
+    by dialect.Source (bits w v) room [] rest le h = absurd h.1
+    by dialect.Source (bits w v) zero (t ∷ ts) rest le h = absurd (omega arith)
+    by dialect.Source (bits w v) (suc room) (t ∷ ts) rest le (t1, k, (t2, s1, (t3, sw, (t4, s2, (t5, sv, s3))))) =
+        rw (k.0, k.1, mark_only mark.LeftParen t1 t2 s1, less_one room, int_only dialect.Source w room t2 t3 (omega arith) sw, mark_only mark.Comma t3 t4 s2, int_only dialect.Source v room t4 t5 (omega arith) sv, mark_only mark.RightParen t5 rest s3) refl
 
 unary_only : (o : UnOp) (e : Expr) → ExprOnly e → PrimOnly (unary o e)
 unary_only o e oe = record { only = λ m room ts rest le h s d. by o m room ts rest le h }
   where
-    by : (o : UnOp) (m : Mode) (room : ℕ) (ts rest : List Tok) → suc (expr_depth e) ≤ room → SpellsPrim m (unary o e) ts rest → prim_step m room (inner_expr m room) ts ≡ Ok (unary o e, rest)
+    by : (o : UnOp) (m : Dialect) (room : ℕ) (ts rest : List Tok) → suc (expr_depth e) ≤ room → SpellsPrim m (unary o e) ts rest → prim_step m room (inner_expr m room) ts ≡ Ok (unary o e, rest)
     by o m room [] rest le h = absurd h.1
     by o m zero (t ∷ ts) rest le h = absurd (omega arith)
     by un_op.Not m (suc room) (t ∷ ts) rest le (t1, w, (t2, s1, (t3, se, s2))) = rw (w.0, w.1, mark_only mark.LeftParen t1 t2 s1, oe.only m room t2 t3 (omega arith) se (follows_close t3 rest s2), mark_only mark.RightParen t3 rest s2) refl
@@ -208,14 +208,14 @@ unary_only o e oe = record { only = λ m room ts rest le h s d. by o m room ts r
     by un_op.Any m (suc room) (t ∷ ts) rest le (t1, w, (t2, s1, (t3, se, s2))) = rw (w.0, w.1, mark_only mark.LeftParen t1 t2 s1, oe.only m room t2 t3 (omega arith) se (follows_close t3 rest s2), mark_only mark.RightParen t3 rest s2) refl
     by un_op.Parity m (suc room) (t ∷ ts) rest le (t1, w, (t2, s1, (t3, se, s2))) = rw (w.0, w.1, mark_only mark.LeftParen t1 t2 s1, oe.only m room t2 t3 (omega arith) se (follows_close t3 rest s2), mark_only mark.RightParen t3 rest s2) refl
 
-between_only : (o : Op) (k : Mark) (a b : Expr) → op_mark o ≡ Some k → ExprOnly a → ExprOnly b → (m : Mode) (room : ℕ) (ts rest : List Tok) → expr_depth (binary o a b) ≤ room
+between_only : (o : Op) (k : Mark) (a b : Expr) → op_mark o ≡ Some k → ExprOnly a → ExprOnly b → (m : Dialect) (room : ℕ) (ts rest : List Tok) → expr_depth (binary o a b) ≤ room
     → SpellsTwo (Some k) (SpellsExpr m a) (SpellsExpr m b) ts rest → prim_step m room (inner_expr m room) ts ≡ Ok (binary o a b, rest)
 between_only o k a b e oa ob m room [] rest le h = absurd h.1
 between_only o k a b e oa ob m zero (t ∷ ts) rest le h = absurd (omega arith)
 between_only o k a b e oa ob m (suc room) (t ∷ ts) rest le (t1, w, (t2, sa, (t3, so, (t4, sb, sc)))) =
     rw (w.0, w.1, oa.only m room t1 t2 (omega arith) sa (follows_op o k t2 t3 e so), op_only o k t2 t3 e so, ob.only m room t3 t4 (omega arith) sb (follows_close t4 rest sc), mark_only mark.RightParen t4 rest sc) refl
 
-cat_only : (a b : Expr) → ExprOnly a → ExprOnly b → (m : Mode) (room : ℕ) (ts rest : List Tok) → expr_depth (binary op.Cat a b) ≤ room
+cat_only : (a b : Expr) → ExprOnly a → ExprOnly b → (m : Dialect) (room : ℕ) (ts rest : List Tok) → expr_depth (binary op.Cat a b) ≤ room
     → SpellsTwo None (SpellsExpr m a) (SpellsExpr m b) ts rest → prim_step m room (inner_expr m room) ts ≡ Ok (binary op.Cat a b, rest)
 cat_only a b oa ob m room [] rest le h = absurd h.1
 cat_only a b oa ob m zero (t ∷ ts) rest le h = absurd (omega arith)
@@ -240,7 +240,7 @@ binary_only op.Cat a b oa ob = record { only = λ m room ts rest le h s d. cat_o
 zext_only : (e : Expr) (i : Int) → ExprOnly e → PrimOnly (zext e i)
 zext_only e i oe = record { only = λ m room ts rest le h s d. by m room ts rest le h }
   where
-    by : (m : Mode) (room : ℕ) (ts rest : List Tok) → expr_depth (zext e i) ≤ room → SpellsPrim m (zext e i) ts rest → prim_step m room (inner_expr m room) ts ≡ Ok (zext e i, rest)
+    by : (m : Dialect) (room : ℕ) (ts rest : List Tok) → expr_depth (zext e i) ≤ room → SpellsPrim m (zext e i) ts rest → prim_step m room (inner_expr m room) ts ≡ Ok (zext e i, rest)
     by m room [] rest le h = absurd h.1
     by m zero (t ∷ ts) rest le h = absurd (omega arith)
     by m (suc room) (t ∷ ts) rest le (t1, w, (t2, s1, (t3, se, (t4, s2, (t5, si, s3))))) =
@@ -249,7 +249,7 @@ zext_only e i oe = record { only = λ m room ts rest le h s d. by m room ts rest
 mux_only : (c a b : Expr) → ExprOnly c → ExprOnly a → ExprOnly b → PrimOnly (mux c a b)
 mux_only c a b oc oa ob = record { only = λ m room ts rest le h s d. by m room ts rest le h }
   where
-    by : (m : Mode) (room : ℕ) (ts rest : List Tok) → expr_depth (mux c a b) ≤ room → SpellsPrim m (mux c a b) ts rest → prim_step m room (inner_expr m room) ts ≡ Ok (mux c a b, rest)
+    by : (m : Dialect) (room : ℕ) (ts rest : List Tok) → expr_depth (mux c a b) ≤ room → SpellsPrim m (mux c a b) ts rest → prim_step m room (inner_expr m room) ts ≡ Ok (mux c a b, rest)
     by m room [] rest le h = absurd h.1
     by m zero (t ∷ ts) rest le h = absurd (omega arith)
     by m (suc room) (t ∷ ts) rest le (t1, w, (t2, s1, (t3, sc, (t4, s2, (t5, sa, (t6, s3, (t7, sb, s4))))))) =
@@ -268,7 +268,7 @@ mux_only c a b oc oa ob = record { only = λ m room ts rest le h s d. by m room 
 slice_only : (e : Expr) (i j : Int) → PrimOnly e → ExprOnly (slice e i j)
 slice_only e i j p = record { only = λ m room ts rest le h f. by m room ts rest le h }
   where
-    by : (m : Mode) (room : ℕ) (ts rest : List Tok) → expr_depth (slice e i j) ≤ room → SpellsExpr m (slice e i j) ts rest → expr_at m room ts ≡ Ok (slice e i j, rest)
+    by : (m : Dialect) (room : ℕ) (ts rest : List Tok) → expr_depth (slice e i j) ≤ room → SpellsExpr m (slice e i j) ts rest → expr_at m room ts ≡ Ok (slice e i j, rest)
     by m zero ts rest le h = absurd (omega arith)
     by m (suc room) ts rest le (t1, sp, (t2, w, (t3, si, (t4, w2, (t5, sj, w3))))) =
         let next = next_is (sign mark.LeftBracket) t1 t2 w in
@@ -296,6 +296,6 @@ both (slice e i j) = (record { only = λ m room ts rest le h s d. absurd h }, sl
 pub expr_only : (e : Expr) → ExprOnly e
 expr_only e = (both e).1
 
-pub source_expr_only : (e : Expr) (room : ℕ) (ts rest after : List Tok) (w : Word) → expr_depth e ≤ room → SpellsExpr mode.Source e ts rest
-    → is_mark mark.Hash w ≡ false → is_mark mark.Dot w ≡ false → is_mark mark.LeftBracket w ≡ false → Single w rest after → expr_at mode.Source room ts ≡ Ok (e, rest)
-source_expr_only e room ts rest after w le h a b c s = (expr_only e).only mode.Source room ts rest le h (follows w rest after a b c s)
+pub source_expr_only : (e : Expr) (room : ℕ) (ts rest after : List Tok) (w : Word) → expr_depth e ≤ room → SpellsExpr dialect.Source e ts rest
+    → is_mark mark.Hash w ≡ false → is_mark mark.Dot w ≡ false → is_mark mark.LeftBracket w ≡ false → Single w rest after → expr_at dialect.Source room ts ≡ Ok (e, rest)
+source_expr_only e room ts rest after w le h a b c s = (expr_only e).only dialect.Source room ts rest le h (follows w rest after a b c s)

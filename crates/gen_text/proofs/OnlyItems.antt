@@ -3,7 +3,7 @@ use Rattle.std.proofs.Common.{◌≡◌, ◌≤◌, ◌<◌, ℕ, zero, suc, Boo
 use Rattle.gen_token.specs.declared.Keyword.TheVariants as keyword
 use Rattle.gen_token.specs.declared.Mark.TheVariants as mark
 use Rattle.gen_token.specs.Words.{Word, Name, Reserved, Sign, Tok}
-use Rattle.gen_tree.specs.declared.Mode.TheVariants as mode
+use Rattle.gen_tree.specs.declared.Dialect.TheVariants as dialect
 use Rattle.gen_tree.specs.Tree.{Int, Fam, Lit, Stmts, Param, Conn, Item, wire, reg, inst, comb, ff, repeat_items, given_items, Items, no_item, item, items, ElseItems, no_else_items, otherwise_items}
 use Rattle.gen_tree.specs.Grammar.{Span, ◌⨾◌, Sym, Each, Braces, SpellsParam, SpellsParams, SpellsConn, SpellsItem, SpellsItems, SpellsElseItems}
 use Rattle.gen_text.specs.Forms.{is_mark, is_keyword}
@@ -23,7 +23,7 @@ within_each S f room (x ∷ xs) ts rest le (t1, s, more) = (t1, (s, omega arith)
 -- ---- parameters
 
 param_only : (p : Param) (room : ℕ) (ts rest : List Tok) → param_depth p ≤ room → SpellsParam p ts rest → param_at room ts ≡ Ok (p, rest)
-param_only p room ts rest le (t1, n, (t2, w, s)) = rw (name_only p.name ts t1 n, mark_only mark.Equals t1 t2 w, int_only mode.Source p.value room t2 rest le s) refl
+param_only p room ts rest le (t1, n, (t2, w, s)) = rw (name_only p.name ts t1 n, mark_only mark.Equals t1 t2 w, int_only dialect.Source p.value room t2 rest le s) refl
 
 abbrev More : Param → Span
 More p = Sym mark.Comma ⨾ SpellsParam p
@@ -31,7 +31,7 @@ More p = Sym mark.Comma ⨾ SpellsParam p
 more_only : (room : ℕ) (p : Param) (ts rest : List Tok) → More p ts rest × (param_depth p ≤ room) → (begins_param ts ≡ true) × (more_param_at room ts ≡ Ok (p, rest)) × (length rest < length ts)
 more_only room p ts rest ((t1, w, s), le) =
     let e : more_param_at room ts ≡ Ok (p, rest) = rw (mark_only mark.Comma ts t1 w) (param_only p room t1 rest le s) in
-    ((next_is (sign mark.Comma) ts t1 w).0, e, takes mode.Source room _ More ts p rest _ (more_param_reads room ts) e)
+    ((next_is (sign mark.Comma) ts t1 w).0, e, takes dialect.Source room _ More ts p rest _ (more_param_reads room ts) e)
 
 pub params_only : (ps : List Param) (room : ℕ) (ts rest : List Tok) → params_depth ps ≤ room → SpellsParams ps ts rest → begins (is_mark mark.LeftParen) rest ≡ false → params_at room ts ≡ Ok (ps, rest)
 params_only [] room ts rest le h ne = rw (h, ne) refl
@@ -56,7 +56,7 @@ conns_each [] room ts rest le h = h
 conns_each (c ∷ cs) room ts rest le (t1, s, more) = (t1, (s, conn_only c room ts t1 (omega arith) s), conns_each cs room t1 rest (omega arith) more)
 
 conn_begins : (room : ℕ) (c : Conn) (ts rest : List Tok) → SpellsConn c ts rest → conn_at room ts ≡ Ok (c, rest) → (begins (is_mark mark.RightBrace) ts ≡ false) × (length rest < length ts)
-conn_begins room c ts rest h e = (not_next (is_mark mark.RightBrace) (Name c.port) ts h.1.0 refl h.1.1, takes mode.Source room _ SpellsConn ts c rest _ (conn_reads room ts) e)
+conn_begins room c ts rest h e = (not_next (is_mark mark.RightBrace) (Name c.port) ts h.1.0 refl h.1.1, takes dialect.Source room _ SpellsConn ts c rest _ (conn_reads room ts) e)
 
 conns_only : (cs : List Conn) (room : ℕ) (ts rest : List Tok) → suc (each_depth conn_depth cs) ≤ room → Braces (Each SpellsConn cs) ts rest → conns_at room ts ≡ Ok (cs, rest)
 conns_only cs zero ts rest le h = absurd (omega arith)
@@ -72,7 +72,7 @@ item_opened zero ts = refl
 item_opened (suc room) ts = refl
 
 pub item_shorter : (room : ℕ) (i : Item) (ts rest : List Tok) → item_at room ts ≡ Ok (i, rest) → length rest < length ts
-item_shorter room i ts rest e = takes mode.Source room _ SpellsItem ts i rest _ (item_reads room ts) e
+item_shorter room i ts rest e = takes dialect.Source room _ SpellsItem ts i rest _ (item_reads room ts) e
 
 pub items_bodies : Bodies items item_at inner_items
 items_bodies = record { bodies = λ room ts. refl; shorten = λ room. record { shortens = λ ts i rest e. item_shorter room i ts rest e } }
@@ -135,7 +135,7 @@ body_only b room ts t1 mid rest s1 h s2 = rw (mark_only mark.LeftBrace ts t1 s1)
 wire_only : (line : ℕ) (f : Fam) (w : Int) (room : ℕ) (ts rest : List Tok) → item_depth (wire line f w) ≤ room → SpellsItem (wire line f w) ts rest → item_step room (inner_items room) ts ≡ Ok (wire line f w, rest)
 wire_only line f w room [] rest le h = absurd h.0
 wire_only line f w room (t ∷ ts) rest le (ln, (t1, k, (t2, sf, (t3, s1, (t4, sw, s2))))) =
-    rw (k.0, k.1, ln, fam_only f room t1 t2 (omega arith) sf (not_next (is_mark mark.Hash) (Sign mark.Colon) t2 t3 refl s1), mark_only mark.Colon t2 t3 s1, int_only mode.Source w room t3 t4 (omega arith) sw, mark_only mark.Semicolon t4 rest s2) refl
+    rw (k.0, k.1, ln, fam_only f room t1 t2 (omega arith) sf (not_next (is_mark mark.Hash) (Sign mark.Colon) t2 t3 refl s1), mark_only mark.Colon t2 t3 s1, int_only dialect.Source w room t3 t4 (omega arith) sw, mark_only mark.Semicolon t4 rest s2) refl
 
 reg_only : (line : ℕ) (f : Fam) (w : Int) (l : Lit) (room : ℕ) (ts rest : List Tok) → item_depth (reg line f w l) ≤ room → SpellsItem (reg line f w l) ts rest → item_step room (inner_items room) ts ≡ Ok (reg line f w l, rest)
 reg_only line f w l room [] rest le h = absurd h.0
@@ -146,9 +146,9 @@ reg_only line f w l room (t ∷ ts) rest le (ln, (t1, k, (t2, sf, (t3, s1, (t4, 
       ln,
       fam_only f room t1 t2 (omega arith) sf (not_next (is_mark mark.Hash) (Sign mark.Colon) t2 t3 refl s1),
       mark_only mark.Colon t2 t3 s1,
-      int_only mode.Source w room t3 t4 (omega arith) sw,
+      int_only dialect.Source w room t3 t4 (omega arith) sw,
       mark_only mark.Equals t4 t5 s2,
-      lit_only mode.Source l room t5 t6 (omega arith) sl,
+      lit_only dialect.Source l room t5 t6 (omega arith) sl,
       mark_only mark.Semicolon t6 rest s3,
     ) refl
 

@@ -2,7 +2,7 @@
 use Rattle.std.proofs.Common.{◌≡◌, ◌≤◌, ◌<◌, ℕ, zero, suc, Bool, true, false, List, [], ◌∷◌, length, is_some, Ok, refl, sym, ap, ◌∙◌, arith}
 use Rattle.gen_token.specs.declared.Mark.TheVariants as mark
 use Rattle.gen_token.specs.Words.{Reserved, Sign, Tok}
-use Rattle.gen_tree.specs.declared.Mode.TheVariants as mode
+use Rattle.gen_tree.specs.declared.Dialect.TheVariants as dialect
 use Rattle.gen_tree.specs.Tree.{Items, no_item, item, Port, Module}
 use Rattle.gen_tree.specs.Grammar.{Sym, Key, Each, SpellsItems, SpellsPort, SpellsModule, direction}
 use Rattle.gen_text.specs.Forms.{is_mark, port_form}
@@ -20,15 +20,15 @@ port_begins false (t ∷ ts) rest h = rw h.0 refl
 
 port_only_by : (b : Bool) (p : Port) (room : ℕ) (t : Tok) (ts rest : List Tok) → b ≡ p.output → port_depth p ≤ room → SpellsPort p (t ∷ ts) rest → port_at room (t ∷ ts) ≡ Ok (p, rest)
 port_only_by true p room t ts rest b le (ln, (t1, w, (t2, x, (t3, c, (t4, i, s))))) =
-    rw (w.0 ∙ ap (λ o. Reserved (direction o)) (sym b), w.1, ln, name_only p.name t1 t2 x, mark_only mark.Colon t2 t3 c, int_only mode.Source p.width room t3 t4 le i, mark_only mark.Semicolon t4 rest s, b) refl
+    rw (w.0 ∙ ap (λ o. Reserved (direction o)) (sym b), w.1, ln, name_only p.name t1 t2 x, mark_only mark.Colon t2 t3 c, int_only dialect.Source p.width room t3 t4 le i, mark_only mark.Semicolon t4 rest s, b) refl
 port_only_by false p room t ts rest b le (ln, (t1, w, (t2, x, (t3, c, (t4, i, s))))) =
-    rw (w.0 ∙ ap (λ o. Reserved (direction o)) (sym b), w.1, ln, name_only p.name t1 t2 x, mark_only mark.Colon t2 t3 c, int_only mode.Source p.width room t3 t4 le i, mark_only mark.Semicolon t4 rest s, b) refl
+    rw (w.0 ∙ ap (λ o. Reserved (direction o)) (sym b), w.1, ln, name_only p.name t1 t2 x, mark_only mark.Colon t2 t3 c, int_only dialect.Source p.width room t3 t4 le i, mark_only mark.Semicolon t4 rest s, b) refl
 
 port_only : (room : ℕ) (p : Port) (ts rest : List Tok) → SpellsPort p ts rest × (port_depth p ≤ room) → (begins_port ts ≡ true) × (port_at room ts ≡ Ok (p, rest)) × (length rest < length ts)
 port_only room p [] rest h = absurd h.0.0
 port_only room p (t ∷ ts) rest h =
     let e : port_at room (t ∷ ts) ≡ Ok (p, rest) = port_only_by p.output p room t ts rest refl h.1 h.0 in
-    (port_begins p.output (t ∷ ts) h.0.1.0 h.0.1.1, e, takes mode.Source room _ SpellsPort (t ∷ ts) p rest _ (port_reads room (t ∷ ts)) e)
+    (port_begins p.output (t ∷ ts) h.0.1.0 h.0.1.1, e, takes dialect.Source room _ SpellsPort (t ∷ ts) p rest _ (port_reads room (t ∷ ts)) e)
 
 no_port : NoItem (λ w. is_some (port_form w))
 no_port = record { wires = refl; regs = refl; insts = refl; combs = refl; ffs = refl; fors = refl; gens = refl }
@@ -56,7 +56,7 @@ module_only m (suc room) (t ∷ ts) rest le (ln, (t1, w, (t2, x, (t3, ps, (t4, o
     ) refl
 
 pub module_shorter : (m : Module) (room : ℕ) (ts rest : List Tok) → module_at room ts ≡ Ok (m, rest) → length rest < length ts
-module_shorter m room ts rest e = takes mode.Source room _ SpellsModule ts m rest _ (module_reads room ts) e
+module_shorter m room ts rest e = takes dialect.Source room _ SpellsModule ts m rest _ (module_reads room ts) e
 
 pub source_only : (m : Module) (ms : List Module) (n room : ℕ) (ts : List Tok) → each_depth module_depth (m ∷ ms) ≤ room → length ts < n → Each SpellsModule (m ∷ ms) ts [] → source_by n room ts ≡ Ok (m ∷ ms)
 unfolding source_by

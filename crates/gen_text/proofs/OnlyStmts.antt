@@ -4,7 +4,7 @@ use Rattle.gen_token.specs.declared.Keyword.TheVariants as keyword
 use Rattle.gen_token.specs.declared.Mark.TheVariants as mark
 use Rattle.gen_token.specs.Words.{Word, Name, Reserved, Sign, Tok}
 use Rattle.gen_tree.specs.declared.Cmp.{Cmp}
-use Rattle.gen_tree.specs.declared.Mode.TheVariants as mode
+use Rattle.gen_tree.specs.declared.Dialect.TheVariants as dialect
 use Rattle.gen_tree.specs.Tree.{Int, Fam, Expr, Stmt, assign, bind, choose, repeat, given, Stmts, no_stmt, stmt, stmts, Else, no_else, otherwise}
 use Rattle.gen_tree.specs.Grammar.{Sym, Each, Braces, SpellsTurns, SpellsGiven, SpellsStmt, SpellsStmts, SpellsElse}
 use Rattle.gen_text.specs.Forms.{is_mark, is_keyword}
@@ -22,7 +22,7 @@ stmt_opened clocked zero ts = refl
 stmt_opened clocked (suc room) ts = refl
 
 pub stmt_shorter : (clocked : Bool) (room : ℕ) (s : Stmt) (ts rest : List Tok) → stmt_at clocked room ts ≡ Ok (s, rest) → length rest < length ts
-stmt_shorter clocked room s ts rest e = takes mode.Source room _ (SpellsStmt clocked) ts s rest _ (stmt_reads clocked room ts) e
+stmt_shorter clocked room s ts rest e = takes dialect.Source room _ (SpellsStmt clocked) ts s rest _ (stmt_reads clocked room ts) e
 
 pub stmts_shorten : (clocked : Bool) (room : ℕ) → Shortens (stmt_at clocked room)
 stmts_shorten clocked room = record { shortens = λ ts s rest e. stmt_shorter clocked room s ts rest e }
@@ -34,12 +34,12 @@ stmts_bodies clocked = record { bodies = λ room ts. refl; shorten = stmts_short
 
 pub turns_only : (x : List ℕ) (a b : Int) (room : ℕ) (t : Tok) (ts rest : List Tok) → max (int_depth a) (int_depth b) ≤ room → SpellsTurns x a b (t ∷ ts) rest → (t.word ≡ Reserved keyword.For) × (turns_at room ts ≡ Ok ((x, a, b), rest))
 turns_only x a b room t ts rest le (t1, w, (t2, n, (t3, i, (t4, sa, (t5, d, sb))))) =
-    (w.0, rw (w.1, name_only x t1 t2 n, key_only keyword.In t2 t3 i, int_only mode.Source a room t3 t4 (omega arith) sa, mark_only mark.DotDot t4 t5 d, int_only mode.Source b room t5 rest (omega arith) sb) refl)
+    (w.0, rw (w.1, name_only x t1 t2 n, key_only keyword.In t2 t3 i, int_only dialect.Source a room t3 t4 (omega arith) sa, mark_only mark.DotDot t4 t5 d, int_only dialect.Source b room t5 rest (omega arith) sb) refl)
 
 pub given_only : (a : Int) (c : Cmp) (b : Int) (room : ℕ) (t : Tok) (ts rest : List Tok) → suc (max (int_depth a) (int_depth b)) ≤ room → SpellsGiven a c b (t ∷ ts) rest → (t.word ≡ Reserved keyword.Gen) × (given_at room ts ≡ Ok ((a, c, b), rest))
 given_only a c b zero t ts rest le h = absurd (omega arith)
 given_only a c b (suc room) t ts rest le (t1, w, (t2, k, (t3, s1, (t4, sa, (t5, sc, (t6, sb, s2)))))) =
-    (w.0, rw (w.1, key_only keyword.If t1 t2 k, mark_only mark.LeftParen t2 t3 s1, less_one room, int_only mode.Source a room t3 t4 (omega arith) sa, cmp_only c t4 t5 sc, int_only mode.Source b room t5 t6 (omega arith) sb, mark_only mark.RightParen t6 rest s2) refl)
+    (w.0, rw (w.1, key_only keyword.If t1 t2 k, mark_only mark.LeftParen t2 t3 s1, less_one room, int_only dialect.Source a room t3 t4 (omega arith) sa, cmp_only c t4 t5 sc, int_only dialect.Source b room t5 t6 (omega arith) sb, mark_only mark.RightParen t6 rest s2) refl)
 
 -- ---- how a statement begins
 
@@ -89,7 +89,7 @@ assign_only true line f e room (t ∷ ts) rest le (ln, (t1, (t0, w, si), (t2, w2
       w.0,
       w.1,
       ln,
-      fam_rest_only mode.Source f room t0 t1 (omega arith) si (not_next (is_mark mark.Hash) (Sign mark.LessEquals) t1 t2 refl w2),
+      fam_rest_only dialect.Source f room t0 t1 (omega arith) si (not_next (is_mark mark.Hash) (Sign mark.LessEquals) t1 t2 refl w2),
       mark_only mark.LessEquals t1 t2 w2,
       source_expr_only e room t2 t3 rest (Sign mark.Semicolon) (omega arith) se refl refl refl w3,
       mark_only mark.Semicolon t3 rest w3,
@@ -99,7 +99,7 @@ assign_only false line f e room (t ∷ ts) rest le (ln, (t1, (t0, w, si), (t2, w
       w.0,
       w.1,
       ln,
-      fam_rest_only mode.Source f room t0 t1 (omega arith) si (not_next (is_mark mark.Hash) (Sign mark.Equals) t1 t2 refl w2),
+      fam_rest_only dialect.Source f room t0 t1 (omega arith) si (not_next (is_mark mark.Hash) (Sign mark.Equals) t1 t2 refl w2),
       mark_only mark.Equals t1 t2 w2,
       source_expr_only e room t2 t3 rest (Sign mark.Semicolon) (omega arith) se refl refl refl w3,
       mark_only mark.Semicolon t3 rest w3,

@@ -3,7 +3,7 @@ use Rattle.std.proofs.Common.{◌≡◌, ◌<◌, ℕ, zero, suc, Bool, true, fa
 use Rattle.gen_token.specs.declared.Keyword.TheVariants as keyword
 use Rattle.gen_token.specs.declared.Mark.TheVariants as mark
 use Rattle.gen_token.specs.Words.{Word, Name, Number, Literal, Reserved, Sign, Tok}
-use Rattle.gen_tree.specs.declared.Mode.TheVariants as mode
+use Rattle.gen_tree.specs.declared.Dialect.TheVariants as dialect
 use Rattle.gen_tree.specs.Brackets.{room_after}
 use Rattle.gen_tree.specs.Tree.{Stmt, Stmts, stmts, no_else, otherwise}
 use Rattle.gen_tree.specs.Grammar.{Each, SpellsTurns, SpellsGiven, SpellsStmt, SpellsStmts, SpellsElse, assign_mark}
@@ -19,23 +19,23 @@ use Rattle.gen_text.proofs.Lists.{UntilOf, until_reads, opens_until, InsideBody,
 -- ---- heads of loops and of `gen if`
 
 pub turns_reads : (room : ℕ) (t : Tok) (ts : List Tok) → t.word ≡ Reserved keyword.For
-    → Reads mode.Source room turn_symbols ts room (λ h. SpellsTurns h.0 h.1 h.2 (t ∷ ts)) (turns_at room ts)
+    → Reads dialect.Source room turn_symbols ts room (λ h. SpellsTurns h.0 h.1 h.2 (t ∷ ts)) (turns_at room ts)
 turns_reads room t ts is =
     then_read _ (name_reads room ts) (λ x t1 gx lx.
     then_word _ (word_reads (key keyword.In) room room t1 refl) (λ t2 g2 l2.
-    then_read _ (int_reads mode.Source room t2) (λ a t3 ga la.
+    then_read _ (int_reads dialect.Source room t2) (λ a t3 ga la.
     then_word _ (word_reads (sign mark.DotDot) room room t3 refl) (λ t4 g4 l4.
-    then_read _ (int_reads mode.Source room t4) (λ b rest gb lb.
+    then_read _ (int_reads dialect.Source room t4) (λ b rest gb lb.
     done (ts, (is, refl), (t1, gx, (t2, g2, (t3, ga, (t4, g4, gb))))))))))
 
 pub given_reads : (room : ℕ) (t : Tok) (ts : List Tok) → t.word ≡ Reserved keyword.Gen
-    → Reads mode.Source room given_symbols ts room (λ h. SpellsGiven h.0 h.1 h.2 (t ∷ ts)) (given_at room ts)
+    → Reads dialect.Source room given_symbols ts room (λ h. SpellsGiven h.0 h.1 h.2 (t ∷ ts)) (given_at room ts)
 given_reads room t ts is =
     then_word _ (word_reads (key keyword.If) room room ts refl) (λ t1 g1 l1.
     then_open mark.LeftParen room t1 _ refl (λ room2 room-is t2 g2 l2.
-    then_read _ (inner_reads mode.Source room room2 t2 room-is) (λ a t3 ga la.
+    then_read _ (inner_reads dialect.Source room room2 t2 room-is) (λ a t3 ga la.
     then_read _ (cmp_reads room2 t3) (λ c t4 gc lc.
-    then_read _ (inner_reads mode.Source room room2 t4 room-is) (λ b t5 gb lb.
+    then_read _ (inner_reads dialect.Source room room2 t4 room-is) (λ b t5 gb lb.
     then_word _ (word_reads (sign mark.RightParen) room2 room t5 (rw (← room-is) refl)) (λ rest gr lr.
     done (ts, (is, refl), (t1, g1, (t2, g2, (t3, ga, (t4, gc, (t5, gb, gr))))))))))))
 
@@ -69,20 +69,20 @@ assign_side true room = refl
 assign_side false room = refl
 
 assign_reads : (clocked : Bool) (room : ℕ) (x : List ℕ) (t : Tok) (ts : List Tok) → t.word ≡ Name x
-    → Reads mode.Source room (an_index ∷ need (sign (assign_mark clocked)) ∷ an_expr ∷ need (sign mark.Semicolon) ∷ []) ts room (TakesStmt clocked (t ∷ ts)) (assign_at clocked room t.line x ts)
+    → Reads dialect.Source room (an_index ∷ need (sign (assign_mark clocked)) ∷ an_expr ∷ need (sign mark.Semicolon) ∷ []) ts room (TakesStmt clocked (t ∷ ts)) (assign_at clocked room t.line x ts)
 assign_reads clocked room x t ts is =
-    then_read _ (fam_rest_reads mode.Source room x (t ∷ ts) ts (is, refl)) (λ f t1 gf lf.
+    then_read _ (fam_rest_reads dialect.Source room x (t ∷ ts) ts (is, refl)) (λ f t1 gf lf.
     then_word _ (word_reads (sign (assign_mark clocked)) room room t1 (assign_side clocked room)) (λ t2 g2 l2.
-    then_read _ (expr_reads mode.Source room t2) (λ e t3 ge le.
+    then_read _ (expr_reads dialect.Source room t2) (λ e t3 ge le.
     then_word _ (word_reads (sign mark.Semicolon) room room t3 refl) (λ rest gr lr.
     done ((refl, (t1, gf, (t2, g2, (t3, ge, gr)))), omega arith)))))
 
 let_reads : (clocked : Bool) (room : ℕ) (t : Tok) (ts : List Tok) → t.word ≡ Reserved keyword.Let
-    → Reads mode.Source room (need_name ∷ an_index ∷ need (sign mark.Equals) ∷ an_expr ∷ need (sign mark.Semicolon) ∷ []) ts room (TakesStmt clocked (t ∷ ts)) (let_at room t.line ts)
+    → Reads dialect.Source room (need_name ∷ an_index ∷ need (sign mark.Equals) ∷ an_expr ∷ need (sign mark.Semicolon) ∷ []) ts room (TakesStmt clocked (t ∷ ts)) (let_at room t.line ts)
 let_reads clocked room t ts is =
     then_front fam_symbols _ (fam_reads room ts) (λ f t1 gf lf.
     then_word _ (word_reads (sign mark.Equals) room room t1 refl) (λ t2 g2 l2.
-    then_read _ (expr_reads mode.Source room t2) (λ e t3 ge le.
+    then_read _ (expr_reads dialect.Source room t2) (λ e t3 ge le.
     then_word _ (word_reads (sign mark.Semicolon) room room t3 refl) (λ rest gr lr.
     done ((refl, (ts, (is, refl), (t1, gf, (t2, g2, (t3, ge, gr))))), omega arith)))))
 
@@ -94,22 +94,22 @@ else_of : (clocked : Bool) → ElseOf (an_else clocked) (stmts_end clocked) (Spe
 else_of clocked = record { steps = λ w. refl; ends_so = refl; nothing = λ ts. refl; something = λ b ts rest h. h }
 
 if_reads : (clocked : Bool) (room : ℕ) (inner : List Tok → Read Stmts) (t : Tok) (ts : List Tok) → StmtsInside clocked room inner → t.word ≡ Reserved keyword.If
-    → Reads mode.Source room (an_expr ∷ body_symbols (stmts_end clocked) ++ an_else clocked ∷ []) ts room (TakesStmt clocked (t ∷ ts)) (if_at room inner t.line ts)
+    → Reads dialect.Source room (an_expr ∷ body_symbols (stmts_end clocked) ++ an_else clocked ∷ []) ts room (TakesStmt clocked (t ∷ ts)) (if_at room inner t.line ts)
 if_reads clocked room inner t ts h is =
-    then_read _ (expr_reads mode.Source room ts) (λ c t1 gc lc.
+    then_read _ (expr_reads dialect.Source room ts) (λ c t1 gc lc.
     then_front (body_symbols (stmts_end clocked)) _ (body_reads (stmts_end clocked) (SpellsStmts clocked) room inner t1 h) (λ a t2 ga la.
     then_read _ (else_reads (an_else clocked) (stmts_end clocked) (SpellsStmts clocked) (SpellsElse clocked) no_else otherwise room inner t2 (else_of clocked) h) (λ b rest gb lb.
     done ((refl, (ts, (is, refl), (t1, gc, (t2, ga, gb)))), omega arith))))
 
 for_reads : (clocked : Bool) (room : ℕ) (inner : List Tok → Read Stmts) (t : Tok) (ts : List Tok) → StmtsInside clocked room inner → t.word ≡ Reserved keyword.For
-    → Reads mode.Source room (turn_symbols ++ body_symbols (stmts_end clocked)) ts room (TakesStmt clocked (t ∷ ts)) (for_at room inner t.line ts)
+    → Reads dialect.Source room (turn_symbols ++ body_symbols (stmts_end clocked)) ts room (TakesStmt clocked (t ∷ ts)) (for_at room inner t.line ts)
 for_reads clocked room inner t ts h is =
     then_front turn_symbols _ (turns_reads room t ts is) (λ x t1 gx lx.
     then_front (body_symbols (stmts_end clocked)) _ (body_reads (stmts_end clocked) (SpellsStmts clocked) room inner t1 h) (λ b rest gb lb.
     done ((refl, (t1, gx, gb)), omega arith)))
 
 gen_reads : (clocked : Bool) (room : ℕ) (inner : List Tok → Read Stmts) (t : Tok) (ts : List Tok) → StmtsInside clocked room inner → t.word ≡ Reserved keyword.Gen
-    → Reads mode.Source room (given_symbols ++ body_symbols (stmts_end clocked) ++ an_else clocked ∷ []) ts room (TakesStmt clocked (t ∷ ts)) (gen_at room inner t.line ts)
+    → Reads dialect.Source room (given_symbols ++ body_symbols (stmts_end clocked) ++ an_else clocked ∷ []) ts room (TakesStmt clocked (t ∷ ts)) (gen_at room inner t.line ts)
 gen_reads clocked room inner t ts h is =
     then_front given_symbols _ (given_reads room t ts is) (λ x t1 gx lx.
     then_front (body_symbols (stmts_end clocked)) _ (body_reads (stmts_end clocked) (SpellsStmts clocked) room inner t1 h) (λ a t2 ga la.
@@ -117,7 +117,7 @@ gen_reads clocked room inner t ts h is =
     done ((refl, (t1, gx, (t2, ga, gb))), omega arith))))
 
 stmt_by_reads : (clocked : Bool) (f : StmtForm) (room : ℕ) (inner : List Tok → Read Stmts) (t : Tok) (ts : List Tok) → StmtsInside clocked room inner → stmt_form t.word ≡ f → StmtIs f t.word
-    → Reads mode.Source room (a_stmt clocked ∷ []) (t ∷ ts) room (TakesStmt clocked (t ∷ ts)) (stmt_by clocked room inner f t.line ts)
+    → Reads dialect.Source room (a_stmt clocked ∷ []) (t ∷ ts) room (TakesStmt clocked (t ∷ ts)) (stmt_by clocked room inner f t.line ts)
 stmt_by_reads clocked (an_assign x) room inner t ts h e is = takes_first (rw e refl) (rw is refl) (assign_reads clocked room x t ts is)
 stmt_by_reads clocked a_let room inner t ts h e is = takes_first (rw e refl) (rw is refl) (let_reads clocked room t ts is)
 stmt_by_reads clocked an_if room inner t ts h e is = takes_first (rw e refl) (rw is refl) (if_reads clocked room inner t ts h is)
@@ -126,7 +126,7 @@ stmt_by_reads clocked a_gen room inner t ts h e is = takes_first (rw e refl) (rw
 stmt_by_reads clocked no_stmt_form room inner t ts h e is = refuses (rw e refl)
 
 abbrev StmtReads : Bool → ℕ → (List Tok → Read Stmt) → Type 0
-StmtReads clocked room member = (ts : List Tok) → Reads mode.Source room (a_stmt clocked ∷ []) ts room (TakesStmt clocked ts) (member ts)
+StmtReads clocked room member = (ts : List Tok) → Reads dialect.Source room (a_stmt clocked ∷ []) ts room (TakesStmt clocked ts) (member ts)
 
 stmt_step_reads : (clocked : Bool) (room : ℕ) (inner : List Tok → Read Stmts) → StmtsInside clocked room inner → StmtReads clocked room (stmt_step clocked room inner)
 stmt_step_reads clocked room inner h [] = refuses_end refl
@@ -139,16 +139,16 @@ each_stmts clocked [] ts rest h = h
 each_stmts clocked (x ∷ xs) ts rest (t1, s, more) = (t1, s, each_stmts clocked xs t1 rest more)
 
 stmts_of_list : (clocked : Bool) (room : ℕ) (member : List Tok → Read Stmt) → StmtReads clocked room member
-    → UntilOf mode.Source room (stmts_end clocked) (a_stmt clocked) (SpellsStmt clocked) member
+    → UntilOf dialect.Source room (stmts_end clocked) (a_stmt clocked) (SpellsStmt clocked) member
 stmts_of_list clocked room member h = record {
   closes = λ w e. rw e refl;
-  opens = opens_until mode.Source room (stmts_end clocked) (a_stmt clocked) (λ w. stmt_lead clocked (stmt_form w)) (λ w. refl) (λ w. refl) refl refl;
+  opens = opens_until dialect.Source room (stmts_end clocked) (a_stmt clocked) (λ w. stmt_lead clocked (stmt_form w)) (λ w. refl) (λ w. refl) refl refl;
   reads = h;
 }
 
 stmts_read : (clocked : Bool) (room : ℕ) (member : List Tok → Read Stmt) → StmtReads clocked room member → StmtsInside clocked (suc room) (stmts_until member)
 stmts_read clocked room member h ts =
-    then_seen _ (until_reads mode.Source (suc (length ts)) room (stmts_end clocked) (a_stmt clocked) (SpellsStmt clocked) member ts (stmts_of_list clocked room member h) (omega arith))
+    then_seen _ (until_reads dialect.Source (suc (length ts)) room (stmts_end clocked) (a_stmt clocked) (SpellsStmt clocked) member ts (stmts_of_list clocked room member h) (omega arith))
     (λ xs rest gx lx. (gx.0, each_stmts clocked xs ts gx.0 gx.1, gx.2))
 
 pub stmt_reads : (clocked : Bool) (room : ℕ) → StmtReads clocked room (stmt_at clocked room)

@@ -6,7 +6,7 @@ use Rattle.gen_token.specs.contracts.Mark as mark_enum
 use Rattle.gen_token.specs.declared.Keyword.{Keyword}
 use Rattle.gen_token.specs.declared.Mark.{Mark}
 use Rattle.gen_token.specs.Words.{Word, Name, Number, Literal, Reserved, Sign, Tok}
-use Rattle.gen_tree.specs.declared.Mode.{Mode}
+use Rattle.gen_tree.specs.declared.Dialect.{Dialect}
 use Rattle.gen_tree.specs.Brackets.{opens, side, room_by}
 use Rattle.gen_tree.specs.Grammar.{Single, Sym}
 use Rattle.gen_text.specs.Forms.{is_mark, is_keyword, name_form}
@@ -40,7 +40,7 @@ pub test : (b : Bool) → (b ≡ true) ⊎ (b ≡ false)
 test true = inl refl
 test false = inr refl
 
-pub word_reads : {m : Mode} (f : Fixed) (room room2 : ℕ) (ts : List Tok) → room_by (side (fixed_word f)) room ≡ Some room2
+pub word_reads : {m : Dialect} (f : Fixed) (room room2 : ℕ) (ts : List Tok) → room_by (side (fixed_word f)) room ≡ Some room2
     → ReadsOn m room (need f ∷ []) ts room2 (Single (fixed_word f) ts) (behind (is_fixed f) ts)
 word_reads {m = m} f room room2 [] h = record { reads = record { stops = λ stack. ended m room (need f) stack refl } }
 word_reads {m = m} f room room2 (t ∷ ts) h = elim (test (is_fixed f t.word)) [
@@ -52,7 +52,7 @@ word_reads {m = m} f room room2 (t ∷ ts) h = elim (test (is_fixed f t.word)) [
 ]
 
 -- a bracket where there is no room
-open_full : (m : Mode) (k : Mark) (ts : List Tok) → side (Sign k) ≡ opens → Stops m zero (need (sign k) ∷ []) ts (length ts)
+open_full : (m : Dialect) (k : Mark) (ts : List Tok) → side (Sign k) ≡ opens → Stops m zero (need (sign k) ∷ []) ts (length ts)
 open_full m k [] h = record { stops = λ stack. ended m zero (need (sign k)) stack refl }
 open_full m k (t ∷ ts) h = elim (test (is_mark k t.word)) [
   | inl e ↦
@@ -62,7 +62,7 @@ open_full m k (t ∷ ts) h = elim (test (is_mark k t.word)) [
 ]
 
 -- an opening bracket, and what stands behind it, which is read only where there is room
-pub then_open : {B : Type 0} {m : Mode} (k : Mark) (room : ℕ) (ts : List Tok) {more : List Symbol} {room3 : ℕ} {Q : B → List Tok → Type 0} (f : List Tok → Read B)
+pub then_open : {B : Type 0} {m : Dialect} (k : Mark) (room : ℕ) (ts : List Tok) {more : List Symbol} {room3 : ℕ} {Q : B → List Tok → Type 0} (f : List Tok → Read B)
     → side (Sign k) ≡ opens → ((room2 : ℕ) → room ≡ suc room2 → (rest : List Tok) → Sym k ts rest → length rest ≤ length ts → Reads m room2 more rest room3 Q (f rest))
     → Reads m room (need (sign k) ∷ more) ts room3 Q (open_at k room ts >>= f)
 then_open {m = m} k zero ts {more = more} f h next = record { reads = record { stops = λ stack. (open_full m k ts h).stops (more ++ stack) } }
@@ -81,11 +81,11 @@ name_is (Literal w v) = tt
 name_is (Reserved k) = tt
 name_is (Sign m) = tt
 
-name_reads_by : {m : Mode} (f : Option (List ℕ)) (room : ℕ) (t : Tok) (ts : List Tok) → name_form t.word ≡ f → NameIs f t.word
+name_reads_by : {m : Dialect} (f : Option (List ℕ)) (room : ℕ) (t : Tok) (ts : List Tok) → name_form t.word ≡ f → NameIs f t.word
     → Reads m room (need_name ∷ []) (t ∷ ts) room (λ x. Single (Name x) (t ∷ ts)) (some_at f ts)
 name_reads_by None room t ts e h = refuses (rw e refl)
 name_reads_by (Some x) room t ts e h = takes_first (rw e refl) (rw h refl) (done (h, refl))
 
-pub name_reads : {m : Mode} (room : ℕ) (ts : List Tok) → Reads m room (need_name ∷ []) ts room (λ x. Single (Name x) ts) (name_at ts)
+pub name_reads : {m : Dialect} (room : ℕ) (ts : List Tok) → Reads m room (need_name ∷ []) ts room (λ x. Single (Name x) ts) (name_at ts)
 name_reads room [] = refuses_end refl
 name_reads room (t ∷ ts) = name_reads_by (name_form t.word) room t ts refl (name_is t.word)

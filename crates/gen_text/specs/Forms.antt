@@ -16,8 +16,8 @@ use Rattle.gen_tree.specs.declared.UnOp.{UnOp}
 use Rattle.gen_tree.specs.declared.UnOp.TheVariants as un_op
 use Rattle.gen_tree.specs.declared.Op.{Op}
 use Rattle.gen_tree.specs.declared.Op.TheVariants as op
-use Rattle.gen_tree.specs.declared.Mode.{Mode}
-use Rattle.gen_tree.specs.declared.Mode.TheVariants as mode
+use Rattle.gen_tree.specs.declared.Dialect.{Dialect}
+use Rattle.gen_tree.specs.declared.Dialect.TheVariants as dialect
 
 -- whether a word is this mark
 abbrev pub is_mark : Mark → Word → Bool
@@ -44,9 +44,9 @@ name_form (Reserved k) = None
 name_form (Sign m) = None
 
 -- a form in a source, and another in a condition
-abbrev pub in_source : {A : Type 0} → Mode → A → A → A
-in_source mode.Source form other = form
-in_source mode.Condition form other = other
+abbrev pub in_source : {A : Type 0} → Dialect → A → A → A
+in_source dialect.Source form other = form
+in_source dialect.Condition form other = other
 
 -- ---- integers
 
@@ -56,7 +56,7 @@ pub data IntForm : Type 0 where
   a_group : IntForm
   no_int : IntForm
 
-abbrev pub int_form : Mode → Word → IntForm
+abbrev pub int_form : Dialect → Word → IntForm
 int_form m (Number n) = a_number n
 int_form m (Name x) = in_source m (a_variable x) no_int
 int_form m (Literal w v) = no_int
@@ -92,7 +92,7 @@ pub data LitForm : Type 0 where
   a_bits : LitForm
   no_lit : LitForm
 
-abbrev pub lit_form : Mode → Word → LitForm
+abbrev pub lit_form : Dialect → Word → LitForm
 lit_form m (Name x) = no_lit
 lit_form m (Number n) = no_lit
 lit_form m (Literal w v) = a_plain w v
@@ -128,7 +128,7 @@ pub data PrimForm : Type 0 where
   a_mux : PrimForm
   a_zext : PrimForm
 
-abbrev pub prim_form : Mode → Word → PrimForm
+abbrev pub prim_form : Dialect → Word → PrimForm
 prim_form m (Name x) = a_name x
 prim_form m (Number n) = a_lit no_lit
 prim_form m (Literal w v) = a_lit (lit_form m (Literal w v))

@@ -11,8 +11,8 @@ use Rattle.gen_tree.specs.declared.Cmp.{Cmp}
 use Rattle.gen_tree.specs.declared.UnOp.{UnOp}
 use Rattle.gen_tree.specs.declared.Op.{Op}
 use Rattle.gen_tree.specs.declared.Op.TheVariants as op
-use Rattle.gen_tree.specs.declared.Mode.{Mode}
-use Rattle.gen_tree.specs.declared.Mode.TheVariants as mode
+use Rattle.gen_tree.specs.declared.Dialect.{Dialect}
+use Rattle.gen_tree.specs.declared.Dialect.TheVariants as dialect
 use Rattle.gen_tree.specs.Grammar.{assign_mark}
 use Rattle.gen_tree.specs.Tree.{Int, num, var, bin, Fam, Lit, plain, bits, Expr, read, out, value, unary, binary, mux, zext, slice, Stmt, assign, bind, choose, repeat, given, Stmts, stmts, Else, no_else, otherwise, Param, Conn, Item, wire, reg, inst, comb, ff, repeat_items, given_items, Items, items, ElseItems, no_else_items, otherwise_items, Port, Module}
 use Rattle.gen_text.specs.Forms.{is_mark, is_keyword, name_form, IntForm, a_number, a_variable, a_group, no_int, int_form, int_op_form, cmp_form, LitForm, a_plain, a_bits, no_lit, lit_form, op_form, PrimForm, a_name, a_lit, a_bracket, a_unary, a_cat, a_mux, a_zext, prim_form, StmtForm, an_assign, a_let, an_if, a_for, a_gen, no_stmt_form, stmt_form, ItemForm, a_wire, a_reg, an_inst, a_block, a_for_item, a_gen_item, no_item_form, item_form, port_form}
@@ -94,38 +94,38 @@ int_by room inner (a_variable x) ts = Ok (var x, ts)
 int_by room inner a_group ts = within room (suc (length ts)) (group_at inner ts)
 int_by room inner no_int ts = Err (suc (length ts))
 
-abbrev pub int_step : Mode → ℕ → (List Tok → Read Int) → List Tok → Read Int
+abbrev pub int_step : Dialect → ℕ → (List Tok → Read Int) → List Tok → Read Int
 int_step m room inner [] = Err 0
 int_step m room inner (t ∷ ts) = int_by room inner (int_form m t.word) ts
 
-unfoldable pub int_at : Mode → ℕ → List Tok → Read Int
+unfoldable pub int_at : Dialect → ℕ → List Tok → Read Int
 int_at m zero ts = int_step m zero (λ ts. Err 0) ts
 int_at m (suc room) ts = int_step m (suc room) (int_at m room) ts
 
 -- behind a bracket
-abbrev pub inner_int : Mode → ℕ → List Tok → Read Int
+abbrev pub inner_int : Dialect → ℕ → List Tok → Read Int
 inner_int m zero = λ ts. Err 0
 inner_int m (suc room) = int_at m room
 
 -- ---- names with an index
 
-abbrev pub index_at : Mode → ℕ → List Tok → Read (Option Int)
+abbrev pub index_at : Dialect → ℕ → List Tok → Read (Option Int)
 index_at m room ts = cond (begins (is_mark mark.Hash) ts) (seen (λ i. Some i) (int_at m room (rest_of ts))) (Ok (None, ts))
 
 abbrev pub fam_of_name : List ℕ → Option Int → Fam
 fam_of_name x i = record { name = x; index = i }
 
 -- behind the name
-abbrev pub fam_rest_at : Mode → ℕ → List ℕ → List Tok → Read Fam
+abbrev pub fam_rest_at : Dialect → ℕ → List ℕ → List Tok → Read Fam
 fam_rest_at m room x ts = seen (fam_of_name x) (index_at m room ts)
 
 abbrev pub fam_at : ℕ → List Tok → Read Fam
-fam_at room ts = name_at ts >>= λ x. fam_rest_at mode.Source room x.0 x.1
+fam_at room ts = name_at ts >>= λ x. fam_rest_at dialect.Source room x.0 x.1
 
 -- ---- expressions
 
 -- behind `bits`
-abbrev pub bits_at : Mode → ℕ → List Tok → Read Lit
+abbrev pub bits_at : Dialect → ℕ → List Tok → Read Lit
 bits_at m room ts = do
   t1 ← open_at mark.LeftParen room ts
   w ← int_at m (room - 1) t1
@@ -134,12 +134,12 @@ bits_at m room ts = do
   rest ← mark_at mark.RightParen v.1
   Ok (bits w.0 v.0, rest)
 
-abbrev pub lit_by : Mode → ℕ → LitForm → List Tok → Read Lit
+abbrev pub lit_by : Dialect → ℕ → LitForm → List Tok → Read Lit
 lit_by m room (a_plain w v) ts = Ok (plain w v, ts)
 lit_by m room a_bits ts = bits_at m room ts
 lit_by m room no_lit ts = Err (suc (length ts))
 
-abbrev pub lit_at : Mode → ℕ → List Tok → Read Lit
+abbrev pub lit_at : Dialect → ℕ → List Tok → Read Lit
 lit_at m room [] = Err 0
 lit_at m room (t ∷ ts) = lit_by m room (lit_form m t.word) ts
 
@@ -151,7 +151,7 @@ read_of f None = read f
 read_of f (Some q) = out f q
 
 -- behind the name that is read
-abbrev pub read_at : Mode → ℕ → List ℕ → List Tok → Read Expr
+abbrev pub read_at : Dialect → ℕ → List ℕ → List Tok → Read Expr
 read_at m room x ts = fam_rest_at m room x ts >>= λ f. seen (read_of f.0) (dot_at f.1)
 
 abbrev pub op_at : List Tok → Read Op
@@ -186,7 +186,7 @@ cat_at room inner ts = do
   Ok (binary op.Cat a.0 b.0, rest)
 
 -- behind `zext`
-abbrev pub zext_at : Mode → ℕ → (List Tok → Read Expr) → List Tok → Read Expr
+abbrev pub zext_at : Dialect → ℕ → (List Tok → Read Expr) → List Tok → Read Expr
 zext_at m room inner ts = do
   t1 ← open_at mark.LeftParen room ts
   e ← inner t1
@@ -213,7 +213,7 @@ mux_at room inner ts = do
   choice_at inner c.0 t2
 
 -- by the form of the first token, from it on and from behind it on
-abbrev pub prim_by : Mode → ℕ → (List Tok → Read Expr) → PrimForm → List Tok → List Tok → Read Expr
+abbrev pub prim_by : Dialect → ℕ → (List Tok → Read Expr) → PrimForm → List Tok → List Tok → Read Expr
 prim_by m room inner (a_name x) from ts = read_at m room x ts
 prim_by m room inner (a_lit l) from ts = seen (λ l. value l) (lit_by m room l ts)
 prim_by m room inner a_bracket from ts = bracket_at room inner from
@@ -222,12 +222,12 @@ prim_by m room inner a_cat from ts = cat_at room inner ts
 prim_by m room inner a_mux from ts = mux_at room inner ts
 prim_by m room inner a_zext from ts = zext_at m room inner ts
 
-abbrev pub prim_step : Mode → ℕ → (List Tok → Read Expr) → List Tok → Read Expr
+abbrev pub prim_step : Dialect → ℕ → (List Tok → Read Expr) → List Tok → Read Expr
 prim_step m room inner [] = Err 0
 prim_step m room inner (t ∷ ts) = prim_by m room inner (prim_form m t.word) (t ∷ ts) ts
 
 -- from the bracket of a slice on
-abbrev pub bounds_at : Mode → ℕ → Expr → List Tok → Read Expr
+abbrev pub bounds_at : Dialect → ℕ → Expr → List Tok → Read Expr
 bounds_at m room e ts = do
   t1 ← open_at mark.LeftBracket room ts
   h ← int_at m (room - 1) t1
@@ -237,27 +237,27 @@ bounds_at m room e ts = do
   Ok (slice e h.0 l.0, rest)
 
 -- a slice behind an expression, or none
-abbrev pub slice_at : Mode → ℕ → Expr → List Tok → Read Expr
+abbrev pub slice_at : Dialect → ℕ → Expr → List Tok → Read Expr
 slice_at m room e ts = cond (begins (is_mark mark.LeftBracket) ts) (bounds_at m room e ts) (Ok (e, ts))
 
-abbrev pub expr_step : Mode → ℕ → (List Tok → Read Expr) → List Tok → Read Expr
+abbrev pub expr_step : Dialect → ℕ → (List Tok → Read Expr) → List Tok → Read Expr
 expr_step m room inner ts = prim_step m room inner ts >>= λ p. slice_at m room p.0 p.1
 
-unfoldable pub expr_at : Mode → ℕ → List Tok → Read Expr
+unfoldable pub expr_at : Dialect → ℕ → List Tok → Read Expr
 expr_at m zero ts = expr_step m zero (λ ts. Err 0) ts
 expr_at m (suc room) ts = expr_step m (suc room) (expr_at m room) ts
 
 -- behind a bracket
-abbrev pub inner_expr : Mode → ℕ → List Tok → Read Expr
+abbrev pub inner_expr : Dialect → ℕ → List Tok → Read Expr
 inner_expr m zero = λ ts. Err 0
 inner_expr m (suc room) = expr_at m room
 
 -- in a source
 abbrev pub source_int_at : ℕ → List Tok → Read Int
-source_int_at room ts = int_at mode.Source room ts
+source_int_at room ts = int_at dialect.Source room ts
 
 abbrev pub source_expr_at : ℕ → List Tok → Read Expr
-source_expr_at room ts = expr_at mode.Source room ts
+source_expr_at room ts = expr_at dialect.Source room ts
 
 -- ---- lists
 
@@ -319,7 +319,7 @@ else_at room inner ts = else_by no_else otherwise room inner ts
 -- behind the target's name
 abbrev pub assign_at : Bool → ℕ → ℕ → List ℕ → List Tok → Read Stmt
 assign_at clocked room line x ts = do
-  f ← fam_rest_at mode.Source room x ts
+  f ← fam_rest_at dialect.Source room x ts
   t1 ← mark_at (assign_mark clocked) f.1
   e ← source_expr_at room t1
   rest ← mark_at mark.Semicolon e.1
@@ -440,7 +440,7 @@ reg_at room line ts = do
   t1 ← mark_at mark.Colon f.1
   w ← source_int_at room t1
   t2 ← mark_at mark.Equals w.1
-  l ← lit_at mode.Source room t2
+  l ← lit_at dialect.Source room t2
   rest ← mark_at mark.Semicolon l.1
   Ok (reg line f.0 w.0 l.0, rest)
 

@@ -13,7 +13,7 @@ use crate::fault::ReadFault;
 use crate::ints::{fam_rest, int};
 use crate::words::{begins_mark, closed, name, open};
 use gen_token::{Keyword, Mark, Placed, Token};
-use gen_tree::{Expr, Fam, Int, Lit, Mode, Op, UnOp};
+use gen_tree::{Dialect, Expr, Fam, Int, Lit, Op, UnOp};
 use std::alloc::Global;
 use std::boxed::Box;
 use text_core::Text;
@@ -21,35 +21,35 @@ use text_core::Text;
 /// What stands behind `bits`, and what follows it.
 fn bits<'t, 'a>(
     alloc: Global,
-    mode: Mode,
+    dialect: Dialect,
     room: usize,
     tokens: &'t [Placed<'a>],
 ) -> Result<(Lit, &'t [Placed<'a>]), ReadFault>
-    ensures { Gives (with_rest lit_of) result (list.bits_at mode room (placed tokens.now)) }
+    ensures { Gives (with_rest lit_of) result (list.bits_at dialect room (placed tokens.now)) }
 {
     let rest = open(tokens, Mark::LeftParen, room)?;
-    let (width, rest) = closed(int(alloc, mode, room - 1, rest)?, Mark::Comma)?;
-    let (value, rest) = closed(int(alloc, mode, room - 1, rest)?, Mark::RightParen)?;
+    let (width, rest) = closed(int(alloc, dialect, room - 1, rest)?, Mark::Comma)?;
+    let (value, rest) = closed(int(alloc, dialect, room - 1, rest)?, Mark::RightParen)?;
     Ok((Lit::Bits { width, value }, rest))
 }
 
 /// The literal in front, and what follows it.
 pub(crate) fn lit<'t, 'a>(
     alloc: Global,
-    mode: Mode,
+    dialect: Dialect,
     room: usize,
     tokens: &'t [Placed<'a>],
 ) -> Result<(Lit, &'t [Placed<'a>]), ReadFault>
-    ensures { Gives (with_rest lit_of) result (list.lit_at mode room (placed tokens.now)) }
+    ensures { Gives (with_rest lit_of) result (list.lit_at dialect room (placed tokens.now)) }
 {
     match tokens {
         [first, rest @ ..] => match first.token {
             Token::Literal { width, value } => Ok((Lit::Plain { width, value }, rest)),
             Token::Keyword(Keyword::Bits) => {
-                if mode == Mode::Condition {
+                if dialect == Dialect::Condition {
                     return Err(ReadFault::At { left: tokens.len() });
                 }
-                bits(alloc, mode, room, rest)
+                bits(alloc, dialect, room, rest)
             }
             _ => Err(ReadFault::At { left: tokens.len() }),
         },
@@ -74,14 +74,14 @@ fn dot<'t, 'a>(
 /// What is read behind a name: a signal, a `let`, or a child's output; and what follows it.
 fn read<'t, 'a>(
     alloc: Global,
-    mode: Mode,
+    dialect: Dialect,
     room: usize,
     name: &[u8],
     tokens: &'t [Placed<'a>],
 ) -> Result<(Expr, &'t [Placed<'a>]), ReadFault>
-    ensures { Gives (with_rest expr_of) result (list.read_at mode room name.now (placed tokens.now)) }
+    ensures { Gives (with_rest expr_of) result (list.read_at dialect room name.now (placed tokens.now)) }
 {
-    let (fam, rest) = fam_rest(alloc, mode, room, name, tokens)?;
+    let (fam, rest) = fam_rest(alloc, dialect, room, name, tokens)?;
     let (output, rest) = dot(alloc, rest)?;
     Ok((read_of(fam, output), rest))
 }
@@ -135,39 +135,39 @@ fn op<'t, 'a>(tokens: &'t [Placed<'a>]) -> Result<(Op, &'t [Placed<'a>]), ReadFa
 #[tactic(auto, using(crate::proofs::OnlyExprs::expr_opened))]
 pub fn expr<'t, 'a>(
     alloc: Global,
-    mode: Mode,
+    dialect: Dialect,
     room: usize,
     tokens: &'t [Placed<'a>],
 ) -> Result<(Expr, &'t [Placed<'a>]), ReadFault>
-    ensures { Gives (with_rest expr_of) result (list.expr_at mode room (placed tokens.now)) }
+    ensures { Gives (with_rest expr_of) result (list.expr_at dialect room (placed tokens.now)) }
 {
-    let (value, rest) = prim(alloc, mode, room, tokens)?;
-    slice(alloc, mode, room, value, rest)
+    let (value, rest) = prim(alloc, dialect, room, tokens)?;
+    slice(alloc, dialect, room, value, rest)
 }
 
 /// The expression in front, up to a slice at its end, and what follows it.
 #[cycle(exprs)]
 fn prim<'t, 'a>(
     alloc: Global,
-    mode: Mode,
+    dialect: Dialect,
     room: usize,
     tokens: &'t [Placed<'a>],
 ) -> Result<(Expr, &'t [Placed<'a>]), ReadFault>
-    ensures { Gives (with_rest expr_of) result (list.prim_step mode room (list.inner_expr mode room) (placed tokens.now)) }
+    ensures { Gives (with_rest expr_of) result (list.prim_step dialect room (list.inner_expr dialect room) (placed tokens.now)) }
 {
     match tokens {
         [first, rest @ ..] => match first.token {
-            Token::Name(name) => read(alloc, mode, room, name, rest),
-            Token::Mark(Mark::LeftParen) => bracket(alloc, mode, room, tokens),
-            Token::Mark(Mark::Tilde) => unary(alloc, mode, room, UnOp::Not, rest),
-            Token::Keyword(Keyword::All) => unary(alloc, mode, room, UnOp::All, rest),
-            Token::Keyword(Keyword::Any) => unary(alloc, mode, room, UnOp::Any, rest),
-            Token::Keyword(Keyword::Parity) => unary(alloc, mode, room, UnOp::Parity, rest),
-            Token::Keyword(Keyword::Cat) => cat(alloc, mode, room, rest),
-            Token::Keyword(Keyword::Mux) => mux(alloc, mode, room, rest),
-            Token::Keyword(Keyword::Zext) => zext(alloc, mode, room, rest),
+            Token::Name(name) => read(alloc, dialect, room, name, rest),
+            Token::Mark(Mark::LeftParen) => bracket(alloc, dialect, room, tokens),
+            Token::Mark(Mark::Tilde) => unary(alloc, dialect, room, UnOp::Not, rest),
+            Token::Keyword(Keyword::All) => unary(alloc, dialect, room, UnOp::All, rest),
+            Token::Keyword(Keyword::Any) => unary(alloc, dialect, room, UnOp::Any, rest),
+            Token::Keyword(Keyword::Parity) => unary(alloc, dialect, room, UnOp::Parity, rest),
+            Token::Keyword(Keyword::Cat) => cat(alloc, dialect, room, rest),
+            Token::Keyword(Keyword::Mux) => mux(alloc, dialect, room, rest),
+            Token::Keyword(Keyword::Zext) => zext(alloc, dialect, room, rest),
             _ => {
-                let (lit, rest) = lit(alloc, mode, room, tokens)?;
+                let (lit, rest) = lit(alloc, dialect, room, tokens)?;
                 Ok((Expr::Value(lit), rest))
             }
         },
@@ -179,17 +179,17 @@ fn prim<'t, 'a>(
 #[cycle(exprs)]
 fn bracket<'t, 'a>(
     alloc: Global,
-    mode: Mode,
+    dialect: Dialect,
     room: usize,
     tokens: &'t [Placed<'a>],
 ) -> Result<(Expr, &'t [Placed<'a>]), ReadFault>
-    ensures { Gives (with_rest expr_of) result (list.bracket_at room (list.inner_expr mode room) (placed tokens.now)) }
+    ensures { Gives (with_rest expr_of) result (list.bracket_at room (list.inner_expr dialect room) (placed tokens.now)) }
 {
     let rest = open(tokens, Mark::LeftParen, room)?;
-    let (first, rest) = expr(alloc, mode, room - 1, rest)?;
+    let (first, rest) = expr(alloc, dialect, room - 1, rest)?;
     let first = boxed(alloc, first)?;
     let (op, rest) = op(rest)?;
-    let (second, rest) = closed(expr(alloc, mode, room - 1, rest)?, Mark::RightParen)?;
+    let (second, rest) = closed(expr(alloc, dialect, room - 1, rest)?, Mark::RightParen)?;
     let second = boxed(alloc, second)?;
     Ok((build::binary(op, first, second), rest))
 }
@@ -198,15 +198,15 @@ fn bracket<'t, 'a>(
 #[cycle(exprs)]
 fn unary<'t, 'a>(
     alloc: Global,
-    mode: Mode,
+    dialect: Dialect,
     room: usize,
     op: UnOp,
     tokens: &'t [Placed<'a>],
 ) -> Result<(Expr, &'t [Placed<'a>]), ReadFault>
-    ensures { Gives (with_rest expr_of) result (list.unary_at room (list.inner_expr mode room) op (placed tokens.now)) }
+    ensures { Gives (with_rest expr_of) result (list.unary_at room (list.inner_expr dialect room) op (placed tokens.now)) }
 {
     let rest = open(tokens, Mark::LeftParen, room)?;
-    let (value, rest) = closed(expr(alloc, mode, room - 1, rest)?, Mark::RightParen)?;
+    let (value, rest) = closed(expr(alloc, dialect, room - 1, rest)?, Mark::RightParen)?;
     let value = boxed(alloc, value)?;
     Ok((build::unary(op, value), rest))
 }
@@ -215,16 +215,16 @@ fn unary<'t, 'a>(
 #[cycle(exprs)]
 fn cat<'t, 'a>(
     alloc: Global,
-    mode: Mode,
+    dialect: Dialect,
     room: usize,
     tokens: &'t [Placed<'a>],
 ) -> Result<(Expr, &'t [Placed<'a>]), ReadFault>
-    ensures { Gives (with_rest expr_of) result (list.cat_at room (list.inner_expr mode room) (placed tokens.now)) }
+    ensures { Gives (with_rest expr_of) result (list.cat_at room (list.inner_expr dialect room) (placed tokens.now)) }
 {
     let rest = open(tokens, Mark::LeftParen, room)?;
-    let (high, rest) = closed(expr(alloc, mode, room - 1, rest)?, Mark::Comma)?;
+    let (high, rest) = closed(expr(alloc, dialect, room - 1, rest)?, Mark::Comma)?;
     let high = boxed(alloc, high)?;
-    let (low, rest) = closed(expr(alloc, mode, room - 1, rest)?, Mark::RightParen)?;
+    let (low, rest) = closed(expr(alloc, dialect, room - 1, rest)?, Mark::RightParen)?;
     let low = boxed(alloc, low)?;
     Ok((build::binary(Op::Cat, high, low), rest))
 }
@@ -233,16 +233,16 @@ fn cat<'t, 'a>(
 #[cycle(exprs)]
 fn zext<'t, 'a>(
     alloc: Global,
-    mode: Mode,
+    dialect: Dialect,
     room: usize,
     tokens: &'t [Placed<'a>],
 ) -> Result<(Expr, &'t [Placed<'a>]), ReadFault>
-    ensures { Gives (with_rest expr_of) result (list.zext_at mode room (list.inner_expr mode room) (placed tokens.now)) }
+    ensures { Gives (with_rest expr_of) result (list.zext_at dialect room (list.inner_expr dialect room) (placed tokens.now)) }
 {
     let rest = open(tokens, Mark::LeftParen, room)?;
-    let (value, rest) = closed(expr(alloc, mode, room - 1, rest)?, Mark::Comma)?;
+    let (value, rest) = closed(expr(alloc, dialect, room - 1, rest)?, Mark::Comma)?;
     let value = boxed(alloc, value)?;
-    let (width, rest) = closed(int(alloc, mode, room - 1, rest)?, Mark::RightParen)?;
+    let (width, rest) = closed(int(alloc, dialect, room - 1, rest)?, Mark::RightParen)?;
     Ok((build::zext(value, width), rest))
 }
 
@@ -250,32 +250,32 @@ fn zext<'t, 'a>(
 #[cycle(exprs)]
 fn mux<'t, 'a>(
     alloc: Global,
-    mode: Mode,
+    dialect: Dialect,
     room: usize,
     tokens: &'t [Placed<'a>],
 ) -> Result<(Expr, &'t [Placed<'a>]), ReadFault>
-    ensures { Gives (with_rest expr_of) result (list.mux_at room (list.inner_expr mode room) (placed tokens.now)) }
+    ensures { Gives (with_rest expr_of) result (list.mux_at room (list.inner_expr dialect room) (placed tokens.now)) }
 {
     let rest = open(tokens, Mark::LeftParen, room)?;
-    let (test, rest) = closed(expr(alloc, mode, room - 1, rest)?, Mark::Comma)?;
+    let (test, rest) = closed(expr(alloc, dialect, room - 1, rest)?, Mark::Comma)?;
     let test = boxed(alloc, test)?;
-    choice(alloc, mode, room - 1, test, rest)
+    choice(alloc, dialect, room - 1, test, rest)
 }
 
 /// The two values that `mux` chooses from, behind its condition, and what follows them.
 #[cycle(exprs)]
 fn choice<'t, 'a>(
     alloc: Global,
-    mode: Mode,
+    dialect: Dialect,
     room: usize,
     test: Box<Expr>,
     tokens: &'t [Placed<'a>],
 ) -> Result<(Expr, &'t [Placed<'a>]), ReadFault>
-    ensures { Gives (with_rest expr_of) result (list.choice_at (list.expr_at mode room) (expr_of test.value) (placed tokens.now)) }
+    ensures { Gives (with_rest expr_of) result (list.choice_at (list.expr_at dialect room) (expr_of test.value) (placed tokens.now)) }
 {
-    let (first, rest) = closed(expr(alloc, mode, room, tokens)?, Mark::Comma)?;
+    let (first, rest) = closed(expr(alloc, dialect, room, tokens)?, Mark::Comma)?;
     let first = boxed(alloc, first)?;
-    let (second, rest) = closed(expr(alloc, mode, room, rest)?, Mark::RightParen)?;
+    let (second, rest) = closed(expr(alloc, dialect, room, rest)?, Mark::RightParen)?;
     let second = boxed(alloc, second)?;
     Ok((build::mux(test, first, second), rest))
 }
@@ -283,32 +283,32 @@ fn choice<'t, 'a>(
 /// A value with a slice behind it, or without, and what follows.
 fn slice<'t, 'a>(
     alloc: Global,
-    mode: Mode,
+    dialect: Dialect,
     room: usize,
     value: Expr,
     tokens: &'t [Placed<'a>],
 ) -> Result<(Expr, &'t [Placed<'a>]), ReadFault>
-    ensures { Gives (with_rest expr_of) result (list.slice_at mode room (expr_of value) (placed tokens.now)) }
+    ensures { Gives (with_rest expr_of) result (list.slice_at dialect room (expr_of value) (placed tokens.now)) }
 {
     if !begins_mark(tokens, Mark::LeftBracket) {
         return Ok((value, tokens));
     }
     let value = boxed(alloc, value)?;
-    let ((high, low), rest) = bounds(alloc, mode, room, tokens)?;
+    let ((high, low), rest) = bounds(alloc, dialect, room, tokens)?;
     Ok((build::slice(value, high, low), rest))
 }
 
 /// The bounds of a slice, whatever it is of, and what follows them.
 fn bounds<'t, 'a>(
     alloc: Global,
-    mode: Mode,
+    dialect: Dialect,
     room: usize,
     tokens: &'t [Placed<'a>],
 ) -> Result<((Int, Int), &'t [Placed<'a>]), ReadFault>
-    ensures { (value : tree.Expr) → Gives (with_rest (λ bounds. tree.slice value (int_of bounds.0) (int_of bounds.1))) result (list.bounds_at mode room value (placed tokens.now)) }
+    ensures { (value : tree.Expr) → Gives (with_rest (λ bounds. tree.slice value (int_of bounds.0) (int_of bounds.1))) result (list.bounds_at dialect room value (placed tokens.now)) }
 {
     let rest = open(tokens, Mark::LeftBracket, room)?;
-    let (high, rest) = closed(int(alloc, mode, room - 1, rest)?, Mark::Colon)?;
-    let (low, rest) = closed(int(alloc, mode, room - 1, rest)?, Mark::RightBracket)?;
+    let (high, rest) = closed(int(alloc, dialect, room - 1, rest)?, Mark::Colon)?;
+    let (low, rest) = closed(int(alloc, dialect, room - 1, rest)?, Mark::RightBracket)?;
     Ok(((high, low), rest))
 }

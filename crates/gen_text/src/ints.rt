@@ -9,7 +9,7 @@ use crate::build::{self, boxed_int};
 use crate::fault::ReadFault;
 use crate::words::{closed, is_mark, name};
 use gen_token::{Mark, Placed, Token};
-use gen_tree::{Cmp, Fam, Int, IntOp, Mode};
+use gen_tree::{Cmp, Dialect, Fam, Int, IntOp};
 use std::alloc::Global;
 use text_core::Text;
 
@@ -69,39 +69,39 @@ pub(crate) fn cmp<'t, 'a>(tokens: &'t [Placed<'a>]) -> Result<(Cmp, &'t [Placed<
 #[tactic(auto, using(crate::proofs::IntsRead::int_opened))]
 pub(crate) fn int<'t, 'a>(
     alloc: Global,
-    mode: Mode,
+    dialect: Dialect,
     room: usize,
     tokens: &'t [Placed<'a>],
 ) -> Result<(Int, &'t [Placed<'a>]), ReadFault>
-    ensures { Gives (with_rest int_of) result (list.int_at mode room (placed tokens.now)) }
+    ensures { Gives (with_rest int_of) result (list.int_at dialect room (placed tokens.now)) }
 {
-    int_form(alloc, mode, room, tokens)
+    int_form(alloc, dialect, room, tokens)
 }
 
 /// The same, by the token in front.
 #[cycle(ints)]
 fn int_form<'t, 'a>(
     alloc: Global,
-    mode: Mode,
+    dialect: Dialect,
     room: usize,
     tokens: &'t [Placed<'a>],
 ) -> Result<(Int, &'t [Placed<'a>]), ReadFault>
-    ensures { Gives (with_rest int_of) result (list.int_step mode room (list.inner_int mode room) (placed tokens.now)) }
+    ensures { Gives (with_rest int_of) result (list.int_step dialect room (list.inner_int dialect room) (placed tokens.now)) }
 {
     match tokens {
         [first, rest @ ..] => match first.token {
             Token::Number(number) => Ok((Int::Num(number), rest)),
             Token::Name(name) => {
-                if mode == Mode::Condition {
+                if dialect == Dialect::Condition {
                     return Err(ReadFault::At { left: tokens.len() });
                 }
                 Ok((Int::Var(Text::new(alloc, name)?), rest))
             }
             Token::Mark(Mark::LeftParen) => {
-                if mode == Mode::Condition || room == 0 {
+                if dialect == Dialect::Condition || room == 0 {
                     return Err(ReadFault::At { left: tokens.len() });
                 }
-                int_group(alloc, mode, room - 1, rest)
+                int_group(alloc, dialect, room - 1, rest)
             }
             _ => Err(ReadFault::At { left: tokens.len() }),
         },
@@ -113,16 +113,16 @@ fn int_form<'t, 'a>(
 #[cycle(ints)]
 fn int_group<'t, 'a>(
     alloc: Global,
-    mode: Mode,
+    dialect: Dialect,
     room: usize,
     tokens: &'t [Placed<'a>],
 ) -> Result<(Int, &'t [Placed<'a>]), ReadFault>
-    ensures { Gives (with_rest int_of) result (list.group_at (list.int_at mode room) (placed tokens.now)) }
+    ensures { Gives (with_rest int_of) result (list.group_at (list.int_at dialect room) (placed tokens.now)) }
 {
-    let (left, rest) = int(alloc, mode, room, tokens)?;
+    let (left, rest) = int(alloc, dialect, room, tokens)?;
     let left = boxed_int(alloc, left)?;
     let (op, rest) = int_op(rest)?;
-    let (right, rest) = closed(int(alloc, mode, room, rest)?, Mark::RightParen)?;
+    let (right, rest) = closed(int(alloc, dialect, room, rest)?, Mark::RightParen)?;
     let right = boxed_int(alloc, right)?;
     Ok((build::computed(op, left, right), rest))
 }
@@ -130,16 +130,16 @@ fn int_group<'t, 'a>(
 /// The index behind a name, or none, and what follows it.
 fn index<'t, 'a>(
     alloc: Global,
-    mode: Mode,
+    dialect: Dialect,
     room: usize,
     tokens: &'t [Placed<'a>],
 ) -> Result<(Option<Int>, &'t [Placed<'a>]), ReadFault>
-    ensures { Gives (with_rest (option_map int_of)) result (list.index_at mode room (placed tokens.now)) }
+    ensures { Gives (with_rest (option_map int_of)) result (list.index_at dialect room (placed tokens.now)) }
 {
     match tokens {
         [first, rest @ ..] => {
             if is_mark(first.token, Mark::Hash) {
-                let (index, rest) = int(alloc, mode, room, rest)?;
+                let (index, rest) = int(alloc, dialect, room, rest)?;
                 return Ok((Some(index), rest));
             }
             Ok((None, tokens))
@@ -151,14 +151,14 @@ fn index<'t, 'a>(
 /// A name with what stands behind it, and what follows.
 pub(crate) fn fam_rest<'t, 'a>(
     alloc: Global,
-    mode: Mode,
+    dialect: Dialect,
     room: usize,
     name: &[u8],
     tokens: &'t [Placed<'a>],
 ) -> Result<(Fam, &'t [Placed<'a>]), ReadFault>
-    ensures { Gives (with_rest fam_of) result (list.fam_rest_at mode room name.now (placed tokens.now)) }
+    ensures { Gives (with_rest fam_of) result (list.fam_rest_at dialect room name.now (placed tokens.now)) }
 {
-    let (index, rest) = index(alloc, mode, room, tokens)?;
+    let (index, rest) = index(alloc, dialect, room, tokens)?;
     let name = Text::new(alloc, name)?;
     Ok((Fam { name, index }, rest))
 }
@@ -172,5 +172,5 @@ pub(crate) fn fam<'t, 'a>(
     ensures { Gives (with_rest fam_of) result (list.fam_at room (placed tokens.now)) }
 {
     let (name, rest) = name(tokens)?;
-    fam_rest(alloc, Mode::Source, room, name, rest)
+    fam_rest(alloc, Dialect::Source, room, name, rest)
 }

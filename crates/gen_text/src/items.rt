@@ -11,7 +11,7 @@ use crate::members::{conns, params};
 use crate::stmts::{block, given, turns};
 use crate::words::{begins_keyword, begins_mark, closed, mark, open};
 use gen_token::{Keyword, Mark, Placed, Token};
-use gen_tree::{Item, Mode};
+use gen_tree::{Dialect, Item};
 use std::alloc::Global;
 use text_core::Text;
 
@@ -50,7 +50,7 @@ fn wire<'t, 'a>(
     ensures { Gives (with_rest item_of) result (list.wire_at room line (placed tokens.now)) }
 {
     let (name, rest) = closed(fam(alloc, room, tokens)?, Mark::Colon)?;
-    let (width, rest) = closed(int(alloc, Mode::Source, room, rest)?, Mark::Semicolon)?;
+    let (width, rest) = closed(int(alloc, Dialect::Source, room, rest)?, Mark::Semicolon)?;
     Ok((Item::Wire { line, name, width }, rest))
 }
 
@@ -65,8 +65,8 @@ fn reg<'t, 'a>(
     ensures { Gives (with_rest item_of) result (list.reg_at room line (placed tokens.now)) }
 {
     let (name, rest) = closed(fam(alloc, room, tokens)?, Mark::Colon)?;
-    let (width, rest) = closed(int(alloc, Mode::Source, room, rest)?, Mark::Equals)?;
-    let (start, rest) = closed(lit(alloc, Mode::Source, room, rest)?, Mark::Semicolon)?;
+    let (width, rest) = closed(int(alloc, Dialect::Source, room, rest)?, Mark::Equals)?;
+    let (start, rest) = closed(lit(alloc, Dialect::Source, room, rest)?, Mark::Semicolon)?;
     let reg = Item::Reg {
         line,
         name,

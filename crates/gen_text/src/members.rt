@@ -9,7 +9,7 @@ use crate::fault::ReadFault;
 use crate::ints::int;
 use crate::words::{begins_mark, closed, mark, name, open};
 use gen_token::{Mark, Placed, Token};
-use gen_tree::{Conn, Mode, Param};
+use gen_tree::{Conn, Dialect, Param};
 use std::alloc::Global;
 use text_core::Text;
 
@@ -23,7 +23,7 @@ fn param<'t, 'a>(
 {
     let (name, rest) = name(tokens)?;
     let rest = mark(rest, Mark::Equals)?;
-    let (value, rest) = int(alloc, Mode::Source, room, rest)?;
+    let (value, rest) = int(alloc, Dialect::Source, room, rest)?;
     let name = Text::new(alloc, name)?;
     Ok((Param { name, value }, rest))
 }
@@ -102,7 +102,7 @@ fn conn_rest<'t, 'a>(
     ensures { Gives (with_rest conn_of) result (list.conn_rest_at room line port.now (placed tokens.now)) }
 {
     let rest = mark(tokens, Mark::Equals)?;
-    let (value, rest) = closed(expr(alloc, Mode::Source, room, rest)?, Mark::Semicolon)?;
+    let (value, rest) = closed(expr(alloc, Dialect::Source, room, rest)?, Mark::Semicolon)?;
     let port = Text::new(alloc, port)?;
     Ok((Conn { line, port, value }, rest))
 }

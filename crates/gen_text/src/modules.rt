@@ -11,7 +11,7 @@ use crate::items::item;
 use crate::members::params;
 use crate::words::{begins_mark, closed, is_keyword, mark, name, open};
 use gen_token::{Keyword, Mark, Placed, Token};
-use gen_tree::{Item, Mode, Module, Port};
+use gen_tree::{Dialect, Item, Module, Port};
 use std::alloc::Global;
 use text_core::Text;
 
@@ -68,7 +68,7 @@ fn port_rest<'t, 'a>(
 {
     let (name, rest) = name(tokens)?;
     let rest = mark(rest, Mark::Colon)?;
-    let (width, rest) = closed(int(alloc, Mode::Source, room, rest)?, Mark::Semicolon)?;
+    let (width, rest) = closed(int(alloc, Dialect::Source, room, rest)?, Mark::Semicolon)?;
     let name = Text::new(alloc, name)?;
     let port = Port {
         line,

@@ -9,7 +9,7 @@ use crate::fault::ReadFault;
 use crate::ints::{cmp, fam, fam_rest, int};
 use crate::words::{begins_keyword, begins_mark, closed, keyword, mark, name, open};
 use gen_token::{Keyword, Mark, Placed, Token};
-use gen_tree::{Cmp, Int, Mode, Stmt};
+use gen_tree::{Cmp, Dialect, Int, Stmt};
 use std::alloc::Global;
 use text_core::Text;
 
@@ -23,8 +23,8 @@ pub(crate) fn turns<'t, 'a>(
 {
     let (var, rest) = name(tokens)?;
     let rest = keyword(rest, Keyword::In)?;
-    let (from, rest) = closed(int(alloc, Mode::Source, room, rest)?, Mark::DotDot)?;
-    let (to, rest) = int(alloc, Mode::Source, room, rest)?;
+    let (from, rest) = closed(int(alloc, Dialect::Source, room, rest)?, Mark::DotDot)?;
+    let (to, rest) = int(alloc, Dialect::Source, room, rest)?;
     let var = Text::new(alloc, var)?;
     Ok(((var, from, to), rest))
 }
@@ -39,9 +39,12 @@ pub(crate) fn given<'t, 'a>(
 {
     let rest = keyword(tokens, Keyword::If)?;
     let rest = open(rest, Mark::LeftParen, room)?;
-    let (left, rest) = int(alloc, Mode::Source, room - 1, rest)?;
+    let (left, rest) = int(alloc, Dialect::Source, room - 1, rest)?;
     let (cmp, rest) = cmp(rest)?;
-    let (right, rest) = closed(int(alloc, Mode::Source, room - 1, rest)?, Mark::RightParen)?;
+    let (right, rest) = closed(
+        int(alloc, Dialect::Source, room - 1, rest)?,
+        Mark::RightParen,
+    )?;
     Ok(((left, cmp, right), rest))
 }
 
@@ -93,9 +96,9 @@ fn assign<'t, 'a>(
 ) -> Result<(Stmt, &'t [Placed<'a>]), ReadFault>
     ensures { Gives (with_rest stmt_of) result (list.assign_at clocked room line name.now (placed tokens.now)) }
 {
-    let (target, rest) = fam_rest(alloc, Mode::Source, room, name, tokens)?;
+    let (target, rest) = fam_rest(alloc, Dialect::Source, room, name, tokens)?;
     let rest = assign_mark(clocked, rest)?;
-    let (value, rest) = closed(expr(alloc, Mode::Source, room, rest)?, Mark::Semicolon)?;
+    let (value, rest) = closed(expr(alloc, Dialect::Source, room, rest)?, Mark::Semicolon)?;
     let assign = Stmt::Assign {
         line,
         target,
@@ -115,7 +118,7 @@ fn bind<'t, 'a>(
     ensures { Gives (with_rest stmt_of) result (list.let_at room line (placed tokens.now)) }
 {
     let (name, rest) = closed(fam(alloc, room, tokens)?, Mark::Equals)?;
-    let (value, rest) = closed(expr(alloc, Mode::Source, room, rest)?, Mark::Semicolon)?;
+    let (value, rest) = closed(expr(alloc, Dialect::Source, room, rest)?, Mark::Semicolon)?;
     Ok((Stmt::Let { line, name, value }, rest))
 }
 
@@ -131,7 +134,7 @@ fn choose<'t, 'a>(
 ) -> Result<(Stmt, &'t [Placed<'a>]), ReadFault>
     ensures { Gives (with_rest stmt_of) result (list.if_at room (list.inner_stmts clocked room) line (placed tokens.now)) }
 {
-    let (test, rest) = expr(alloc, Mode::Source, room, tokens)?;
+    let (test, rest) = expr(alloc, Dialect::Source, room, tokens)?;
     let (yes, rest) = block(alloc, clocked, room, rest)?;
     let (no, rest) = otherwise(alloc, clocked, room, rest)?;
     Ok((

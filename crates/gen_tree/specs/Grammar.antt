@@ -13,8 +13,8 @@ use Rattle.gen_tree.specs.declared.expr.UnOp.{UnOp}
 use Rattle.gen_tree.specs.declared.expr.UnOp.TheVariants as un_op
 use Rattle.gen_tree.specs.declared.expr.Op.{Op}
 use Rattle.gen_tree.specs.declared.expr.Op.TheVariants as op
-use Rattle.gen_tree.specs.declared.mode.Mode.{Mode}
-use Rattle.gen_tree.specs.declared.mode.Mode.TheVariants as mode
+use Rattle.gen_tree.specs.declared.dialect.Dialect.{Dialect}
+use Rattle.gen_tree.specs.declared.dialect.Dialect.TheVariants as dialect
 use Rattle.gen_tree.specs.Tree.{Int, num, var, bin, Fam, Lit, plain, bits, Expr, read, out, value, unary, binary, mux, zext, slice, Stmt, assign, bind, choose, repeat, given, Stmts, no_stmt, stmt, Else, no_else, otherwise, Param, Conn, Item, wire, reg, inst, comb, ff, repeat_items, given_items, Items, no_item, item, ElseItems, no_else_items, otherwise_items, Port, Module}
 
 -- tokens from here on, and what is left of them there: what lies between is the span
@@ -77,30 +77,30 @@ cmp_mark cmp.Lt = mark.Less
 cmp_mark cmp.Le = mark.LessEquals
 
 -- in a source alone
-abbrev pub InSource : Mode → Span → Span
-InSource mode.Source S = S
-InSource mode.Condition S = Never
+abbrev pub InSource : Dialect → Span → Span
+InSource dialect.Source S = S
+InSource dialect.Condition S = Never
 
 -- int = NUMBER | NAME | "(" int ( "+" | "-" | "*" ) int ")"; in a condition NUMBER alone
-abbrev pub SpellsInt : Mode → Int → Span
+abbrev pub SpellsInt : Dialect → Int → Span
 SpellsInt m (num n) = Single (Number n)
 SpellsInt m (var x) = InSource m (Single (Name x))
 SpellsInt m (bin o a b) =
     InSource m (Sym mark.LeftParen ⨾ SpellsInt m a ⨾ Sym (int_op_mark o) ⨾ SpellsInt m b ⨾ Sym mark.RightParen)
 
 -- [ "#" int ]
-abbrev pub SpellsIndex : Mode → Option Int → Span
+abbrev pub SpellsIndex : Dialect → Option Int → Span
 SpellsIndex m None ts rest = ts ≡ rest
 SpellsIndex m (Some i) ts rest = (Sym mark.Hash ⨾ SpellsInt m i) ts rest
 
 -- fam = NAME [ "#" int ]
-abbrev pub SpellsFam : Mode → Fam → Span
+abbrev pub SpellsFam : Dialect → Fam → Span
 SpellsFam m f = Single (Name f.name) ⨾ SpellsIndex m f.index
 
 -- ---- expressions
 
 -- lit = LIT | "bits" "(" int "," int ")"; in a condition LIT alone
-abbrev pub SpellsLit : Mode → Lit → Span
+abbrev pub SpellsLit : Dialect → Lit → Span
 SpellsLit m (plain w v) = Single (Literal w v)
 SpellsLit m (bits w v) =
     InSource m (Key keyword.Bits ⨾ Sym mark.LeftParen ⨾ SpellsInt m w ⨾ Sym mark.Comma ⨾ SpellsInt m v ⨾ Sym mark.RightParen)
@@ -134,13 +134,13 @@ SpellsTwo (Some m) A B = Sym mark.LeftParen ⨾ A ⨾ Sym m ⨾ B ⨾ Sym mark.R
 SpellsTwo None A B = Key keyword.Cat ⨾ Sym mark.LeftParen ⨾ A ⨾ Sym mark.Comma ⨾ B ⨾ Sym mark.RightParen
 
 -- fam [ "." NAME ], the latter where a name is given
-abbrev pub SpellsRead : Mode → Fam → Option (List ℕ) → Span
+abbrev pub SpellsRead : Dialect → Fam → Option (List ℕ) → Span
 SpellsRead m f None = SpellsFam m f
 SpellsRead m f (Some q) = SpellsFam m f ⨾ Sym mark.Dot ⨾ Single (Name q)
 
 abbrev mutual
   -- prim: an expression that does not end with a slice
-  pub SpellsPrim : Mode → Expr → Span
+  pub SpellsPrim : Dialect → Expr → Span
   SpellsPrim m (read f) = SpellsRead m f None
   SpellsPrim m (out f q) = SpellsRead m f (Some q)
   SpellsPrim m (value l) = SpellsLit m l
@@ -154,7 +154,7 @@ abbrev mutual
   SpellsPrim m (slice e h l) = Never
 
   -- expr = prim [ "[" int ":" int "]" ]
-  pub SpellsExpr : Mode → Expr → Span
+  pub SpellsExpr : Dialect → Expr → Span
   SpellsExpr m (read f) = SpellsRead m f None
   SpellsExpr m (out f q) = SpellsRead m f (Some q)
   SpellsExpr m (value l) = SpellsLit m l
@@ -172,13 +172,13 @@ abbrev mutual
 
 -- an integer, a fam and an expression of a source
 abbrev pub SourceInt : Int → Span
-SourceInt i = SpellsInt mode.Source i
+SourceInt i = SpellsInt dialect.Source i
 
 abbrev pub SourceFam : Fam → Span
-SourceFam f = SpellsFam mode.Source f
+SourceFam f = SpellsFam dialect.Source f
 
 abbrev pub SourceExpr : Expr → Span
-SourceExpr e = SpellsExpr mode.Source e
+SourceExpr e = SpellsExpr dialect.Source e
 
 -- "for" NAME "in" int ".." int
 abbrev pub SpellsTurns : List ℕ → Int → Int → Span
@@ -248,7 +248,7 @@ abbrev mutual
       StartsAt line ts × (Key keyword.Wire ⨾ SourceFam f ⨾ Sym mark.Colon ⨾ SourceInt w ⨾ Sym mark.Semicolon) ts rest
   SpellsItem (reg line f w l) ts rest =
       StartsAt line ts
-      × (Key keyword.Reg ⨾ SourceFam f ⨾ Sym mark.Colon ⨾ SourceInt w ⨾ Sym mark.Equals ⨾ SpellsLit mode.Source l
+      × (Key keyword.Reg ⨾ SourceFam f ⨾ Sym mark.Colon ⨾ SourceInt w ⨾ Sym mark.Equals ⨾ SpellsLit dialect.Source l
       ⨾ Sym mark.Semicolon) ts rest
   SpellsItem (inst line f x args conns) ts rest =
       StartsAt line ts

@@ -3,14 +3,14 @@
 //! Lines are numbered from 1. A part that has a line has that of its first token.
 #![tactic(auto)]
 
+mod dialect;
 mod expr;
 mod item;
-mod mode;
 mod source;
 mod statement;
 
+pub use dialect::Dialect;
 pub use expr::{Cmp, Expr, Fam, Int, IntOp, Lit, Op, UnOp};
 pub use item::{Conn, Item, Param};
-pub use mode::Mode;
 pub use source::{Module, Port, Source};
 pub use statement::Stmt;

@@ -1,4 +1,4 @@
--- The log of a block, step by step.
+-- The log of a block, effect by effect.
 use Rattle.std.proofs.Common.{◌≡◌, ℕ, zero, suc, ◌+◌, ◌<◌, Bool, true, false, ◌||◌, bytes_eq, List, [], ◌∷◌, ◌++◌, length, map, take, drop, get_or, Option, Some, None, Vec, Global, if◌then◌else◌, refl, sym, ap, ap₂, ◌∙◌, subst, append_assoc}
 use Rattle.std.specs.List.{flat_map}
 use Rattle.std.specs.Borrow.{Bor}
@@ -25,8 +25,8 @@ use Rattle.design_core.specs.Statements.{inside, statements, else_statements}
 use Rattle.check_exec.proofs.Facts.{eq_turned}
 use Rattle.block_net.specs.declared.key.Key as code_key
 use Rattle.block_net.specs.declared.key.Key.TheVariants as keys
-use Rattle.block_net.specs.declared.step.Step.{Step}
-use Rattle.block_net.specs.declared.step.Step.TheVariants.{Set, Slot}
+use Rattle.block_net.specs.declared.effect.Effect.{Effect}
+use Rattle.block_net.specs.declared.effect.Effect.TheVariants.{Set, Slot}
 use Rattle.block_net.specs.declared.term.Term.{Term}
 use Rattle.block_net.specs.declared.term.TermId.{TermId}
 use Rattle.block_net.specs.Terms.{IsWithin, tree_for}
@@ -68,33 +68,33 @@ now_held terms ids new y id e within h = put_held terms ids new y id e within h
 
 -- ---- steps in order
 
-pub next_step : (log : List Step) (i : ℕ) (step : Step) → i < length log → step ≡ get_or log i step → drop i log ≡ step ∷ drop (i + 1) log
-next_step log i step below at = drop_more log i step below ∙ ap (λ s. s ∷ drop (i + 1) log) (sym at)
+pub next_step : (log : List Effect) (i : ℕ) (effect : Effect) → i < length log → effect ≡ get_or log i effect → drop i log ≡ effect ∷ drop (i + 1) log
+next_step log i effect below at = drop_more log i effect below ∙ ap (λ s. s ∷ drop (i + 1) log) (sym at)
 
-pub within_at : (terms : List Term) (log : List Step) (i : ℕ) (step : Step) → i < length log → step ≡ get_or log i step → AreWithin terms log → AreWithin terms (step ∷ [])
-within_at terms log i step below at h = first step (subst (AreWithin terms) (next_step log i step below at) (rest log i h))
+pub within_at : (terms : List Term) (log : List Effect) (i : ℕ) (effect : Effect) → i < length log → effect ≡ get_or log i effect → AreWithin terms log → AreWithin terms (effect ∷ [])
+within_at terms log i effect below at h = first effect (subst (AreWithin terms) (next_step log i effect below at) (rest log i h))
   where
-    within_tail : (s : Step) (l : List Step) → AreWithin terms (s ∷ l) → AreWithin terms l
+    within_tail : (s : Effect) (l : List Effect) → AreWithin terms (s ∷ l) → AreWithin terms l
     within_tail (Set key id) l g = g.1
     within_tail (Slot slot enable) l g = g.1
 
-    rest : (l : List Step) (k : ℕ) → AreWithin terms l → AreWithin terms (drop k l)
-    rest [] k g = let e : drop k (let none : List Step = [] in none) ≡ [] = none_left k in subst (AreWithin terms) (sym e) tt
+    rest : (l : List Effect) (k : ℕ) → AreWithin terms l → AreWithin terms (drop k l)
+    rest [] k g = let e : drop k (let none : List Effect = [] in none) ≡ [] = none_left k in subst (AreWithin terms) (sym e) tt
       where
-        none_left : (j : ℕ) → drop j (let none : List Step = [] in none) ≡ []
+        none_left : (j : ℕ) → drop j (let none : List Effect = [] in none) ≡ []
         none_left zero = refl
         none_left (suc j) = refl
     rest (s ∷ l) zero g = g
     rest (s ∷ l) (suc k) g = rest l k (within_tail s l g)
 
-    first : (s : Step) → AreWithin terms (s ∷ drop (i + 1) log) → AreWithin terms (s ∷ [])
+    first : (s : Effect) → AreWithin terms (s ∷ drop (i + 1) log) → AreWithin terms (s ∷ [])
     first (Set key id) g = (g.0, tt)
     first (Slot slot enable) g = (g.0, tt)
 
 -- the rows that are left
-pub left_rows : (terms : List Term) (log : List Step) (i : ℕ) (step : Step) (names : Names) → i < length log → step ≡ get_or log i step →
-    name_rows terms (drop i log) names ≡ rows_of_step terms step names ++ name_rows terms (drop (i + 1) log) (after_step terms step names)
-left_rows terms log i step names below at = ap (λ l. name_rows terms l names) (next_step log i step below at)
+pub left_rows : (terms : List Term) (log : List Effect) (i : ℕ) (effect : Effect) (names : Names) → i < length log → effect ≡ get_or log i effect →
+    name_rows terms (drop i log) names ≡ rows_of_step terms effect names ++ name_rows terms (drop (i + 1) log) (after_step terms effect names)
+left_rows terms log i effect names below at = ap (λ l. name_rows terms l names) (next_step log i effect below at)
 
 pub replay_step : (old new : List Shape) (places : Name → Option ℕ) (nodes : List (Option NodeId)) (i : ℕ) (names : List Name) (all left now later : List NameRow) (fulls after : List FullRow) → left ≡ now ++ later →
     Replayed old (leaf_tree old places nodes) i names all left fulls → RowsPut old new places nodes i names now fulls after → Replayed new (leaf_tree new places nodes) i names all later after
@@ -106,7 +106,7 @@ replay_step old new places nodes i names all left now later fulls after e r put 
 
 -- ---- the names of the log's rows
 
-pub same_rows : (terms : List Term) (log : List Step) (trees : Env (Tree Name)) → name_rows terms log (names_in trees) ≡ map name_row (rows_of terms log trees)
+pub same_rows : (terms : List Term) (log : List Effect) (trees : Env (Tree Name)) → name_rows terms log (names_in trees) ≡ map name_row (rows_of terms log trees)
 same_rows terms [] trees = refl
 same_rows terms (Set (keys.Now x) id ∷ log) trees = same_rows terms log _
 same_rows terms (Set (keys.Next x) id ∷ log) trees = same_rows terms log _

@@ -10,8 +10,8 @@ use Rattle.design_core.specs.Design.{Stmt, Assign, Let, If}
 use Rattle.net_core.specs.Nodes.{Shape}
 use Rattle.net_core.specs.Builder.{Stands}
 use Rattle.block_net.specs.declared.key.Key.TheVariants as keys
-use Rattle.block_net.specs.declared.step.Step.{Step}
-use Rattle.block_net.specs.declared.step.Step.TheVariants.{Set, Slot}
+use Rattle.block_net.specs.declared.effect.Effect.{Effect}
+use Rattle.block_net.specs.declared.effect.Effect.TheVariants.{Set, Slot}
 use Rattle.block_net.specs.declared.term.Term.{Term}
 use Rattle.block_net.specs.declared.term.TermId.{TermId}
 use Rattle.block_net.specs.Terms.{tree_for}
@@ -46,19 +46,19 @@ set_name x tree names = λ y. if bytes_eq x y then tree else names y
 abbrev pub row_of_slot : List Term → ℕ → Option TermId → Names → NameRow
 row_of_slot ns slot enable names = record { slot = slot; enable = tree_for ns enable; before = names }
 
--- what names have after a step, and the row that it tells
-abbrev pub after_step : List Term → Step → Names → Names
+-- what names have after an effect, and the row that it tells
+abbrev pub after_step : List Term → Effect → Names → Names
 after_step ns (Set (keys.Now x) id) names = set_name x (tree_for ns id) names
 after_step ns (Set (keys.Next x) id) names = names
 after_step ns (Slot slot enable) names = names
 
-abbrev pub rows_of_step : List Term → Step → Names → List NameRow
+abbrev pub rows_of_step : List Term → Effect → Names → List NameRow
 rows_of_step ns (Set key id) names = []
 rows_of_step ns (Slot slot enable) names = row_of_slot ns slot enable names ∷ []
 
-abbrev pub name_rows : List Term → List Step → Names → List NameRow
+abbrev pub name_rows : List Term → List Effect → Names → List NameRow
 name_rows ns [] names = []
-name_rows ns (step ∷ log) names = rows_of_step ns step names ++ name_rows ns log (after_step ns step names)
+name_rows ns (effect ∷ log) names = rows_of_step ns effect names ++ name_rows ns log (after_step ns effect names)
 
 -- what names have, by a map
 abbrev pub names_by : List Term → (Name → Option (Option TermId)) → Names

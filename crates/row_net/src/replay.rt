@@ -4,7 +4,7 @@ ghost use Rattle.std.specs.Prelude.{◌≡◌, ◌++◌, ◌∷◌, [], IfOk, On
 ghost use Rattle.list_core.specs.Lists.{EachOf};
 ghost use Rattle.names.specs.Maps.{value_of};
 ghost use Rattle.place_core.specs.Assigned.{names_at};
-ghost use Rattle.block_net.specs.declared.step.Step.TheVariants.{Set};
+ghost use Rattle.block_net.specs.declared.effect.Effect.TheVariants.{Set};
 ghost use Rattle.block_net.specs.Logs.{AreWithin};
 ghost use Rattle.block_net.specs.Terms.{IsWithin, tree_for};
 ghost use Rattle.term_net.specs.Growth.{Grown};
@@ -13,7 +13,7 @@ ghost use Rattle.term_net.specs.Memos.{Fits};
 ghost use Rattle.row_net.specs.Told.{AreHeld, EnableHas, EnableReady, RowHas, RowReady, RowsHave, RowsPut, after_step, name_rows, names_by, row_of_slot, rows_of_step};
 
 use crate::cells::cells_of;
-use block_net::{BlockTerms, Key, Step, TermId};
+use block_net::{BlockTerms, Effect, Key, TermId};
 use bv_core::NodeId;
 use lower_core::FullRow;
 use names::NameMap;
@@ -132,7 +132,7 @@ fn set_key(
     }
 }
 
-/// Takes a step of a block's log: notes what a key has, or puts the row of a slot behind others.
+/// Takes an effect of a block's log: notes what a key has, or puts the row of a slot behind others.
 fn take_step(
     alloc: Global,
     builder: &mut NetBuilder,
@@ -144,25 +144,25 @@ fn take_step(
     signals: &[&[u8]],
     lets: &[&[u8]],
     instance: u32,
-    step: &Step,
+    effect: &Effect,
     rows: &mut Vec<FullRow>,
 ) -> Result<(), NoMemory>
     requires fits { Fits builder.old (value_of places.now) nodes.now block.now.terms memo.old }
     requires held { AreHeld block.now.terms (value_of held.old) }
-    requires within { AreWithin block.now.terms (step.now ∷ []) }
-    requires ready { EachOf (RowReady (leaf_id (value_of places.now) nodes.now) (leaf_tree builder.old (value_of places.now) nodes.now) (names_at signals.now ++ names_at lets.now)) (rows_of_step block.now.terms step.now (names_by block.now.terms (value_of held.old))) }
-    ensures after { OnOk result (names_by block.now.terms (value_of held.new) ≡ after_step block.now.terms step.now (names_by block.now.terms (value_of held.old))) }
+    requires within { AreWithin block.now.terms (effect.now ∷ []) }
+    requires ready { EachOf (RowReady (leaf_id (value_of places.now) nodes.now) (leaf_tree builder.old (value_of places.now) nodes.now) (names_at signals.now ++ names_at lets.now)) (rows_of_step block.now.terms effect.now (names_by block.now.terms (value_of held.old))) }
+    ensures after { OnOk result (names_by block.now.terms (value_of held.new) ≡ after_step block.now.terms effect.now (names_by block.now.terms (value_of held.old))) }
     ensures held { OnOk result (AreHeld block.now.terms (value_of held.new)) }
-    ensures put { OnOk result (RowsPut builder.old builder.new (value_of places.now) nodes.now instance (names_at signals.now ++ names_at lets.now) (rows_of_step block.now.terms step.now (names_by block.now.terms (value_of held.old))) rows.old.items rows.new.items) }
+    ensures put { OnOk result (RowsPut builder.old builder.new (value_of places.now) nodes.now instance (names_at signals.now ++ names_at lets.now) (rows_of_step block.now.terms effect.now (names_by block.now.terms (value_of held.old))) rows.old.items rows.new.items) }
     ensures fits { OnOk result (Fits builder.new (value_of places.now) nodes.now block.now.terms memo.new) }
     ensures grown { OnOk result (Grown builder.old builder.new) }
 {
-    match step {
-        Step::Set(key, id) => {
+    match effect {
+        Effect::Set(key, id) => {
             set_key(alloc, block, held, key, *id)?;
             Ok(())
         }
-        Step::Slot(slot, enable) => {
+        Effect::Slot(slot, enable) => {
             put_row(
                 alloc, builder, block, places, nodes, memo, held, signals, lets, instance, *slot,
                 *enable, rows,
@@ -194,9 +194,9 @@ pub(crate) fn replay(
 {
     let log = block.log();
     let mut rows = Vec::new(alloc);
-    for step in log {
+    for effect in log {
         take_step(
-            alloc, builder, block, places, nodes, memo, held, signals, lets, instance, step,
+            alloc, builder, block, places, nodes, memo, held, signals, lets, instance, effect,
             &mut rows,
         )?;
     }

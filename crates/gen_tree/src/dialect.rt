@@ -1,6 +1,6 @@
 /// In which texts an expression stands.
 #[derive(Clone, Copy, PartialEq, Eq)]
-pub enum Mode {
+pub enum Dialect {
     /// In a source.
     Source,
     /// In a condition of the debugger, where every integer is a number and no `bits` stands.

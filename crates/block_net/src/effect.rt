@@ -1,8 +1,8 @@
 use crate::{Key, TermId};
 
-/// A step of a walk through a block. No id: no tree.
+/// What a walk through a block did. No id: no tree.
 #[derive(Drop)]
-pub enum Step {
+pub enum Effect {
     /// A key has this from here on.
     Set(Key, Option<TermId>),
     /// A slot with its enable.
