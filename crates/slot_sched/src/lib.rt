@@ -4,12 +4,15 @@
 //! that a table and a trace tell; `specs/Waiting.antt` has what this crate looks at instead, slot by slot.
 #![tactic(auto)]
 
+mod arm;
 mod armed;
+mod fault;
 mod found;
 mod laws;
 mod sampled;
 mod schedule;
 
+pub use fault::ArmFault;
 pub use found::Found;
 pub use laws::{sample_is_searched, turns_by_search};
 pub use schedule::Schedule;

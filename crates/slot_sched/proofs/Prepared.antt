@@ -1,0 +1,254 @@
+-- What is armed on a line of a table is what the machine arms there, in the world that the table and a trace tell, as it is seen.
+use Rattle.std.proofs.Common.{◌≡◌, ℕ, ◌+◌, ◌<◌, ◌&&◌, true, List, [], ◌∷◌, ◌++◌, length, map, filter, take, get_or, All, Contains, Option, Some, None, Result, Ok, Err, option_map, if◌then◌else◌, refl, sym, ap, ap₂, ◌∙◌, subst, lt-ltb, append_assoc}
+use Rattle.std.specs.List.{list_all}
+use Rattle.std.proofs.lemmas.List.{map-append}
+use Rattle.std.proofs.lemmas.List.Elements.{All-nil, All-head, All-tail, All-append, All-map, All-filter, All-weaker, All-contains_itself, All-push, All-same, filter-append}
+use Rattle.list_core.proofs.Growing.{more_of}
+use Rattle.std.proofs.lemmas.Option.{slice_get-get_or, same_Some}
+use Rattle.list_core.specs.Lists.{EachOf}
+use Rattle.exec_core.specs.Block.{Name}
+use Rattle.gen_tree.specs.Tree.{Expr}
+use Rattle.symtab.specs.declared.parts.TableParts.{TableParts}
+use Rattle.symtab.specs.Places.{places}
+use Rattle.symtab.specs.Shape.{IsTable, lines_of}
+use Rattle.symtab.specs.Lookups.{instances_of, binding_of}
+use Rattle.trace_core.specs.Samples.{Samples}
+use Rattle.world_core.specs.World.{World}
+use Rattle.cond_lang.specs.declared.cond.Cond.{Cond}
+use Rattle.cond_lang.specs.declared.text.CondText.{CondText}
+use Rattle.cond_lang.specs.Bound.{scope_of}
+use Rattle.cond_lang.specs.Judged.{judged}
+use Rattle.cond_lang.specs.Meaning.{tree_of, leaves}
+use Rattle.cond_lang.specs.TextShown.{text_expr, text_offsets}
+use Rattle.machine_core.specs.declared.reply.Body.{Body}
+use Rattle.machine_core.specs.declared.reply.Body.TheVariants as body
+use Rattle.machine_core.specs.Reading.{Reader, Reading, Condition, NoCondition}
+use Rattle.machine_core.specs.Matching.{Breakpoint, is_wanted}
+use Rattle.machine_core.specs.Arming.{◌>>=◌, some_slots, spot_refusal, bit_refusal, condition_at, condition_of, first_of, unless_refused, limit_refusal, breakpoint_on}
+use Rattle.slot_sched.specs.declared.armed.Trap.{Trap}
+use Rattle.slot_sched.specs.declared.arm.Unarmed.{Unarmed}
+use Rattle.slot_sched.specs.declared.fault.ArmFault.{ArmFault}
+use Rattle.slot_sched.specs.Armed.{traps_of, trap_place, IsTrap, IsBoundAt}
+use Rattle.slot_sched.specs.Arm.{answer_for, IsRefusal, IsTold, TellsNone, as_read, reading_made, text_parts, asked_instance, named_has, is_ascii, HasAsciiNames, ascii_binding, ascii_refused, IsAsciiBound, IsBoundBy, IsAsciiTrap, traps_in, IsSpot, IsFor}
+use Rattle.slot_sched.proofs.Arming.{slots_told, instance_told, kept_told, spots_told}
+use Rattle.slot_sched.proofs.Firsts.{first_more}
+use Rattle.slot_sched.proofs.Matches.{told}
+use Rattle.slot_sched.proofs.Scopes.{judged_told, judged_alike, bound_alike}
+
+-- ---- names of ASCII
+
+passes : (bytes : List ℕ) → EachOf (λ byte. byte < 128) bytes → list_all is_ascii bytes ≡ true
+passes [] h = refl
+passes (byte ∷ bytes) h = ap₂ (λ a b. a && b) (lt-ltb byte 128 h.0) (passes bytes h.1)
+
+same_bindings : (parts : TableParts) (k i : ℕ) (xs : List Name) → EachOf (EachOf (λ byte. byte < 128)) xs → EachOf (λ x. ascii_binding parts k i x ≡ binding_of parts k i x) xs
+same_bindings parts k i [] h = tt
+same_bindings parts k i (x ∷ xs) h = (ap (λ b. if b then binding_of parts k i x else None) (passes x h.0), same_bindings parts k i xs h.1)
+
+module _ (parts : TableParts) (text : CondText) (ascii : EachOf (EachOf (λ byte. byte < 128)) (leaves (tree_of (text_expr text)))) where
+  judged_same : (k i : ℕ) → judged (scope_of (ascii_binding parts k i)) (text_expr text) (text_offsets text) ≡ judged (scope_of (binding_of parts k i)) (text_expr text) (text_offsets text)
+  judged_same k i = judged_alike (ascii_binding parts k i) (binding_of parts k i) (text_expr text) (text_offsets text) (same_bindings parts k i (leaves (tree_of (text_expr text))) ascii)
+
+  bound_same : (k i : ℕ) (cond : Cond) → IsBoundBy (ascii_binding parts k i) text cond → IsBoundAt parts k i (Some text) (Some cond)
+  bound_same k i cond h = (
+    h.0,
+    h.1 ∙ bound_alike (ascii_binding parts k i) (binding_of parts k i) (text_expr text) (same_bindings parts k i (leaves (tree_of (text_expr text))) ascii),
+    sym (judged_same k i) ∙ h.2,
+  )
+
+trap_bound : (parts : TableParts) (k i : ℕ) (text : Option CondText) (c : Option Cond) → HasAsciiNames text → IsAsciiBound parts k i text c → IsBoundAt parts k i text c
+trap_bound parts k i None None ascii h = tt
+trap_bound parts k i None (Some c) ascii h = absurd h
+trap_bound parts k i (Some text) None ascii h = absurd h
+trap_bound parts k i (Some text) (Some c) ascii h = bound_same parts text ascii k i c h
+
+trap_is : (parts : TableParts) (text : Option CondText) → HasAsciiNames text → (t : Trap) → IsAsciiTrap parts text t → IsTrap parts text t
+trap_is parts text ascii t h = record { slot = h.slot; instance = h.instance; bound = trap_bound parts t.slot t.instance text t.cond ascii h.bound }
+
+pub traps_are : (parts : TableParts) (text : Option CondText) → HasAsciiNames text → (traps : List Trap) → All (IsAsciiTrap parts text) traps → All (IsTrap parts text) traps
+traps_are parts text ascii traps h = All-weaker (IsAsciiTrap parts text) (IsTrap parts text) (trap_is parts text ascii) traps h
+
+-- ---- the spots of slots
+
+in_slot : (parts : TableParts) (named : Option ℕ) (k : ℕ) → k < length parts.slots → All (IsSpot parts) (traps_in parts named k)
+in_slot parts named k below =
+    All-map (IsSpot parts) (λ i. (k, i)) (filter (is_wanted named) (instances_of parts k))
+    (All-filter (is_wanted named) (λ i. IsSpot parts (k, i)) (instances_of parts k)
+    (All-weaker (Contains (instances_of parts k)) (λ i. IsSpot parts (k, i)) (λ i among. record { slot = below; instance = among }) (instances_of parts k) (All-contains_itself (instances_of parts k))))
+
+pub spots_are : (parts : TableParts) (named : Option ℕ) (slots : List ℕ) → All (λ k. k < length parts.slots) slots → All (IsSpot parts) (traps_of parts named slots)
+spots_are parts named [] h = All-nil (IsSpot parts)
+spots_are parts named (k ∷ slots) h =
+    All-append (IsSpot parts) (traps_in parts named k) (traps_of parts named slots) (in_slot parts named k (All-head (λ n. n < length parts.slots) k slots h))
+    (spots_are parts named slots (All-tail (λ n. n < length parts.slots) k slots h))
+
+-- one instance more of a slot
+pub slot_more : (parts : TableParts) (named : Option ℕ) (k : ℕ) (old now after : List (ℕ × ℕ)) (is : List ℕ) (n i : ℕ) → n < length is → i ≡ get_or is n i
+    → now ≡ old ++ map (λ x. (k, x)) (filter (is_wanted named) (take n is)) → after ≡ now ++ map (λ x. (k, x)) (filter (is_wanted named) (i ∷ []))
+    → after ≡ old ++ map (λ x. (k, x)) (filter (is_wanted named) (take (n + 1) is))
+slot_more parts named k old now after is n i below at so step =
+    step ∙ ap (λ l. l ++ map (λ x. (k, x)) (filter (is_wanted named) (i ∷ []))) so
+    ∙ append_assoc old (map (λ x. (k, x)) (filter (is_wanted named) (take n is))) (map (λ x. (k, x)) (filter (is_wanted named) (i ∷ [])))
+    ∙ ap (λ l. old ++ l) (
+    sym (map-append (λ x. (k, x)) (filter (is_wanted named) (take n is)) (filter (is_wanted named) (i ∷ [])))
+    ∙ ap (map (λ x. (k, x))) (sym (filter-append (is_wanted named) (take n is) (i ∷ [])) ∙ ap (filter (is_wanted named)) (sym (more_of is n i below at))))
+
+-- the element at a place, whatever stands for one that is not there
+pub same_item : {X : Type 0} (xs : List X) (i : ℕ) (d : X) → i < length xs → get_or xs i d ≡ get_or xs i (get_or xs i d)
+same_item xs i d below = same_Some (get_or xs i d) (get_or xs i (get_or xs i d)) (sym (slice_get-get_or xs i d below) ∙ slice_get-get_or xs i (get_or xs i d) below)
+
+ascii_trap : (parts : TableParts) (text : Option CondText) (t : Trap) (spot : ℕ × ℕ) → trap_place t ≡ spot → IsSpot parts spot → IsAsciiBound parts spot.0 spot.1 text t.cond → IsAsciiTrap parts text t
+ascii_trap parts text t spot e h b = record {
+  slot = subst (λ (p : ℕ × ℕ). p.0 < length parts.slots) (sym e) h.slot;
+  instance = subst (λ (p : ℕ × ℕ). Contains (instances_of parts p.0) p.1) (sym e) h.instance;
+  bound = subst (λ (p : ℕ × ℕ). IsAsciiBound parts p.0 p.1 text t.cond) (sym e) b;
+}
+
+-- so far as the first spots: a trap at each, and none refused
+abbrev pub ArmedUpTo : TableParts → Option CondText → List (ℕ × ℕ) → List Trap → Type 0
+ArmedUpTo parts text spots traps = (map trap_place traps ≡ spots) × All (IsAsciiTrap parts text) traps × (first_of (map (ascii_refused parts text) spots) ≡ None)
+
+-- one trap more
+pub trap_more : (parts : TableParts) (text : Option CondText) (spots : List (ℕ × ℕ)) (i : ℕ) (spot : ℕ × ℕ) (traps items : List Trap) (t : Trap) → i < length spots → spot ≡ get_or spots i spot → IsSpot parts spot
+    → items ≡ traps ++ t ∷ [] → trap_place t ≡ spot → IsAsciiBound parts spot.0 spot.1 text t.cond → ascii_refused parts text spot ≡ None
+    → ArmedUpTo parts text (take i spots) traps → ArmedUpTo parts text (take (i + 1) spots) items
+trap_more parts text spots i spot traps items t below at is_spot grown place bound granted so = (
+  ap (map trap_place) grown ∙ map-append trap_place traps (t ∷ []) ∙ ap₂ (λ (l : List (ℕ × ℕ)) (p : ℕ × ℕ). l ++ p ∷ []) so.0 place ∙ sym (more_of spots i spot below at),
+  All-same (IsAsciiTrap parts text) items (traps ++ t ∷ []) grown (All-push (IsAsciiTrap parts text) traps t so.1 (ascii_trap parts text t spot place is_spot bound)),
+  first_more (ascii_refused parts text) spots i spot below at so.2 granted,
+)
+
+-- ---- conditions at the spots
+
+refusals_told : (parts : TableParts) → IsTable parts → (s : Samples) (text : CondText) → HasAsciiNames (Some text) → (spots : List (ℕ × ℕ)) → All (IsSpot parts) spots
+    → map (spot_refusal (told parts s) (text_expr text) (text_offsets text)) spots ≡ map (ascii_refused parts (Some text)) spots
+refusals_told parts table s text ascii [] h = refl
+refusals_told parts table s text ascii (spot ∷ spots) h =
+    ap₂ (λ o l. o ∷ l)
+    (ap (bit_refusal spot.0) (judged_told parts table s spot.0 spot.1 (All-head (IsSpot parts) spot spots h).instance (text_expr text) (text_offsets text) ∙ sym (judged_same parts text ascii spot.0 spot.1)))
+    (refusals_told parts table s text ascii spots (All-tail (IsSpot parts) spot spots h))
+
+-- ---- steps that may be refused
+
+refused_first : {A B : Type 0} (o : Option Body) (x : Result A Body) (f : A → Result B Body) → IsRefusal o x → IsRefusal o (x >>= f)
+refused_first None x f h = tt
+refused_first (Some refusal) x f h = ap (λ y. y >>= f) h
+
+refused_then : {A B : Type 0} (o : Option Body) (x : Result A Body) (a : A) (f : A → Result B Body) → x ≡ Ok a → IsRefusal o (f a) → IsRefusal o (x >>= f)
+refused_then o x a f e h = subst (λ y. IsRefusal o (y >>= f)) (sym e) h
+
+none_refused : {A : Type 0} (o found : Option Body) (x : A) → IsTold o found → IsRefusal o (unless_refused found x)
+none_refused None found x h = tt
+none_refused (Some refusal) found x h = ap (λ o. unless_refused o x) h
+
+-- ---- a text as a condition
+
+none_first : (spots : List (ℕ × ℕ)) (parts : TableParts) → first_of (map (ascii_refused parts None) spots) ≡ None
+none_first [] parts = refl
+none_first (spot ∷ spots) parts = none_first spots parts
+
+bad_reading : (o : Option Body) (w : World) (spots : List (ℕ × ℕ)) (r : Reading) → IsRefusal o (reading_made r) → IsRefusal o (condition_at w spots r)
+bad_reading None w spots r h = tt
+bad_reading (Some refusal) w spots (Condition e offsets) h = cc
+bad_reading (Some refusal) w spots (NoCondition offset) h = ap (λ b. Err b) (err_same h)
+  where
+    err_same : {A B : Type 0} {x y : B} → (let r : Result A B = Err x in r) ≡ Err y → x ≡ y
+    err_same e = cc
+
+pub bad_text : (o : Option Body) (read : Reader) (w : World) (spots : List (ℕ × ℕ)) (text : Option (List ℕ)) → IsRefusal o (as_read read text) → IsRefusal o (condition_of read w spots text)
+bad_text None read w spots text h = tt
+bad_text (Some refusal) read w spots None h = cc
+bad_text (Some refusal) read w spots (Some t) h = bad_reading (Some refusal) w spots (read t) h
+
+module _ (parts : TableParts) (table : IsTable parts) (s : Samples) (spots : List (ℕ × ℕ)) (are : All (IsSpot parts) spots) where
+  good_reading : (r : Reading) (ct : Option CondText) → HasAsciiNames ct → reading_made r ≡ Ok (option_map text_parts ct)
+      → condition_at (told parts s) spots r ≡ unless_refused (first_of (map (ascii_refused parts ct) spots)) (option_map text_expr ct)
+  good_reading (NoCondition offset) ct ascii e = cc
+  good_reading (Condition e offsets) None ascii same = cc
+  good_reading (Condition e offsets) (Some ct) ascii same =
+      (λ j. unless_refused (first_of (map (spot_refusal (told parts s) (expr_same j) (offsets_same j)) spots)) (Some (expr_same j)))
+      ∙ ap (λ l. unless_refused (first_of l) (Some (text_expr ct))) (refusals_told parts table s ct ascii spots are)
+    where
+      pair_same : (let p : Expr × List ℕ = (e, offsets) in p) ≡ text_parts ct
+      pair_same = cc
+
+      expr_same : e ≡ text_expr ct
+      expr_same = ap (λ (p : Expr × List ℕ). p.0) pair_same
+
+      offsets_same : offsets ≡ text_offsets ct
+      offsets_same = ap (λ (p : Expr × List ℕ). p.1) pair_same
+
+  pub good_text : (read : Reader) (text : Option (List ℕ)) (ct : Option CondText) → HasAsciiNames ct → as_read read text ≡ Ok (option_map text_parts ct)
+      → condition_of read (told parts s) spots text ≡ unless_refused (first_of (map (ascii_refused parts ct) spots)) (option_map text_expr ct)
+  good_text read None (Some ct) ascii e = cc
+  good_text read None None ascii e = ap (λ o. unless_refused o None) (sym (none_first spots parts))
+  good_text read (Some t) ct ascii e = good_reading (read t) ct ascii e
+
+-- ---- the whole
+
+some_there : (line : ℕ) (xs : List ℕ) → (length xs ≡ 0 → ⊥) → some_slots line xs ≡ Ok xs
+some_there line [] h = absurd (h refl)
+some_there line (k ∷ xs) h = refl
+
+none_there : (line : ℕ) (xs : List ℕ) → length xs ≡ 0 → some_slots line xs ≡ Err (body.NoSite line)
+none_there line [] h = refl
+none_there line (k ∷ xs) h = cc
+
+module _ (read : Reader) (parts : TableParts) (s : Samples) (armed next line : ℕ) (path : Option Name) (text : Option (List ℕ)) where
+  abbrev made : Result Breakpoint Body
+  made = breakpoint_on read (told parts s) armed next line path text
+
+  abbrev kept : List ℕ → Option ℕ → List ℕ
+  kept all named = filter (named_has parts named) all
+
+  abbrev last : List ℕ → Option ℕ → Option Expr → Result Breakpoint Body
+  last all named condition = unless_refused (limit_refusal armed next) (record { number = next; slots = kept all named; instance = named; condition = condition })
+
+  abbrev behind_instance : List ℕ → Option ℕ → Result Breakpoint Body
+  behind_instance all named = condition_of read (told parts s) (traps_of parts named (kept all named)) text >>= last all named
+
+  abbrev behind_slots : List ℕ → Result Breakpoint Body
+  behind_slots all = asked_instance parts all path >>= behind_instance all
+
+  abbrev all : List ℕ
+  all = places line (lines_of parts.slots)
+
+  made_is : made ≡ (some_slots line all >>= behind_slots)
+  made_is =
+      (λ j. some_slots line (slots_told parts s line j) >>= λ all. instance_told parts s all path j >>= λ named.
+      condition_of read (told parts s) (spots_told parts s named (kept_told parts s all named j) j) text >>= λ condition.
+      unless_refused (limit_refusal armed next) (record { number = next; slots = kept_told parts s all named j; instance = named; condition = condition }))
+
+  pub no_site : length all ≡ 0 → made ≡ Err (body.NoSite line)
+  no_site empty = made_is ∙ ap (λ x. x >>= behind_slots) (none_there line all empty)
+
+  module _ (some : length all ≡ 0 → ⊥) where
+    made_some : made ≡ behind_slots all
+    made_some = made_is ∙ ap (λ x. x >>= behind_slots) (some_there line all some)
+
+    pub no_instance : (o : Option Body) → IsRefusal o (asked_instance parts all path) → IsRefusal o made
+    no_instance o h = subst (IsRefusal o) (sym made_some) (refused_first o (asked_instance parts all path) (behind_instance all) h)
+
+    module _ (named : Option ℕ) (asked : asked_instance parts all path ≡ Ok named) where
+      made_named : made ≡ behind_instance all named
+      made_named = made_some ∙ ap (λ x. x >>= behind_instance all) asked
+
+      pub no_text : (o : Option Body) → IsRefusal o (as_read read text) → IsRefusal o made
+      no_text o h = subst (IsRefusal o) (sym made_named) (refused_first o _ (last all named) (bad_text o read (told parts s) (traps_of parts named (kept all named)) text h))
+
+      module _ (table : IsTable parts) (ct : Option CondText) (ascii : HasAsciiNames ct) (are : All (IsSpot parts) (traps_of parts named (kept all named))) (is_read : as_read read text ≡ Ok (option_map text_parts ct)) where
+        made_read : made ≡ (unless_refused (first_of (map (ascii_refused parts ct) (traps_of parts named (kept all named)))) (option_map text_expr ct) >>= last all named)
+        made_read = made_named ∙ ap (λ x. x >>= last all named) (good_text parts table s (traps_of parts named (kept all named)) are read text ct ascii is_read)
+
+        pub no_bit : (o : Option Body) → IsTold o (first_of (map (ascii_refused parts ct) (traps_of parts named (kept all named)))) → IsRefusal o made
+        no_bit o h = subst (IsRefusal o) (sym made_read) (refused_first o _ (last all named) (none_refused o _ (option_map text_expr ct) h))
+
+        pub is_made : first_of (map (ascii_refused parts ct) (traps_of parts named (kept all named))) ≡ None → made ≡ last all named (option_map text_expr ct)
+        is_made h = made_read ∙ ap (λ o. unless_refused o (option_map text_expr ct) >>= last all named) h
+
+-- the same of a call that ended so
+pub refused_end : (armed next : ℕ) (r : Result Unarmed ArmFault) (end : ArmFault) (made : Result Breakpoint Body) → r ≡ Err end → IsRefusal (answer_for end) made → IsFor armed next r made
+refused_end armed next r end made e h = subst (λ x. IsFor armed next x made) (sym e) h
+
+pub told_end : {X : Type 0} (r : Result X ArmFault) (end : ArmFault) (refusal : Option Body) → r ≡ Err end → IsTold (answer_for end) refusal → TellsNone r refusal
+told_end r end refusal e h = subst (λ x. TellsNone x refusal) (sym e) h

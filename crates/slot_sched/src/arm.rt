@@ -1,0 +1,337 @@
+//! What a breakpoint is armed for, and why it is refused.
+
+ghost use Rattle.std.specs.Prelude.{◌≡◌, ◌<◌, ◌++◌, [], ◌∷◌, ℕ, All, IfOk, IfErr, OnOk, Contains, length, filter, map, option_map, Some, Ok, Err, Result};
+ghost use Rattle.std.specs.List.{list_any, list_all};
+ghost use Rattle.cond_lang.specs.Faults.{Refuses};
+ghost use Rattle.cond_lang.specs.Bound.{scope_of};
+ghost use Rattle.cond_lang.specs.Judged.{Refusal, judged};
+ghost use Rattle.cond_lang.specs.TextShown.{text_expr, text_offsets};
+ghost use Rattle.machine_core.specs.Matching.{is_wanted};
+ghost use Rattle.slot_sched.specs.Armed.{trap_place, traps_of, IsTrap};
+ghost use Rattle.cond_lang.specs.Shown.{cond_tree, cond_width};
+ghost use Rattle.machine_core.specs.Arming.{bit_refusal, first_of, breakpoint_on};
+ghost use Rattle.symtab.specs.Lookups.{instances_of};
+ghost use Rattle.machine_core.specs.Reading.{Reader, IsReader};
+ghost use Rattle.world_core.specs.Seen.{seen};
+ghost use Rattle.trace_core.specs.Samples.{Samples};
+ghost use Rattle.trace_world.specs.TraceWorld.{trace_world};
+ghost use Rattle.slot_sched.specs.Arm.{answer_for, IsTold, TellsMade, TellsNone, has_slot, named_has, asked_instance, as_read, text_parts, is_ascii, HasAsciiNames, ascii_binding, ascii_refused, IsBoundBy, IsAsciiBound, IsAsciiTrap, traps_in, IsSpot, IsFor, IsArmable};
+
+use crate::armed::Trap;
+use crate::fault::ArmFault;
+use crate::sampled::is_wanted;
+use bv_core::Binding;
+use cond_lang::{BindEnd, Cond, CondFault, CondText, bind, read_cond};
+use std::alloc::{AllocError, Global};
+use symtab::Table;
+use text_core::{NoMemory, Text};
+
+/// What is armed as a breakpoint, but for its number.
+#[derive(Drop)]
+pub(crate) struct Unarmed {
+    pub(crate) slots: Vec<u32>,
+    pub(crate) instance: Option<u32>,
+    pub(crate) text: Option<CondText>,
+    pub(crate) traps: Vec<Trap>,
+}
+
+/// Whether an instance has a slot.
+fn has_slot(table: &Table, instance: u32, slot: u32) -> bool
+    requires { slot < length table.now.slots }
+    ensures { result ≡ has_slot table.now instance slot }
+{
+    for other in table.instances_of(slot) {
+        if instance == *other {
+            return true;
+        }
+    }
+    false
+}
+
+/// Whether an instance has one of these slots.
+fn has_one(table: &Table, instance: u32, slots: &[u32]) -> bool
+    requires { All (λ k. k < length table.now.slots) slots.now }
+    ensures { result ≡ list_any (has_slot table.now instance) slots.now }
+{
+    for slot in slots {
+        if has_slot(table, instance, *slot) {
+            return true;
+        }
+    }
+    false
+}
+
+/// The instance of a path, if it has one of these slots; none where no path is given.
+pub(crate) fn asked_instance(
+    alloc: Global,
+    table: &Table,
+    slots: &[u32],
+    path: Option<&str>,
+) -> Result<Option<u32>, ArmFault>
+    requires { All (λ k. k < length table.now.slots) slots.now }
+    ensures { TellsMade (λ i. i) result (asked_instance table.now slots.now (option_map (λ p. p.now) path.entry)) }
+{
+    let Some(path) = path else {
+        return Ok(None);
+    };
+    match table.instance_named(path) {
+        Some(instance) if has_one(table, instance, slots) => Ok(Some(instance)),
+        _ => Err(ArmFault::NoInstance {
+            instance: Text::new(alloc, path.as_bytes())?,
+        }),
+    }
+}
+
+/// Whether an instance has a slot, if one was named.
+fn named_has(table: &Table, named: Option<u32>, slot: u32) -> bool
+    requires { slot < length table.now.slots }
+    ensures { result ≡ named_has table.now named slot }
+{
+    match named {
+        Some(instance) => has_slot(table, instance, slot),
+        None => true,
+    }
+}
+
+/// Of these slots those that the named instance has, or all of them.
+pub(crate) fn slots_for(
+    alloc: Global,
+    table: &Table,
+    slots: &[u32],
+    named: Option<u32>,
+) -> Result<Vec<u32>, AllocError>
+    requires { All (λ k. k < length table.now.slots) slots.now }
+    ensures slots { IfOk result (λ kept. kept.items ≡ filter (named_has table.now named) slots.now) }
+{
+    let mut kept = Vec::new(alloc);
+    for slot in slots {
+        if named_has(table, named, *slot) {
+            kept.push(*slot)?;
+        }
+    }
+    Ok(kept)
+}
+
+/// The condition that a text is, if one was given.
+pub(crate) fn read_text(alloc: Global, cond: Option<&[u8]>) -> Result<Option<CondText>, ArmFault>
+    ensures read { (read : Reader) → IsReader read → TellsMade (option_map text_parts) result (as_read read (option_map (λ t. t.now) cond.entry)) }
+    ensures ascii { IfOk result HasAsciiNames }
+{
+    let Some(text) = cond else {
+        return Ok(None);
+    };
+    match read_cond(alloc, text) {
+        Ok(read) => Ok(Some(read)),
+        Err(CondFault::At { offset }) => Err(ArmFault::BadCondAt { offset }),
+        Err(CondFault::NoMemory) => Err(ArmFault::NoMemory),
+    }
+}
+
+/// Whether each byte is ASCII, as each of a condition's names is.
+fn is_ascii(name: &str) -> bool
+    ensures { result ≡ list_all is_ascii name.now }
+{
+    for byte in name.as_bytes() {
+        if *byte >= 128 {
+            return false;
+        }
+    }
+    true
+}
+
+/// What a name of a condition stands for at a slot of an instance.
+fn found(table: &Table, slot: u32, instance: u32, name: &str) -> Option<Binding>
+    requires { Contains (instances_of table.now slot) instance }
+    ensures { result ≡ ascii_binding table.now slot instance name.now }
+{
+    if !is_ascii(name) {
+        return None;
+    }
+    table.binding(slot, instance, name)
+}
+
+/// Why a text is no condition at a slot, by the end of its binding there.
+fn fault_of(end: BindEnd, slot: u32) -> ArmFault
+    ensures { (judged : Result ℕ Refusal) → Refuses end judged → IsTold (answer_for result) (bit_refusal slot judged) }
+{
+    match end {
+        BindEnd::Unknown { name } => ArmFault::BadCondName { name },
+        BindEnd::Removed { name } => ArmFault::CondRemoved { name, slot },
+        BindEnd::Unset { name } => ArmFault::CondUnset { name, slot },
+        BindEnd::Width { offset } => ArmFault::BadCondAt { offset },
+        BindEnd::NoMemory => ArmFault::NoMemory,
+    }
+}
+
+/// A condition that has width 1.
+fn bit(cond: Cond) -> Result<Cond, ArmFault>
+    ensures same { IfOk result (λ made. (cond_tree made ≡ cond_tree cond) × (cond_width made ≡ cond_width cond)) }
+    ensures bit { IfOk result (λ made. cond_width made ≡ 1) }
+    ensures tells { (slot : ℕ) → TellsNone result (bit_refusal slot (Ok (cond_width cond))) }
+{
+    if cond.width() != 1 {
+        return Err(ArmFault::BadCondAt { offset: 0 });
+    }
+    Ok(cond)
+}
+
+/// The condition that a text is at a slot of an instance.
+fn bound(
+    alloc: Global,
+    table: &Table,
+    slot: u32,
+    instance: u32,
+    text: &CondText,
+) -> Result<Cond, ArmFault>
+    requires { Contains (instances_of table.now slot) instance }
+    ensures tells { TellsNone result (bit_refusal slot (judged (scope_of (ascii_binding table.now slot instance)) (text_expr text.now) (text_offsets text.now))) }
+    ensures made { IfOk result (IsBoundBy (ascii_binding table.now slot instance) text.now) }
+{
+    match bind(
+        alloc,
+        text,
+        &|name: &str| found(table, slot, instance, name),
+    ) {
+        Ok(cond) => bit(cond),
+        Err(end) => Err(fault_of(end, slot)),
+    }
+}
+
+/// Where a breakpoint waits at a slot of an instance.
+fn trap_at(
+    alloc: Global,
+    table: &Table,
+    slot: u32,
+    instance: u32,
+    text: &Option<CondText>,
+) -> Result<Trap, ArmFault>
+    requires { Contains (instances_of table.now slot) instance }
+    ensures tells { TellsNone result (ascii_refused table.now text.now (slot, instance)) }
+    ensures place { IfOk result (λ t. trap_place t ≡ (slot, instance)) }
+    ensures bound { IfOk result (λ t. IsAsciiBound table.now slot instance text.now t.cond) }
+{
+    let cond = match text {
+        Some(text) => Some(bound(alloc, table, slot, instance, text)?),
+        None => None,
+    };
+    Ok(Trap {
+        slot,
+        instance,
+        cond,
+    })
+}
+
+/// Puts an instance of a slot behind others, with the slot, unless another one was named.
+fn push_spot(
+    spots: &mut Vec<(u32, u32)>,
+    slot: u32,
+    instance: u32,
+    named: Option<u32>,
+) -> Result<(), NoMemory>
+    ensures { OnOk result (spots.new.items ≡ spots.old.items ++ map (λ i. (slot, i)) (filter (is_wanted named) (instance ∷ []))) }
+{
+    if is_wanted(named, instance) {
+        spots.push((slot, instance))?;
+    }
+    Ok(())
+}
+
+/// Puts the instances of a slot behind others, each with the slot; the named one alone, if one was named.
+fn push_spots(
+    spots: &mut Vec<(u32, u32)>,
+    table: &Table,
+    slot: u32,
+    named: Option<u32>,
+) -> Result<(), NoMemory>
+    requires { slot < length table.now.slots }
+    ensures { OnOk result (spots.new.items ≡ spots.old.items ++ traps_in table.now named slot) }
+{
+    for instance in table.instances_of(slot) {
+        push_spot(spots, slot, *instance, named)?;
+    }
+    Ok(())
+}
+
+/// The slots and instances at which a breakpoint waits: slot after slot, in preorder.
+fn spots_of(
+    alloc: Global,
+    table: &Table,
+    slots: &[u32],
+    named: Option<u32>,
+) -> Result<Vec<(u32, u32)>, NoMemory>
+    requires { All (λ k. k < length table.now.slots) slots.now }
+    ensures { IfOk result (λ spots. spots.items ≡ traps_of table.now named slots.now) }
+{
+    let mut spots = Vec::new(alloc);
+    for slot in slots {
+        push_spots(&mut spots, table, *slot, named)?;
+    }
+    Ok(spots)
+}
+
+/// Where a breakpoint waits, at one of these after another.
+fn traps_at(
+    alloc: Global,
+    table: &Table,
+    spots: &[(u32, u32)],
+    text: &Option<CondText>,
+) -> Result<Vec<Trap>, ArmFault>
+    requires { All (IsSpot table.now) spots.now }
+    ensures tells { TellsNone result (first_of (map (ascii_refused table.now text.now) spots.now)) }
+    ensures places { IfOk result (λ traps. map trap_place traps.items ≡ spots.now) }
+    ensures each { IfOk result (λ traps. All (IsAsciiTrap table.now text.now) traps.items) }
+{
+    let mut traps = Vec::new(alloc);
+    for spot in spots {
+        let (slot, instance) = *spot;
+        let trap = trap_at(alloc, table, slot, instance, text)?;
+        traps.push(trap)?;
+    }
+    Ok(traps)
+}
+
+/// Where a breakpoint waits, slot after slot.
+fn traps_for(
+    alloc: Global,
+    table: &Table,
+    slots: &[u32],
+    named: Option<u32>,
+    text: &Option<CondText>,
+) -> Result<Vec<Trap>, ArmFault>
+    requires within { All (λ k. k < length table.now.slots) slots.now }
+    requires ascii { HasAsciiNames text.now }
+    ensures tells { TellsNone result (first_of (map (ascii_refused table.now text.now) (traps_of table.now named slots.now))) }
+    ensures places { IfOk result (λ traps. map trap_place traps.items ≡ traps_of table.now named slots.now) }
+    ensures each { IfOk result (λ traps. All (IsTrap table.now text.now) traps.items) }
+{
+    let spots = spots_of(alloc, table, slots, named)?;
+    traps_at(alloc, table, &spots, text)
+}
+
+/// What is armed on a line, or why nothing is.
+pub(crate) fn prepared(
+    alloc: Global,
+    table: &Table,
+    line: u64,
+    path: Option<&str>,
+    cond: Option<&[u8]>,
+) -> Result<Unarmed, ArmFault>
+    ensures told { (read : Reader) (s : Samples) (armed next : ℕ) → IsReader read → IsFor armed next result (breakpoint_on read (seen (trace_world table.now s)) armed next line (option_map (λ p. p.now) path.entry) (option_map (λ t. t.now) cond.entry)) }
+    ensures traps { IfOk result (IsArmable table.now) }
+{
+    let _parts = table.parts();
+    let all = table.slots_on(line);
+    if all.is_empty() {
+        return Err(ArmFault::NoSite { line });
+    }
+    let instance = asked_instance(alloc, table, all, path)?;
+    let slots = slots_for(alloc, table, all, instance)?;
+    let text = read_text(alloc, cond)?;
+    let traps = traps_for(alloc, table, &slots, instance, &text)?;
+    Ok(Unarmed {
+        slots,
+        instance,
+        text,
+        traps,
+    })
+}
