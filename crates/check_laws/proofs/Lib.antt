@@ -4,6 +4,7 @@ mod Used
 mod Typed
 mod Named
 mod Driven
+mod Assigned
 mod NamesBack
 mod DrivesBack
 mod TypesBack

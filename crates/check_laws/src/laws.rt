@@ -1,6 +1,7 @@
 //! Refusals are deserved: what is typed, named and driven once is not refused for these, and what is accepted is all of them.
 
 ghost use Rattle.check_laws.specs.Accepting.{AcceptedAreDriven, AcceptedAreNamed, AcceptedAreTyped};
+ghost use Rattle.check_laws.specs.Assigning.{AlwaysAreNotRefused, FirstAreNotRefused};
 ghost use Rattle.check_laws.specs.Driving.{DrivenAreNotRefused, OnceAreNotRefused};
 ghost use Rattle.check_laws.specs.Kinds.{VerdictsAreOfTheirKind};
 ghost use Rattle.check_laws.specs.Naming.{KnownAreNotRefused};
@@ -27,6 +28,13 @@ pub fn known_names_are_not_refused()
 pub fn driven_once_are_not_refused()
     ensures once { OnceAreNotRefused }
     ensures driven { DrivenAreNotRefused }
+{}
+
+/// A design in which each path through a `comb` assigns each target of it is not refused for a latch; and one in which each path that
+/// reads an own name of its block has assigned it before is not refused for a read before a write. Computes nothing.
+pub fn assigned_in_time_are_not_refused()
+    ensures always { AlwaysAreNotRefused }
+    ensures first { FirstAreNotRefused }
 {}
 
 /// An accepted design is typed, each name that it reads or assigns is declared, and its signals are driven once: so the checks refuse no

@@ -5,6 +5,6 @@
 mod laws;
 
 pub use laws::{
-    accepted_are_typed, driven_once_are_not_refused, known_names_are_not_refused,
+    accepted_are_typed, assigned_in_time_are_not_refused, driven_once_are_not_refused, known_names_are_not_refused,
     refusals_are_of_their_kind, typed_are_not_refused,
 };
