@@ -7,4 +7,5 @@ mod Driven
 mod Assigned
 mod NamesBack
 mod DrivesBack
+mod AssignsBack
 mod TypesBack

@@ -1,5 +1,5 @@
 -- What was met so far, as the counts of a walk.
-use Rattle.std.specs.Prelude.{◌≡◌, ℕ, ◌+◌, true, false, Result, Ok, Err, nat_le}
+use Rattle.std.specs.Prelude.{◌≡◌, ◌≤◌, ℕ, ◌+◌, true, false, Result, Ok, Err, nat_le}
 use Rattle.elab_core.specs.declared.Count.{Count}
 use Rattle.elab_core.specs.declared.Count.TheVariants.{Instances, Turns, Statements, Signals, Parts, Cells}
 use Rattle.elab_core.specs.declared.ElabFault.{ElabFault}
@@ -9,6 +9,14 @@ use Rattle.elab_base.specs.declared.met.Met.{Met}
 
 abbrev pub met_of : Met → Seen
 met_of met = record { instances = met.instances; turns = met.turns; statements = met.statements; signals = met.signals; parts = met.parts }
+
+-- no count is less than it was
+pub record NoCountFalls (old new : Met) : Type 0 where
+  pub instances : old.instances ≤ new.instances
+  pub turns : old.turns ≤ new.turns
+  pub statements : old.statements ≤ new.statements
+  pub signals : old.signals ≤ new.signals
+  pub parts : old.parts ≤ new.parts
 
 -- how many instances were met after one more of this
 abbrev pub entered : Count → ℕ → ℕ

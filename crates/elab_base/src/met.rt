@@ -1,7 +1,7 @@
 ghost use Rattle.std.specs.Prelude.{◌≡◌, ◌<◌, ◌^◌, OnOk, OnErr};
 ghost use Rattle.elab_core.specs.Results.{Judged};
 ghost use Rattle.elab_core.specs.Walk.{judge, counts, none_seen};
-ghost use Rattle.elab_base.specs.Met.{met_of, entered, CountsOne};
+ghost use Rattle.elab_base.specs.Met.{met_of, entered, CountsOne, NoCountFalls};
 
 use elab_core::{Count, ElabFault};
 
@@ -35,6 +35,7 @@ impl Met {
     pub fn take(&mut self, what: Count, line: u32) -> Result<(), ElabFault>
         ensures judged { Judged (λ _. tt) result (met_of self.new) (judge (met_of self.old) (counts what line)) }
         ensures entered { OnOk result (self.new.instances ≡ entered what self.old.instances) }
+        ensures counts { NoCountFalls self.old self.new }
         ensures same { OnErr result (self.new ≡ self.old) }
     {
         match what {

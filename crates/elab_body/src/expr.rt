@@ -4,7 +4,7 @@ ghost use Rattle.design_core.specs.View.{expr_of};
 ghost use Rattle.elab_core.specs.Results.{Judged};
 ghost use Rattle.elab_core.specs.Walk.{judge};
 ghost use Rattle.elab_core.specs.Elab.{expr as walk};
-ghost use Rattle.elab_base.specs.Met.{met_of};
+ghost use Rattle.elab_base.specs.Met.{met_of, NoCountFalls};
 
 use crate::build::{binary, boxed, mux, slice, unary, zext};
 use elab_base::{Met, family_name, literal_at, number_at, two_numbers};
@@ -26,6 +26,7 @@ pub fn expression(
 ) -> Result<design_core::Expr, ElabFault>
     ensures judged { Judged (λ e. expr_of e) result (met_of met.new) (judge (met_of met.old) (walk line scope.now (source_of expr.now))) }
     ensures instances { met.new.instances ≡ met.old.instances }
+    ensures counts { NoCountFalls met.old met.new }
 {
     met.take(Count::Parts, line)?;
     match expr {

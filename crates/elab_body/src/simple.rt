@@ -5,7 +5,7 @@ ghost use Rattle.gen_tree.specs.View.{expr_of as source_of, fam_of};
 ghost use Rattle.design_core.specs.View.{expr_of, stmt_of};
 ghost use Rattle.elab_core.specs.Results.{Judged};
 ghost use Rattle.elab_core.specs.Walk.{judge};
-ghost use Rattle.elab_base.specs.Met.{met_of};
+ghost use Rattle.elab_base.specs.Met.{met_of, NoCountFalls};
 ghost use Rattle.elab_body.specs.Body.{assigned as assigned_by, bound_let as bound_by, tested as tested_by};
 
 use crate::build::{assignment, binding};
@@ -29,6 +29,7 @@ pub(crate) fn assigned(
 ) -> Result<Stmt, ElabFault>
     ensures judged { Judged (λ s. stmt_of s) result (met_of met.new) (judge (met_of met.old) (assigned_by line scope.now (fam_of target.now) (source_of value.now))) }
     ensures instances { met.new.instances ≡ met.old.instances }
+    ensures counts { NoCountFalls met.old met.new }
 {
     met.take(Count::Statements, line)?;
     let target = family_name(alloc, line, scope, target)?;
@@ -49,6 +50,7 @@ pub(crate) fn bound(
 ) -> Result<Stmt, ElabFault>
     ensures judged { Judged (λ s. stmt_of s) result (met_of met.new) (judge (met_of met.old) (bound_by line scope.now (fam_of name.now) (source_of value.now))) }
     ensures instances { met.new.instances ≡ met.old.instances }
+    ensures counts { NoCountFalls met.old met.new }
 {
     met.take(Count::Statements, line)?;
     let name = family_name(alloc, line, scope, name)?;
@@ -68,6 +70,7 @@ pub(crate) fn tested(
 ) -> Result<design_core::Expr, ElabFault>
     ensures judged { Judged (λ e. expr_of e) result (met_of met.new) (judge (met_of met.old) (tested_by line scope.now (source_of test.now))) }
     ensures instances { met.new.instances ≡ met.old.instances }
+    ensures counts { NoCountFalls met.old met.new }
 {
     met.take(Count::Statements, line)?;
     let test = expression(alloc, met, test, line, scope)?;

@@ -6,7 +6,7 @@ ghost use Rattle.design_core.specs.Design.{Done};
 ghost use Rattle.elab_core.specs.Results.{Judged};
 ghost use Rattle.elab_core.specs.Walk.{judge};
 ghost use Rattle.elab_core.specs.Elab.{statement as statement_walk, statements as statements_walk, else_body, turns as turns_walk};
-ghost use Rattle.elab_base.specs.Met.{met_of};
+ghost use Rattle.elab_base.specs.Met.{met_of, NoCountFalls};
 ghost use Rattle.gen_scope.specs.Gens.{bound};
 ghost use Rattle.elab_body.specs.Body.{made_of, branches as branches_walk, turn as turn_walk, in_turn, else_stmts};
 
@@ -32,6 +32,7 @@ pub fn statements(
 ) -> Result<(), ElabFault>
     ensures judged { Judged (λ _. made_of made.new) result (met_of met.new) (judge (met_of met.old) (statements_walk (stmts_of body.now) scope.now (made_of made.old))) }
     ensures instances { met.new.instances ≡ met.old.instances }
+    ensures counts { NoCountFalls met.old met.new }
     ensures made { take (length made.old.items) made.new.items ≡ made.old.items }
 {
     for statement in body {
@@ -51,6 +52,7 @@ pub fn block(
 ) -> Result<Vec<design_core::Stmt>, ElabFault>
     ensures judged { Judged (λ made. body_of made.items) result (met_of met.new) (judge (met_of met.old) (statements_walk (stmts_of body.now) scope.now Done)) }
     ensures instances { met.new.instances ≡ met.old.instances }
+    ensures counts { NoCountFalls met.old met.new }
 {
     let mut made = Vec::new(alloc);
     statements(alloc, met, body, scope, &mut made)?;
@@ -69,6 +71,7 @@ fn one_statement(
 ) -> Result<(), ElabFault>
     ensures judged { Judged (λ _. made_of made.new) result (met_of met.new) (judge (met_of met.old) (statement_walk (source_stmt_of statement.now) scope.now (made_of made.old))) }
     ensures instances { met.new.instances ≡ met.old.instances }
+    ensures counts { NoCountFalls met.old met.new }
     ensures made { take (length made.old.items) made.new.items ≡ made.old.items }
 {
     match statement {
@@ -135,6 +138,7 @@ fn chosen(
 ) -> Result<(), ElabFault>
     ensures judged { Judged (λ _. made_of made.new) result (met_of met.new) (judge (met_of met.old) (statement_walk (tree.choose line (source_of test.now) (stmts_of yes.now) (source_else_of no.now)) scope.now (made_of made.old))) }
     ensures instances { met.new.instances ≡ met.old.instances }
+    ensures counts { NoCountFalls met.old met.new }
     ensures made { take (length made.old.items) made.new.items ≡ made.old.items }
 {
     let test = tested(alloc, met, line, scope, test)?;
@@ -156,6 +160,7 @@ fn branches(
 ) -> Result<(Vec<design_core::Stmt>, Option<Vec<design_core::Stmt>>), ElabFault>
     ensures judged { Judged (λ made. (body_of made.0.items, else_of made.1)) result (met_of met.new) (judge (met_of met.old) (branches_walk (stmts_of yes.now) (source_else_of no.now) scope.now)) }
     ensures instances { met.new.instances ≡ met.old.instances }
+    ensures counts { NoCountFalls met.old met.new }
 {
     let yes = block(alloc, met, yes, scope)?;
     let no = otherwise(alloc, met, no, scope)?;
@@ -173,6 +178,7 @@ fn otherwise(
 ) -> Result<Option<Vec<design_core::Stmt>>, ElabFault>
     ensures judged { Judged (λ made. else_of made) result (met_of met.new) (judge (met_of met.old) (else_body (source_else_of no.now) scope.now)) }
     ensures instances { met.new.instances ≡ met.old.instances }
+    ensures counts { NoCountFalls met.old met.new }
 {
     match no {
         None => Ok(None),
@@ -198,6 +204,7 @@ fn all_turns(
 ) -> Result<(), ElabFault>
     ensures judged { Judged (λ _. made_of made.new) result (met_of met.new) (judge (met_of met.old) (turns_walk line (in_turn (stmts_of body.now) var.now scope.now) turns.now.from turns.now.count (made_of made.old))) }
     ensures instances { met.new.instances ≡ met.old.instances }
+    ensures counts { NoCountFalls met.old met.new }
     ensures made { take (length made.old.items) made.new.items ≡ made.old.items }
 {
     let name = shared_name(alloc, var)?;
@@ -223,6 +230,7 @@ fn one_turn(
 ) -> Result<(), ElabFault>
     ensures judged { Judged (λ _. made_of made.new) result (met_of met.new) (judge (met_of met.old) (turn_walk line (stmts_of body.now) (bound name.now.value number scope.now) (made_of made.old))) }
     ensures instances { met.new.instances ≡ met.old.instances }
+    ensures counts { NoCountFalls met.old met.new }
     ensures made { take (length made.old.items) made.new.items ≡ made.old.items }
 {
     met.take(Count::Turns, line)?;
@@ -248,6 +256,7 @@ fn taken(
 ) -> Result<(), ElabFault>
     ensures judged { Judged (λ _. made_of made.new) result (met_of met.new) (judge (met_of met.old) (statement_walk (tree.given line (int_of left.now) cmp (int_of right.now) (stmts_of yes.now) (source_else_of no.now)) scope.now (made_of made.old))) }
     ensures instances { met.new.instances ≡ met.old.instances }
+    ensures counts { NoCountFalls met.old met.new }
     ensures made { take (length made.old.items) made.new.items ≡ made.old.items }
 {
     let holds = comparison(alloc, line, scope, left, cmp, right)?;
