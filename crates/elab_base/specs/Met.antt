@@ -11,12 +11,9 @@ abbrev pub met_of : Met → Seen
 met_of met = record { instances = met.instances; turns = met.turns; statements = met.statements; signals = met.signals; parts = met.parts }
 
 -- no count is less than it was
-pub record NoCountFalls (old new : Met) : Type 0 where
-  pub instances : old.instances ≤ new.instances
-  pub turns : old.turns ≤ new.turns
-  pub statements : old.statements ≤ new.statements
-  pub signals : old.signals ≤ new.signals
-  pub parts : old.parts ≤ new.parts
+unfoldable pub NoCountFalls : Met → Met → Type 0
+NoCountFalls old new =
+    (old.instances ≤ new.instances) × (old.turns ≤ new.turns) × (old.statements ≤ new.statements) × (old.signals ≤ new.signals) × (old.parts ≤ new.parts)
 
 -- how many instances were met after one more of this
 abbrev pub entered : Count → ℕ → ℕ

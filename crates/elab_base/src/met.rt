@@ -31,7 +31,7 @@ impl Met {
 
     /// Counts one more, at this line; it is a fault where that passes the limit, and then nothing is counted. Cells are counted
     /// elsewhere: of them nothing is kept.
-    #[tactic(auto, unfolding(elab_core::specs::Walk::judge))]
+    #[tactic(auto, unfolding(elab_core::specs::Walk::judge, crate::specs::Met::NoCountFalls))]
     pub fn take(&mut self, what: Count, line: u32) -> Result<(), ElabFault>
         ensures judged { Judged (λ _. tt) result (met_of self.new) (judge (met_of self.old) (counts what line)) }
         ensures entered { OnOk result (self.new.instances ≡ entered what self.old.instances) }

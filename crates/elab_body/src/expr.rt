@@ -16,7 +16,7 @@ use text_core::Text;
 
 /// An expression whose names have these numbers. Each part is counted, then come its operands and integers; all faults
 /// are on this line.
-#[tactic(auto, using(crate::proofs::ExprCases::expr_steps))]
+#[tactic(auto, unfolding(elab_base::specs::Met::NoCountFalls), using(crate::proofs::ExprCases::expr_steps))]
 pub fn expression(
     alloc: Global,
     met: &mut Met,

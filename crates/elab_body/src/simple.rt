@@ -18,7 +18,7 @@ use gen_tree::{Expr, Fam};
 use std::alloc::Global;
 
 /// An assignment: its count, its target, its value.
-#[tactic(auto, using(crate::proofs::StmtCases::assigned_steps))]
+#[tactic(auto, unfolding(elab_base::specs::Met::NoCountFalls), using(crate::proofs::StmtCases::assigned_steps))]
 pub(crate) fn assigned(
     alloc: Global,
     met: &mut Met,
@@ -39,7 +39,7 @@ pub(crate) fn assigned(
 }
 
 /// A `let`: its count, its name, its value.
-#[tactic(auto, using(crate::proofs::StmtCases::bound_steps))]
+#[tactic(auto, unfolding(elab_base::specs::Met::NoCountFalls), using(crate::proofs::StmtCases::bound_steps))]
 pub(crate) fn bound(
     alloc: Global,
     met: &mut Met,
@@ -60,7 +60,7 @@ pub(crate) fn bound(
 }
 
 /// The count of an `if`, and its condition.
-#[tactic(auto, using(crate::proofs::StmtCases::tested_steps))]
+#[tactic(auto, unfolding(elab_base::specs::Met::NoCountFalls), using(crate::proofs::StmtCases::tested_steps))]
 pub(crate) fn tested(
     alloc: Global,
     met: &mut Met,

@@ -22,7 +22,7 @@ use text_core::Text;
 
 /// Statements one after another, behind those that were made, which stay as they are, after an error too. They have slot 0.
 #[cycle(statements)]
-#[tactic(auto, using(crate::proofs::StmtLoops::stmts_steps, crate::proofs::Heights::height_at, crate::proofs::Fronts::front_steps))]
+#[tactic(auto, unfolding(elab_base::specs::Met::NoCountFalls), using(crate::proofs::StmtLoops::stmts_steps, crate::proofs::Heights::height_at, crate::proofs::Fronts::front_steps))]
 pub fn statements(
     alloc: Global,
     met: &mut Met,
@@ -61,7 +61,7 @@ pub fn block(
 
 /// One statement.
 #[cycle(statements)]
-#[tactic(auto, using(gen_tree::proofs::Views::view_steps, crate::proofs::Heights::heights, crate::proofs::StmtCases::stmt_steps, crate::proofs::Fronts::front_steps))]
+#[tactic(auto, unfolding(elab_base::specs::Met::NoCountFalls), using(gen_tree::proofs::Views::view_steps, crate::proofs::Heights::heights, crate::proofs::StmtCases::stmt_steps, crate::proofs::Fronts::front_steps))]
 fn one_statement(
     alloc: Global,
     met: &mut Met,
@@ -125,7 +125,7 @@ fn one_statement(
 
 /// An `if`: its count and condition, then its branches.
 #[cycle(statements)]
-#[tactic(auto, using(crate::proofs::StmtCases::choose_steps, crate::proofs::Fronts::front_steps))]
+#[tactic(auto, unfolding(elab_base::specs::Met::NoCountFalls), using(crate::proofs::StmtCases::choose_steps, crate::proofs::Fronts::front_steps))]
 fn chosen(
     alloc: Global,
     met: &mut Met,
@@ -150,7 +150,7 @@ fn chosen(
 
 /// The branches of an `if`.
 #[cycle(statements)]
-#[tactic(auto, using(crate::proofs::StmtCases::branches_steps))]
+#[tactic(auto, unfolding(elab_base::specs::Met::NoCountFalls), using(crate::proofs::StmtCases::branches_steps))]
 fn branches(
     alloc: Global,
     met: &mut Met,
@@ -169,7 +169,7 @@ fn branches(
 
 /// The statements of an `else`, where there is one.
 #[cycle(statements)]
-#[tactic(auto, using(crate::proofs::StmtCases::else_steps, crate::proofs::Heights::height_otherwise))]
+#[tactic(auto, unfolding(elab_base::specs::Met::NoCountFalls), using(crate::proofs::StmtCases::else_steps, crate::proofs::Heights::height_otherwise))]
 fn otherwise(
     alloc: Global,
     met: &mut Met,
@@ -191,7 +191,7 @@ fn otherwise(
 
 /// The turns of a loop, one after another.
 #[cycle(statements)]
-#[tactic(auto, using(crate::proofs::StmtLoops::turns_steps, crate::proofs::StmtLoops::signed_steps, crate::proofs::Fronts::front_steps))]
+#[tactic(auto, unfolding(elab_base::specs::Met::NoCountFalls), using(crate::proofs::StmtLoops::turns_steps, crate::proofs::StmtLoops::signed_steps, crate::proofs::Fronts::front_steps))]
 fn all_turns(
     alloc: Global,
     met: &mut Met,
@@ -217,7 +217,7 @@ fn all_turns(
 
 /// A turn of a loop, whose variable has this number: its count, then its statements.
 #[cycle(statements)]
-#[tactic(auto, using(crate::proofs::StmtCases::turn_steps, crate::proofs::Fronts::front_steps))]
+#[tactic(auto, unfolding(elab_base::specs::Met::NoCountFalls), using(crate::proofs::StmtCases::turn_steps, crate::proofs::Fronts::front_steps))]
 fn one_turn(
     alloc: Global,
     met: &mut Met,
@@ -241,7 +241,7 @@ fn one_turn(
 
 /// The branch of a `gen if` that is taken.
 #[cycle(statements)]
-#[tactic(auto, using(crate::proofs::StmtCases::given_steps, crate::proofs::Heights::height_branch, crate::proofs::Fronts::front_steps))]
+#[tactic(auto, unfolding(elab_base::specs::Met::NoCountFalls), using(crate::proofs::StmtCases::given_steps, crate::proofs::Heights::height_branch, crate::proofs::Fronts::front_steps))]
 fn taken(
     alloc: Global,
     met: &mut Met,
