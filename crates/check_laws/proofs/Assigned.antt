@@ -1,12 +1,12 @@
 -- Where each path assigns what is to be assigned, and in time, there is no latch and no early read.
-use Rattle.std.proofs.Common.{◌≡◌, ℕ, Bool, true, false, true≢false, ◌&&◌, ◌||◌, not, bytes_eq, List, [], ◌∷◌, ◌++◌, append_assoc, Option, Some, None, if◌then◌else◌, ◌⊎◌, inl, inr, refl, sym, ap, ◌∙◌, subst}
+use Rattle.std.proofs.Common.{◌≡◌, ℕ, Bool, true, false, true≢false, ◌&&◌, not, bytes_eq, List, [], ◌∷◌, ◌++◌, append_assoc, Option, Some, None, if◌then◌else◌, ◌⊎◌, inl, inr, refl, sym, ap, ◌∙◌, subst}
 use Rattle.std.specs.List.{list_any}
 use Rattle.std.proofs.lemmas.Bool.{cases_Bool, or_cases, and_parts}
 use Rattle.std.proofs.lemmas.Option.{none-some, same_Some}
 use Rattle.exec_core.specs.Block.{Name}
 use Rattle.list_core.specs.Lists.{IsIn}
 use Rattle.list_core.proofs.Lists.{each_member, in_cases}
-use Rattle.design_core.specs.Design.{Expr, Read, Out, Value, Unary, Binary, Mux, Zext, Slice, Stmt, Assign, Let, If, Body, Done, Then, Else, NoElse, Otherwise, Block, Variant}
+use Rattle.design_core.specs.Design.{Expr, Read, Out, Value, Unary, Binary, Mux, Zext, Slice, Stmt, Assign, Let, If, Body, Done, Then, Else, NoElse, Otherwise, Block}
 use Rattle.design_core.specs.Slots.{lets_of}
 use Rattle.check_core.specs.declared.fault.CheckFault.TheVariants as fault
 use Rattle.check_core.specs.declared.fault.Refusal.TheVariants.{Latch, ReadBeforeWrite}

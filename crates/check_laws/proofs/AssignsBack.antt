@@ -1,20 +1,19 @@
 -- Where there is no latch and no early read, each path assigns what is to be assigned, and in time.
-use Rattle.std.proofs.Common.{◌≡◌, ℕ, Bool, true, false, true≢false, ◌&&◌, ◌||◌, not, bytes_eq, List, [], ◌∷◌, ◌++◌, Option, Some, None, if◌then◌else◌, ◌⊎◌, inl, inr, refl, sym, ap, ap₂, ◌∙◌, subst}
+use Rattle.std.proofs.Common.{◌≡◌, ℕ, Bool, true, false, true≢false, ◌&&◌, not, bytes_eq, List, [], ◌∷◌, ◌++◌, None, if◌then◌else◌, ◌⊎◌, inl, inr, refl, sym, ap, ap₂, ◌∙◌, subst}
 use Rattle.std.specs.List.{list_any}
 use Rattle.std.proofs.lemmas.Bool.{cases_Bool, and_cases, or_parts, or_left, or_right, and_from}
 use Rattle.exec_core.specs.Block.{Name}
-use Rattle.list_core.specs.Lists.{EachOf, IsIn}
+use Rattle.list_core.specs.Lists.{IsIn}
 use Rattle.list_core.proofs.Lists.{each_member, each_from, in_left, in_right}
 use Rattle.list_core.proofs.Options.{none_if}
-use Rattle.design_core.specs.Design.{Expr, Read, Out, Value, Unary, Binary, Mux, Zext, Slice, Stmt, Assign, Let, If, Body, Done, Then, Else, NoElse, Otherwise, Block, Variant}
+use Rattle.design_core.specs.Design.{Expr, Read, Out, Value, Unary, Binary, Mux, Zext, Slice, Stmt, Assign, Let, If, Body, Done, Then, Else, NoElse, Otherwise, Block}
 use Rattle.design_core.specs.Slots.{lets_of}
 use Rattle.check_core.specs.declared.fault.CheckFault.TheVariants as fault
 use Rattle.check_core.specs.Drivers.{Drive, driven_in}
-use Rattle.check_core.specs.Faults.{earlier, first_of, spot}
+use Rattle.check_core.specs.Faults.{first_of, spot}
 use Rattle.check_core.specs.Paths.{skips, body_skips, else_skips, latch_at, latch_in, own, early_read, early, early_in, early_in_else, early_in_block}
 use Rattle.check_exec.proofs.Facts.{same_name, name_same, in_any, earlier_left, earlier_right, none_found}
-use Rattle.check_laws.specs.Driving.{BodyAssigns}
-use Rattle.check_laws.specs.Assigning.{Deed, Evaluates, SetsName, OneThenOther, OneBranch, StmtPath, BodyPath, ElsePath, ReadsName, IsOwnName, AssignsAlways, AssignsFirst}
+use Rattle.check_laws.specs.Assigning.{Deed, Evaluates, SetsName, StmtPath, BodyPath, ElsePath, ReadsName, IsOwnName, AssignsAlways, AssignsFirst}
 use Rattle.check_laws.specs.Accepting.{AcceptedAreAssigned}
 use Rattle.check_laws.proofs.Assigned.{not_evaluated, SetsBefore}
 use Rattle.check_laws.proofs.Driven.{found_body}
@@ -168,8 +167,7 @@ first_back b h front back e p x r o = body_set_before (own b) b.body h front bac
 
 pub accepted_are_assigned : AcceptedAreAssigned
 accepted_are_assigned d sound v u =
-    let c = used_clean d sound v u in
-    (
+    let c = used_clean d sound v u in (
       each_from AssignsAlways v.blocks (λ b i. always_back b (each_member (λ (b : Block). latch_in b ≡ None) v.blocks (none_found latch_in v.blocks c.no_latch) b i)),
       each_from AssignsFirst v.blocks (λ b i. first_back b (each_member (λ (b : Block). early_in_block b ≡ None) v.blocks (none_found early_in_block v.blocks c.written) b i)),
     )

@@ -1,4 +1,4 @@
-//! Refusals are deserved: what is typed, named and driven once is not refused for these, and what is accepted is all of them.
+//! Refusals are deserved: what is typed, named, driven once and assigned in time is not refused for these, and what is accepted is all of them.
 
 ghost use Rattle.check_laws.specs.Accepting.{AcceptedAreAssigned, AcceptedAreDriven, AcceptedAreNamed, AcceptedAreTyped};
 ghost use Rattle.check_laws.specs.Assigning.{AlwaysAreNotRefused, FirstAreNotRefused};
