@@ -30,7 +30,7 @@ impl Met {
     }
 
     /// Counts one more, at this line; it is a fault where that passes the limit, and then nothing is counted. Cells are counted
-    /// elsewhere: of them nothing is kept.
+    /// elsewhere: of them nothing is kept. No count ever falls.
     #[tactic(auto, unfolding(elab_core::specs::Walk::judge, crate::specs::Met::NoCountFalls))]
     pub fn take(&mut self, what: Count, line: u32) -> Result<(), ElabFault>
         ensures judged { Judged (λ _. tt) result (met_of self.new) (judge (met_of self.old) (counts what line)) }

@@ -15,7 +15,7 @@ use std::alloc::Global;
 use text_core::Text;
 
 /// An expression whose names have these numbers. Each part is counted, then come its operands and integers; all faults
-/// are on this line.
+/// are on this line. No count is less than it was, after an error too.
 #[tactic(auto, unfolding(elab_base::specs::Met::NoCountFalls), using(crate::proofs::ExprCases::expr_steps))]
 pub fn expression(
     alloc: Global,

@@ -20,7 +20,8 @@ use std::alloc::Global;
 use std::rc::Rc;
 use text_core::Text;
 
-/// Statements one after another, behind those that were made, which stay as they are, after an error too. They have slot 0.
+/// Statements one after another, behind those that were made, which stay as they are, after an error too; and no count is less than
+/// it was. They have slot 0.
 #[cycle(statements)]
 #[tactic(auto, unfolding(elab_base::specs::Met::NoCountFalls), using(crate::proofs::StmtLoops::stmts_steps, crate::proofs::Heights::height_at, crate::proofs::Fronts::front_steps))]
 pub fn statements(
@@ -41,7 +42,7 @@ pub fn statements(
     Ok(())
 }
 
-/// The statements of a block or a branch.
+/// The statements of a block or a branch. No count is less than it was, after an error too.
 #[cycle(statements)]
 #[tactic(auto, unfolding(crate::specs::Body::made_of))]
 pub fn block(
