@@ -4,6 +4,8 @@ mod Used
 mod Typed
 mod Named
 mod Driven
+mod Assigned
 mod NamesBack
 mod DrivesBack
+mod AssignsBack
 mod TypesBack

@@ -1,6 +1,7 @@
-//! Refusals are deserved: what is typed, named and driven once is not refused for these, and what is accepted is all of them.
+//! Refusals are deserved: what is typed, named, driven once and assigned in time is not refused for these, and what is accepted is all of them.
 
-ghost use Rattle.check_laws.specs.Accepting.{AcceptedAreDriven, AcceptedAreNamed, AcceptedAreTyped};
+ghost use Rattle.check_laws.specs.Accepting.{AcceptedAreAssigned, AcceptedAreDriven, AcceptedAreNamed, AcceptedAreTyped};
+ghost use Rattle.check_laws.specs.Assigning.{AlwaysAreNotRefused, FirstAreNotRefused};
 ghost use Rattle.check_laws.specs.Driving.{DrivenAreNotRefused, OnceAreNotRefused};
 ghost use Rattle.check_laws.specs.Kinds.{VerdictsAreOfTheirKind};
 ghost use Rattle.check_laws.specs.Naming.{KnownAreNotRefused};
@@ -29,10 +30,18 @@ pub fn driven_once_are_not_refused()
     ensures driven { DrivenAreNotRefused }
 {}
 
-/// An accepted design is typed, each name that it reads or assigns is declared, and its signals are driven once: so the checks refuse no
-/// less than what is none of these. Computes nothing.
+/// A design in which each path through a `comb` assigns each target of it is not refused for a latch; and one in which each path that
+/// reads an own name of its block has assigned it before is not refused for a read before a write. Computes nothing.
+pub fn assigned_in_time_are_not_refused()
+    ensures always { AlwaysAreNotRefused }
+    ensures first { FirstAreNotRefused }
+{}
+
+/// An accepted design is typed, each name that it reads or assigns is declared, its signals are driven once, and each path through a block
+/// assigns its targets, and its own names before it reads them: so the checks refuse all that is not so. Computes nothing.
 pub fn accepted_are_typed()
     ensures typed { AcceptedAreTyped }
     ensures named { AcceptedAreNamed }
     ensures driven { AcceptedAreDriven }
+    ensures assigned { AcceptedAreAssigned }
 {}

@@ -1,3 +1,4 @@
 pub mod Steps
 pub mod NumberSteps
 pub mod Numbers
+pub mod Counting

@@ -1,7 +1,7 @@
 ghost use Rattle.std.specs.Prelude.{◌≡◌, ◌<◌, ◌^◌, OnOk, OnErr};
 ghost use Rattle.elab_core.specs.Results.{Judged};
 ghost use Rattle.elab_core.specs.Walk.{judge, counts, none_seen};
-ghost use Rattle.elab_base.specs.Met.{met_of, entered, CountsOne};
+ghost use Rattle.elab_base.specs.Met.{met_of, entered, CountsOne, CountsUp};
 
 use elab_core::{Count, ElabFault};
 
@@ -30,11 +30,12 @@ impl Met {
     }
 
     /// Counts one more, at this line; it is a fault where that passes the limit, and then nothing is counted. Cells are counted
-    /// elsewhere: of them nothing is kept.
-    #[tactic(auto, unfolding(elab_core::specs::Walk::judge))]
+    /// elsewhere: of them nothing is kept. No count ever falls, or goes past its limit.
+    #[tactic(auto, unfolding(elab_core::specs::Walk::judge, crate::specs::Met::CountsUp))]
     pub fn take(&mut self, what: Count, line: u32) -> Result<(), ElabFault>
         ensures judged { Judged (λ _. tt) result (met_of self.new) (judge (met_of self.old) (counts what line)) }
         ensures entered { OnOk result (self.new.instances ≡ entered what self.old.instances) }
+        ensures counts { CountsUp self.old self.new }
         ensures same { OnErr result (self.new ≡ self.old) }
     {
         match what {

@@ -4,7 +4,7 @@ ghost use Rattle.design_core.specs.View.{expr_of};
 ghost use Rattle.elab_core.specs.Results.{Judged};
 ghost use Rattle.elab_core.specs.Walk.{judge};
 ghost use Rattle.elab_core.specs.Elab.{expr as walk};
-ghost use Rattle.elab_base.specs.Met.{met_of};
+ghost use Rattle.elab_base.specs.Met.{met_of, CountsUp};
 
 use crate::build::{binary, boxed, mux, slice, unary, zext};
 use elab_base::{Met, family_name, literal_at, number_at, two_numbers};
@@ -15,8 +15,8 @@ use std::alloc::Global;
 use text_core::Text;
 
 /// An expression whose names have these numbers. Each part is counted, then come its operands and integers; all faults
-/// are on this line.
-#[tactic(auto, using(crate::proofs::ExprCases::expr_steps))]
+/// are on this line. After an error too, no count is less than it was, and none is past its limit that was not before.
+#[tactic(auto, using(elab_base::proofs::Counting::count_steps, crate::proofs::ExprCases::expr_steps))]
 pub fn expression(
     alloc: Global,
     met: &mut Met,
@@ -26,6 +26,7 @@ pub fn expression(
 ) -> Result<design_core::Expr, ElabFault>
     ensures judged { Judged (λ e. expr_of e) result (met_of met.new) (judge (met_of met.old) (walk line scope.now (source_of expr.now))) }
     ensures instances { met.new.instances ≡ met.old.instances }
+    ensures counts { CountsUp met.old met.new }
 {
     met.take(Count::Parts, line)?;
     match expr {

@@ -6,7 +6,7 @@ ghost use Rattle.design_core.specs.Design.{Done};
 ghost use Rattle.elab_core.specs.Results.{Judged};
 ghost use Rattle.elab_core.specs.Walk.{judge};
 ghost use Rattle.elab_core.specs.Elab.{statement as statement_walk, statements as statements_walk, else_body, turns as turns_walk};
-ghost use Rattle.elab_base.specs.Met.{met_of};
+ghost use Rattle.elab_base.specs.Met.{met_of, CountsUp};
 ghost use Rattle.gen_scope.specs.Gens.{bound};
 ghost use Rattle.elab_body.specs.Body.{made_of, branches as branches_walk, turn as turn_walk, in_turn, else_stmts};
 
@@ -20,9 +20,10 @@ use std::alloc::Global;
 use std::rc::Rc;
 use text_core::Text;
 
-/// Statements one after another, behind those that were made, which stay as they are, after an error too. They have slot 0.
+/// Statements one after another, behind those that were made, which stay as they are, after an error too; and no count is less than
+/// it was, or past its limit where it was not. They have slot 0.
 #[cycle(statements)]
-#[tactic(auto, using(crate::proofs::StmtLoops::stmts_steps, crate::proofs::Heights::height_at, crate::proofs::Fronts::front_steps))]
+#[tactic(auto, using(elab_base::proofs::Counting::count_steps, crate::proofs::StmtLoops::stmts_steps, crate::proofs::Heights::height_at, crate::proofs::Fronts::front_steps))]
 pub fn statements(
     alloc: Global,
     met: &mut Met,
@@ -32,6 +33,7 @@ pub fn statements(
 ) -> Result<(), ElabFault>
     ensures judged { Judged (λ _. made_of made.new) result (met_of met.new) (judge (met_of met.old) (statements_walk (stmts_of body.now) scope.now (made_of made.old))) }
     ensures instances { met.new.instances ≡ met.old.instances }
+    ensures counts { CountsUp met.old met.new }
     ensures made { take (length made.old.items) made.new.items ≡ made.old.items }
 {
     for statement in body {
@@ -40,7 +42,7 @@ pub fn statements(
     Ok(())
 }
 
-/// The statements of a block or a branch.
+/// The statements of a block or a branch. After an error too, no count is less than it was, and none is past its limit that was not before.
 #[cycle(statements)]
 #[tactic(auto, unfolding(crate::specs::Body::made_of))]
 pub fn block(
@@ -51,6 +53,7 @@ pub fn block(
 ) -> Result<Vec<design_core::Stmt>, ElabFault>
     ensures judged { Judged (λ made. body_of made.items) result (met_of met.new) (judge (met_of met.old) (statements_walk (stmts_of body.now) scope.now Done)) }
     ensures instances { met.new.instances ≡ met.old.instances }
+    ensures counts { CountsUp met.old met.new }
 {
     let mut made = Vec::new(alloc);
     statements(alloc, met, body, scope, &mut made)?;
@@ -59,7 +62,7 @@ pub fn block(
 
 /// One statement.
 #[cycle(statements)]
-#[tactic(auto, using(gen_tree::proofs::Views::view_steps, crate::proofs::Heights::heights, crate::proofs::StmtCases::stmt_steps, crate::proofs::Fronts::front_steps))]
+#[tactic(auto, using(elab_base::proofs::Counting::count_steps, gen_tree::proofs::Views::view_steps, crate::proofs::Heights::heights, crate::proofs::StmtCases::stmt_steps, crate::proofs::Fronts::front_steps))]
 fn one_statement(
     alloc: Global,
     met: &mut Met,
@@ -69,6 +72,7 @@ fn one_statement(
 ) -> Result<(), ElabFault>
     ensures judged { Judged (λ _. made_of made.new) result (met_of met.new) (judge (met_of met.old) (statement_walk (source_stmt_of statement.now) scope.now (made_of made.old))) }
     ensures instances { met.new.instances ≡ met.old.instances }
+    ensures counts { CountsUp met.old met.new }
     ensures made { take (length made.old.items) made.new.items ≡ made.old.items }
 {
     match statement {
@@ -122,7 +126,7 @@ fn one_statement(
 
 /// An `if`: its count and condition, then its branches.
 #[cycle(statements)]
-#[tactic(auto, using(crate::proofs::StmtCases::choose_steps, crate::proofs::Fronts::front_steps))]
+#[tactic(auto, using(elab_base::proofs::Counting::count_steps, crate::proofs::StmtCases::choose_steps, crate::proofs::Fronts::front_steps))]
 fn chosen(
     alloc: Global,
     met: &mut Met,
@@ -135,6 +139,7 @@ fn chosen(
 ) -> Result<(), ElabFault>
     ensures judged { Judged (λ _. made_of made.new) result (met_of met.new) (judge (met_of met.old) (statement_walk (tree.choose line (source_of test.now) (stmts_of yes.now) (source_else_of no.now)) scope.now (made_of made.old))) }
     ensures instances { met.new.instances ≡ met.old.instances }
+    ensures counts { CountsUp met.old met.new }
     ensures made { take (length made.old.items) made.new.items ≡ made.old.items }
 {
     let test = tested(alloc, met, line, scope, test)?;
@@ -146,7 +151,7 @@ fn chosen(
 
 /// The branches of an `if`.
 #[cycle(statements)]
-#[tactic(auto, using(crate::proofs::StmtCases::branches_steps))]
+#[tactic(auto, using(elab_base::proofs::Counting::count_steps, crate::proofs::StmtCases::branches_steps))]
 fn branches(
     alloc: Global,
     met: &mut Met,
@@ -156,6 +161,7 @@ fn branches(
 ) -> Result<(Vec<design_core::Stmt>, Option<Vec<design_core::Stmt>>), ElabFault>
     ensures judged { Judged (λ made. (body_of made.0.items, else_of made.1)) result (met_of met.new) (judge (met_of met.old) (branches_walk (stmts_of yes.now) (source_else_of no.now) scope.now)) }
     ensures instances { met.new.instances ≡ met.old.instances }
+    ensures counts { CountsUp met.old met.new }
 {
     let yes = block(alloc, met, yes, scope)?;
     let no = otherwise(alloc, met, no, scope)?;
@@ -164,7 +170,7 @@ fn branches(
 
 /// The statements of an `else`, where there is one.
 #[cycle(statements)]
-#[tactic(auto, using(crate::proofs::StmtCases::else_steps, crate::proofs::Heights::height_otherwise))]
+#[tactic(auto, using(elab_base::proofs::Counting::count_steps, crate::proofs::StmtCases::else_steps, crate::proofs::Heights::height_otherwise))]
 fn otherwise(
     alloc: Global,
     met: &mut Met,
@@ -173,6 +179,7 @@ fn otherwise(
 ) -> Result<Option<Vec<design_core::Stmt>>, ElabFault>
     ensures judged { Judged (λ made. else_of made) result (met_of met.new) (judge (met_of met.old) (else_body (source_else_of no.now) scope.now)) }
     ensures instances { met.new.instances ≡ met.old.instances }
+    ensures counts { CountsUp met.old met.new }
 {
     match no {
         None => Ok(None),
@@ -185,7 +192,7 @@ fn otherwise(
 
 /// The turns of a loop, one after another.
 #[cycle(statements)]
-#[tactic(auto, using(crate::proofs::StmtLoops::turns_steps, crate::proofs::StmtLoops::signed_steps, crate::proofs::Fronts::front_steps))]
+#[tactic(auto, using(elab_base::proofs::Counting::count_steps, crate::proofs::StmtLoops::turns_steps, crate::proofs::StmtLoops::signed_steps, crate::proofs::Fronts::front_steps))]
 fn all_turns(
     alloc: Global,
     met: &mut Met,
@@ -198,6 +205,7 @@ fn all_turns(
 ) -> Result<(), ElabFault>
     ensures judged { Judged (λ _. made_of made.new) result (met_of met.new) (judge (met_of met.old) (turns_walk line (in_turn (stmts_of body.now) var.now scope.now) turns.now.from turns.now.count (made_of made.old))) }
     ensures instances { met.new.instances ≡ met.old.instances }
+    ensures counts { CountsUp met.old met.new }
     ensures made { take (length made.old.items) made.new.items ≡ made.old.items }
 {
     let name = shared_name(alloc, var)?;
@@ -210,7 +218,7 @@ fn all_turns(
 
 /// A turn of a loop, whose variable has this number: its count, then its statements.
 #[cycle(statements)]
-#[tactic(auto, using(crate::proofs::StmtCases::turn_steps, crate::proofs::Fronts::front_steps))]
+#[tactic(auto, using(elab_base::proofs::Counting::count_steps, crate::proofs::StmtCases::turn_steps, crate::proofs::Fronts::front_steps))]
 fn one_turn(
     alloc: Global,
     met: &mut Met,
@@ -223,6 +231,7 @@ fn one_turn(
 ) -> Result<(), ElabFault>
     ensures judged { Judged (λ _. made_of made.new) result (met_of met.new) (judge (met_of met.old) (turn_walk line (stmts_of body.now) (bound name.now.value number scope.now) (made_of made.old))) }
     ensures instances { met.new.instances ≡ met.old.instances }
+    ensures counts { CountsUp met.old met.new }
     ensures made { take (length made.old.items) made.new.items ≡ made.old.items }
 {
     met.take(Count::Turns, line)?;
@@ -233,7 +242,7 @@ fn one_turn(
 
 /// The branch of a `gen if` that is taken.
 #[cycle(statements)]
-#[tactic(auto, using(crate::proofs::StmtCases::given_steps, crate::proofs::Heights::height_branch, crate::proofs::Fronts::front_steps))]
+#[tactic(auto, using(elab_base::proofs::Counting::count_steps, crate::proofs::StmtCases::given_steps, crate::proofs::Heights::height_branch, crate::proofs::Fronts::front_steps))]
 fn taken(
     alloc: Global,
     met: &mut Met,
@@ -248,6 +257,7 @@ fn taken(
 ) -> Result<(), ElabFault>
     ensures judged { Judged (λ _. made_of made.new) result (met_of met.new) (judge (met_of met.old) (statement_walk (tree.given line (int_of left.now) cmp (int_of right.now) (stmts_of yes.now) (source_else_of no.now)) scope.now (made_of made.old))) }
     ensures instances { met.new.instances ≡ met.old.instances }
+    ensures counts { CountsUp met.old met.new }
     ensures made { take (length made.old.items) made.new.items ≡ made.old.items }
 {
     let holds = comparison(alloc, line, scope, left, cmp, right)?;

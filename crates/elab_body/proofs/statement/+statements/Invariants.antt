@@ -12,13 +12,13 @@ abbrev pub invariant-statements-loop-statement : goal.invariant-statements-loop-
 invariant-statements-loop-statement l =
     KeptFront (judge (met_of l.met) (statements (stmts_of (drop l.statement-index l.body)) l.scope (made_of l.made)))
     (judge (met_of l.initial.met) (statements (stmts_of l.body) l.scope (made_of l.initial.made)))
-    l.met.instances l.initial.met.instances l.made.items l.initial.made.items
+    l.met l.initial.met l.made.items l.initial.made.items
 
 abbrev pub invariant-all_turns-loop-turn : goal.invariant-all_turns-loop-turn
 invariant-all_turns-loop-turn l =
     KeptFront (judge (met_of l.met) (turns l.line (in_turn (stmts_of l.body) l.var l.scope) (l.turns.from +ℤ pos l.turn) (l.turns.count - l.turn) (made_of l.made)))
     (judge (met_of l.initial.met) (turns l.line (in_turn (stmts_of l.body) l.var l.scope) l.turns.from l.turns.count (made_of l.initial.made)))
-    l.met.instances l.initial.met.instances l.made.items l.initial.made.items
+    l.met l.initial.met l.made.items l.initial.made.items
 
 abbrev pub decreases-one_statement : goal.decreases-one_statement
 decreases-one_statement l = 8 * height_stmt (stmt_of l.statement.now)
