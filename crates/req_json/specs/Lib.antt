@@ -1,0 +1,7 @@
+pub mod Commands
+pub mod Fields
+pub mod Asked
+pub mod Objects
+pub mod Values
+pub mod Replies
+pub mod Notices
