@@ -1,2 +1,4 @@
 pub mod Kept
 pub mod Objects
+pub mod Round
+pub mod ReadBack

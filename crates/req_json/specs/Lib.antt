@@ -5,3 +5,4 @@ pub mod Objects
 pub mod Values
 pub mod Replies
 pub mod Notices
+pub mod ReadBack

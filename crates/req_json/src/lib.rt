@@ -8,6 +8,7 @@
 mod cmd_kind;
 mod cmd_row;
 mod field;
+mod laws;
 mod notice;
 mod object;
 mod quoted;
@@ -15,6 +16,7 @@ mod reply;
 mod request;
 mod value;
 
+pub use laws::{notices_read_back, replies_read_back};
 pub use notice::notice_text;
 pub use reply::reply_text;
 pub use request::read_request;

@@ -68,11 +68,35 @@ fn is_written(alloc: Global, notice: Result<Notice, NoMemory>, text: &str) -> bo
 #[test]
 fn each_notice_is_written(rt: HostRuntime) -> Result<(), Fail> {
     let a = rt.alloc();
-    assert!(rt; is_written(a, stopped_plainly(a), "{\"cycle\":2,\"gens\":[],\"line\":12,\"notice\":\"stopped\",\"slot\":3,\"threads\":[\"A\"]}"));
-    assert!(rt; is_written(a, stopped(a, -4611686018427387904), "{\"cycle\":2,\"gens\":[[\"W\",-4611686018427387904]],\"line\":8,\"notice\":\"stopped\",\"slot\":5,\"threads\":[\"C.u#0\",\"C.u#1\"]}"));
+    assert!(rt;
+        is_written(
+            a,
+            stopped_plainly(a),
+            "{\"cycle\":2,\"gens\":[],\"line\":12,\"notice\":\"stopped\",\"slot\":3,\"threads\":[\"A\"]}"
+        )
+    );
+    assert!(rt;
+        is_written(
+            a,
+            stopped(a, -4611686018427387904),
+            "{\"cycle\":2,\"gens\":[[\"W\",-4611686018427387904]],\"line\":8,\"notice\":\"stopped\",\"slot\":5,\"threads\":[\"C.u#0\",\"C.u#1\"]}"
+        )
+    );
     assert!(rt; is_written(a, Ok(Notice::Ended), "{\"notice\":\"ended\"}"));
     assert!(rt; is_written(a, Ok(Notice::Start), "{\"notice\":\"start\"}"));
-    assert!(rt; is_written(a, rows(a, 0, &[(18, 4), (39, 1)]), "{\"k\":0,\"notice\":\"rows\",\"rows\":[[18,4],[39,1]]}"));
-    assert!(rt; is_written(a, rows(a, 1, &[]), "{\"k\":1,\"notice\":\"rows\",\"rows\":[]}"));
+    assert!(rt;
+        is_written(
+            a,
+            rows(a, 0, &[(18, 4), (39, 1)]),
+            "{\"k\":0,\"notice\":\"rows\",\"rows\":[[18,4],[39,1]]}"
+        )
+    );
+    assert!(rt;
+        is_written(
+            a,
+            rows(a, 1, &[]),
+            "{\"k\":1,\"notice\":\"rows\",\"rows\":[]}"
+        )
+    );
     Ok(())
 }

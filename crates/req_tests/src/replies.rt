@@ -76,19 +76,67 @@ fn armed(alloc: Global, bp: u64, slots: &[u32]) -> Result<Body, NoMemory> {
 #[test]
 fn what_has_no_list_is_accepted(rt: HostRuntime) -> Result<(), Fail> {
     let a = rt.alloc();
-    assert!(rt; is_written(a, 14, None, armed(a, 1, &[0]), "{\"bp\":1,\"ok\":true,\"seq\":14,\"slots\":[0]}"));
-    assert!(rt; is_written(a, 2, Some(0), armed(a, 18446744073709551615, &[2, 5]), "{\"bp\":18446744073709551615,\"id\":0,\"ok\":true,\"seq\":2,\"slots\":[2,5]}"));
+    assert!(rt;
+        is_written(
+            a,
+            14,
+            None,
+            armed(a, 1, &[0]),
+            "{\"bp\":1,\"ok\":true,\"seq\":14,\"slots\":[0]}"
+        )
+    );
+    assert!(rt;
+        is_written(
+            a,
+            2,
+            Some(0),
+            armed(a, 18446744073709551615, &[2, 5]),
+            "{\"bp\":18446744073709551615,\"id\":0,\"ok\":true,\"seq\":2,\"slots\":[2,5]}"
+        )
+    );
     assert!(rt; is_written(a, 15, None, Ok(Body::Continue), "{\"ok\":true,\"seq\":15}"));
-    assert!(rt; is_written(a, 1, Some(7), Ok(Body::Delete), "{\"id\":7,\"ok\":true,\"seq\":1}"));
+    assert!(rt;
+        is_written(
+            a,
+            1,
+            Some(7),
+            Ok(Body::Delete),
+            "{\"id\":7,\"ok\":true,\"seq\":1}"
+        )
+    );
     assert!(rt; is_written(a, 1, None, Ok(Body::Reverse), "{\"ok\":true,\"seq\":1}"));
     assert!(rt; is_written(a, 1, None, Ok(Body::Step), "{\"ok\":true,\"seq\":1}"));
     assert!(rt; is_written(a, 1, None, Ok(Body::Back), "{\"ok\":true,\"seq\":1}"));
     assert!(rt; is_written(a, 1, None, Ok(Body::Bye), "{\"ok\":true,\"seq\":1}"));
     let at = At::Position { cycle: 3, slot: 2 };
-    assert!(rt; is_written(a, 1, None, Ok(Body::Pause { at }), "{\"at\":{\"cycle\":3,\"slot\":2},\"ok\":true,\"seq\":1}"));
-    assert!(rt; is_written(a, 1, None, Ok(Body::Pause { at: At::End }), "{\"at\":\"end\",\"ok\":true,\"seq\":1}"));
+    assert!(rt;
+        is_written(
+            a,
+            1,
+            None,
+            Ok(Body::Pause { at }),
+            "{\"at\":{\"cycle\":3,\"slot\":2},\"ok\":true,\"seq\":1}"
+        )
+    );
+    assert!(rt;
+        is_written(
+            a,
+            1,
+            None,
+            Ok(Body::Pause { at: At::End }),
+            "{\"at\":\"end\",\"ok\":true,\"seq\":1}"
+        )
+    );
     let value = Sample::Unknown;
-    assert!(rt; is_written(a, 1, None, Ok(Body::Eval { value }), "{\"ok\":true,\"seq\":1,\"value\":\"x\"}"));
+    assert!(rt;
+        is_written(
+            a,
+            1,
+            None,
+            Ok(Body::Eval { value }),
+            "{\"ok\":true,\"seq\":1,\"value\":\"x\"}"
+        )
+    );
     Ok(())
 }
 
@@ -154,23 +202,83 @@ fn status(alloc: Global, at: At, bps: &[u64], mode: Going) -> Result<Body, NoMem
 #[test]
 fn lists_are_accepted(rt: HostRuntime) -> Result<(), Fail> {
     let a = rt.alloc();
-    assert!(rt; is_written(a, 5, None, at_stop(a), "{\"at\":{\"cycle\":2,\"slot\":5},\"gens\":[[\"W\",8],[\"i\",-1]],\"line\":8,\"ok\":true,\"seq\":5,\"threads\":[\"C.u#0\",\"C.u#1\"]}"));
-    assert!(rt; is_written(a, 5, Some(9), at_stop(a), "{\"at\":{\"cycle\":2,\"slot\":5},\"gens\":[[\"W\",8],[\"i\",-1]],\"id\":9,\"line\":8,\"ok\":true,\"seq\":5,\"threads\":[\"C.u#0\",\"C.u#1\"]}"));
-    assert!(rt; is_written(a, 5, None, shown(a), "{\"ok\":true,\"seq\":5,\"values\":[[\"en\",\"1'h1\"],[\"d\",\"8'hff\"],[\"q\",\"unset\"],[\"t\",\"removed\"],[\"r\",\"x\"]]}"));
-    assert!(rt; is_written(a, 3, None, evaluated(), "{\"ok\":true,\"seq\":3,\"value\":\"128'hfffffffffffffffffffffffffffffffe\"}"));
-    assert!(rt; is_written(a, 4, None, dropped(a, &[(40, 1)]), "{\"ok\":true,\"rows\":[[40,1]],\"seq\":4}"));
-    assert!(rt; is_written(a, 4, Some(1), dropped(a, &[]), "{\"id\":1,\"ok\":true,\"rows\":[],\"seq\":4}"));
-    assert!(rt; is_written(a, 6, None, status(a, At::Start, &[], Going::Idle), "{\"at\":\"start\",\"bps\":[],\"listeners\":[0,1],\"mode\":\"idle\",\"ok\":true,\"seq\":6}"));
-    assert!(rt; is_written(a, 6, Some(2), status(a, At::End, &[1, 3], Going::Backward), "{\"at\":\"end\",\"bps\":[1,3],\"id\":2,\"listeners\":[0,1],\"mode\":\"backward\",\"ok\":true,\"seq\":6}"));
+    assert!(rt;
+        is_written(
+            a,
+            5,
+            None,
+            at_stop(a),
+            "{\"at\":{\"cycle\":2,\"slot\":5},\"gens\":[[\"W\",8],[\"i\",-1]],\"line\":8,\"ok\":true,\"seq\":5,\"threads\":[\"C.u#0\",\"C.u#1\"]}"
+        )
+    );
+    assert!(rt;
+        is_written(
+            a,
+            5,
+            Some(9),
+            at_stop(a),
+            "{\"at\":{\"cycle\":2,\"slot\":5},\"gens\":[[\"W\",8],[\"i\",-1]],\"id\":9,\"line\":8,\"ok\":true,\"seq\":5,\"threads\":[\"C.u#0\",\"C.u#1\"]}"
+        )
+    );
+    assert!(rt;
+        is_written(
+            a,
+            5,
+            None,
+            shown(a),
+            "{\"ok\":true,\"seq\":5,\"values\":[[\"en\",\"1'h1\"],[\"d\",\"8'hff\"],[\"q\",\"unset\"],[\"t\",\"removed\"],[\"r\",\"x\"]]}"
+        )
+    );
+    assert!(rt;
+        is_written(
+            a,
+            3,
+            None,
+            evaluated(),
+            "{\"ok\":true,\"seq\":3,\"value\":\"128'hfffffffffffffffffffffffffffffffe\"}"
+        )
+    );
+    assert!(rt;
+        is_written(
+            a,
+            4,
+            None,
+            dropped(a, &[(40, 1)]),
+            "{\"ok\":true,\"rows\":[[40,1]],\"seq\":4}"
+        )
+    );
+    assert!(rt;
+        is_written(
+            a,
+            4,
+            Some(1),
+            dropped(a, &[]),
+            "{\"id\":1,\"ok\":true,\"rows\":[],\"seq\":4}"
+        )
+    );
+    assert!(rt;
+        is_written(
+            a,
+            6,
+            None,
+            status(a, At::Start, &[], Going::Idle),
+            "{\"at\":\"start\",\"bps\":[],\"listeners\":[0,1],\"mode\":\"idle\",\"ok\":true,\"seq\":6}"
+        )
+    );
+    assert!(rt;
+        is_written(
+            a,
+            6,
+            Some(2),
+            status(a, At::End, &[1, 3], Going::Backward),
+            "{\"at\":\"end\",\"bps\":[1,3],\"id\":2,\"listeners\":[0,1],\"mode\":\"backward\",\"ok\":true,\"seq\":6}"
+        )
+    );
     Ok(())
 }
 
 /// A refusal that keeps a text.
-fn refused(
-    alloc: Global,
-    text: &[u8],
-    body: impl FnOnce(Text) -> Body,
-) -> Result<Body, NoMemory> {
+fn refused(alloc: Global, text: &[u8], body: impl FnOnce(Text) -> Body) -> Result<Body, NoMemory> {
     Ok(body(name(alloc, text)?))
 }
 
@@ -178,30 +286,178 @@ fn refused(
 fn what_keeps_no_text_is_refused(rt: HostRuntime) -> Result<(), Fail> {
     let a = rt.alloc();
     let mode = Going::Forward;
-    assert!(rt; is_written(a, 9, None, Ok(Body::TooLong), "{\"code\":1,\"error\":\"TooLong\",\"ok\":false,\"seq\":9}"));
-    assert!(rt; is_written(a, 1, None, Ok(Body::NotJson), "{\"code\":2,\"error\":\"NotJson\",\"ok\":false,\"seq\":1}"));
-    assert!(rt; is_written(a, 3, None, Ok(Body::UnknownCmd), "{\"code\":4,\"error\":\"UnknownCmd\",\"ok\":false,\"seq\":3}"));
-    assert!(rt; is_written(a, 4, None, Ok(Body::NoSite { line: 11 }), "{\"code\":5,\"error\":\"NoSite\",\"line\":11,\"ok\":false,\"seq\":4}"));
-    assert!(rt; is_written(a, 9, None, Ok(Body::BadCondAt { offset: 6 }), "{\"code\":7,\"error\":\"BadCond\",\"offset\":6,\"ok\":false,\"seq\":9}"));
-    assert!(rt; is_written(a, 16, None, Ok(Body::Busy { mode }), "{\"code\":10,\"error\":\"Busy\",\"mode\":\"forward\",\"ok\":false,\"seq\":16}"));
-    assert!(rt; is_written(a, 11, None, Ok(Body::NotRunning), "{\"code\":11,\"error\":\"NotRunning\",\"ok\":false,\"seq\":11}"));
-    assert!(rt; is_written(a, 12, None, Ok(Body::NoStop { at: At::Start }), "{\"at\":\"start\",\"code\":12,\"error\":\"NoStop\",\"ok\":false,\"seq\":12}"));
-    assert!(rt; is_written(a, 8, Some(6), Ok(Body::TooMany { limit: 1024 }), "{\"code\":13,\"error\":\"TooMany\",\"id\":6,\"limit\":1024,\"ok\":false,\"seq\":8}"));
-    assert!(rt; is_written(a, 10, None, Ok(Body::NoBreakpoint { bp: 7 }), "{\"bp\":7,\"code\":14,\"error\":\"NoBreakpoint\",\"ok\":false,\"seq\":10}"));
-    assert!(rt; is_written(a, 13, None, Ok(Body::NoListener { k: 2 }), "{\"code\":15,\"error\":\"NoListener\",\"k\":2,\"ok\":false,\"seq\":13}"));
+    assert!(rt;
+        is_written(
+            a,
+            9,
+            None,
+            Ok(Body::TooLong),
+            "{\"code\":1,\"error\":\"TooLong\",\"ok\":false,\"seq\":9}"
+        )
+    );
+    assert!(rt;
+        is_written(
+            a,
+            1,
+            None,
+            Ok(Body::NotJson),
+            "{\"code\":2,\"error\":\"NotJson\",\"ok\":false,\"seq\":1}"
+        )
+    );
+    assert!(rt;
+        is_written(
+            a,
+            3,
+            None,
+            Ok(Body::UnknownCmd),
+            "{\"code\":4,\"error\":\"UnknownCmd\",\"ok\":false,\"seq\":3}"
+        )
+    );
+    assert!(rt;
+        is_written(
+            a,
+            4,
+            None,
+            Ok(Body::NoSite { line: 11 }),
+            "{\"code\":5,\"error\":\"NoSite\",\"line\":11,\"ok\":false,\"seq\":4}"
+        )
+    );
+    assert!(rt;
+        is_written(
+            a,
+            9,
+            None,
+            Ok(Body::BadCondAt { offset: 6 }),
+            "{\"code\":7,\"error\":\"BadCond\",\"offset\":6,\"ok\":false,\"seq\":9}"
+        )
+    );
+    assert!(rt;
+        is_written(
+            a,
+            16,
+            None,
+            Ok(Body::Busy { mode }),
+            "{\"code\":10,\"error\":\"Busy\",\"mode\":\"forward\",\"ok\":false,\"seq\":16}"
+        )
+    );
+    assert!(rt;
+        is_written(
+            a,
+            11,
+            None,
+            Ok(Body::NotRunning),
+            "{\"code\":11,\"error\":\"NotRunning\",\"ok\":false,\"seq\":11}"
+        )
+    );
+    assert!(rt;
+        is_written(
+            a,
+            12,
+            None,
+            Ok(Body::NoStop { at: At::Start }),
+            "{\"at\":\"start\",\"code\":12,\"error\":\"NoStop\",\"ok\":false,\"seq\":12}"
+        )
+    );
+    assert!(rt;
+        is_written(
+            a,
+            8,
+            Some(6),
+            Ok(Body::TooMany { limit: 1024 }),
+            "{\"code\":13,\"error\":\"TooMany\",\"id\":6,\"limit\":1024,\"ok\":false,\"seq\":8}"
+        )
+    );
+    assert!(rt;
+        is_written(
+            a,
+            10,
+            None,
+            Ok(Body::NoBreakpoint { bp: 7 }),
+            "{\"bp\":7,\"code\":14,\"error\":\"NoBreakpoint\",\"ok\":false,\"seq\":10}"
+        )
+    );
+    assert!(rt;
+        is_written(
+            a,
+            13,
+            None,
+            Ok(Body::NoListener { k: 2 }),
+            "{\"code\":15,\"error\":\"NoListener\",\"k\":2,\"ok\":false,\"seq\":13}"
+        )
+    );
     Ok(())
 }
 
 #[test]
 fn what_keeps_a_text_is_refused(rt: HostRuntime) -> Result<(), Fail> {
     let a = rt.alloc();
-    assert!(rt; is_written(a, 2, Some(5), refused(a, b"cmd", |field| Body::BadShape { field }), "{\"code\":3,\"error\":\"BadShape\",\"field\":\"cmd\",\"id\":5,\"ok\":false,\"seq\":2}"));
-    assert!(rt; is_written(a, 2, None, refused(a, b"", |field| Body::BadShape { field }), "{\"code\":3,\"error\":\"BadShape\",\"field\":\"\",\"ok\":false,\"seq\":2}"));
-    assert!(rt; is_written(a, 5, None, refused(a, b"B.x", |instance| Body::NoInstance { instance }), "{\"code\":6,\"error\":\"NoInstance\",\"instance\":\"B.x\",\"ok\":false,\"seq\":5}"));
-    assert!(rt; is_written(a, 6, None, refused(a, b"u", |name| Body::CondRemoved { name, slot: 5 }), "{\"code\":8,\"error\":\"CondRemoved\",\"name\":\"u\",\"ok\":false,\"seq\":6,\"slot\":5}"));
-    assert!(rt; is_written(a, 7, None, refused(a, b"u", |name| Body::CondUnset { name, slot: 3 }), "{\"code\":9,\"error\":\"CondUnset\",\"name\":\"u\",\"ok\":false,\"seq\":7,\"slot\":3}"));
-    assert!(rt; is_written(a, 8, None, refused(a, b"zz", |name| Body::BadCondName { name }), "{\"code\":7,\"error\":\"BadCond\",\"name\":\"zz\",\"ok\":false,\"seq\":8}"));
+    assert!(rt;
+        is_written(
+            a,
+            2,
+            Some(5),
+            refused(a, b"cmd", |field| Body::BadShape { field }),
+            "{\"code\":3,\"error\":\"BadShape\",\"field\":\"cmd\",\"id\":5,\"ok\":false,\"seq\":2}"
+        )
+    );
+    assert!(rt;
+        is_written(
+            a,
+            2,
+            None,
+            refused(a, b"", |field| Body::BadShape { field }),
+            "{\"code\":3,\"error\":\"BadShape\",\"field\":\"\",\"ok\":false,\"seq\":2}"
+        )
+    );
+    assert!(rt;
+        is_written(
+            a,
+            5,
+            None,
+            refused(a, b"B.x", |instance| Body::NoInstance { instance }),
+            "{\"code\":6,\"error\":\"NoInstance\",\"instance\":\"B.x\",\"ok\":false,\"seq\":5}"
+        )
+    );
+    assert!(rt;
+        is_written(
+            a,
+            6,
+            None,
+            refused(a, b"u", |name| Body::CondRemoved { name, slot: 5 }),
+            "{\"code\":8,\"error\":\"CondRemoved\",\"name\":\"u\",\"ok\":false,\"seq\":6,\"slot\":5}"
+        )
+    );
+    assert!(rt;
+        is_written(
+            a,
+            7,
+            None,
+            refused(a, b"u", |name| Body::CondUnset { name, slot: 3 }),
+            "{\"code\":9,\"error\":\"CondUnset\",\"name\":\"u\",\"ok\":false,\"seq\":7,\"slot\":3}"
+        )
+    );
+    assert!(rt;
+        is_written(
+            a,
+            8,
+            None,
+            refused(a, b"zz", |name| Body::BadCondName { name }),
+            "{\"code\":7,\"error\":\"BadCond\",\"name\":\"zz\",\"ok\":false,\"seq\":8}"
+        )
+    );
     // what stands in a string for each kind of byte
-    assert!(rt; is_written(a, 8, None, refused(a, b"\"\\/\x08\x0c\n\r\t\x01\x1f\x7f\xc3\xa9", |name| Body::BadCondName { name }), "{\"code\":7,\"error\":\"BadCond\",\"name\":\"\\\"\\\\/\\b\\f\\n\\r\\t\\u0001\\u001f\x7f\u{e9}\",\"ok\":false,\"seq\":8}"));
+    assert!(rt;
+        is_written(
+            a,
+            8,
+            None,
+            refused(
+                a,
+                b"\"\\/\x08\x0c\n\r\t\x01\x1f\x7f\xc3\xa9",
+                |name| Body::BadCondName { name }
+            ),
+            "{\"code\":7,\"error\":\"BadCond\",\"name\":\"\\\"\\\\/\\b\\f\\n\\r\\t\\u0001\\u001f\x7f\u{e9}\",\"ok\":false,\"seq\":8}"
+        )
+    );
     Ok(())
 }

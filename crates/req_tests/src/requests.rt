@@ -10,9 +10,18 @@ use text_core::NoMemory;
 /// refusal; in front of both the number of its client.
 static CASES: [(&[u8], &str); 70] = [
     (b"{\"cmd\":\"break\",\"line\":8}", "break 8 - -"),
-    (b"{\"cmd\":\"break\",\"line\":8,\"instance\":\"B.x\"}", "break 8 B.x -"),
-    (b"{\"cmd\":\"break\",\"line\":14,\"cond\":\"(u == 8'h00)\",\"id\":3}", "3 break 14 - (u == 8'h00)"),
-    (b"{\"cmd\":\"break\",\"line\":14,\"cond\":null,\"instance\":null,\"id\":null}", "break 14 - -"),
+    (
+        b"{\"cmd\":\"break\",\"line\":8,\"instance\":\"B.x\"}",
+        "break 8 B.x -",
+    ),
+    (
+        b"{\"cmd\":\"break\",\"line\":14,\"cond\":\"(u == 8'h00)\",\"id\":3}",
+        "3 break 14 - (u == 8'h00)",
+    ),
+    (
+        b"{\"cmd\":\"break\",\"line\":14,\"cond\":null,\"instance\":null,\"id\":null}",
+        "break 14 - -",
+    ),
     (b"{\"cmd\":\"delete\",\"bp\":7}", "delete 7"),
     (b"{\"cmd\":\"continue\"}", "continue"),
     (b"{\"cmd\":\"reverse\"}", "reverse"),
@@ -23,20 +32,35 @@ static CASES: [(&[u8], &str); 70] = [
     (b"{\"cmd\":\"pause\"}", "pause"),
     (b"{\"cmd\":\"threads\"}", "threads"),
     (b"{\"cmd\":\"values\",\"instance\":\"A\"}", "values A"),
-    (b"{\"cmd\":\"eval\",\"instance\":\"A\",\"expr\":\"(r + d)\"}", "eval A (r + d)"),
+    (
+        b"{\"cmd\":\"eval\",\"instance\":\"A\",\"expr\":\"(r + d)\"}",
+        "eval A (r + d)",
+    ),
     (b"{\"cmd\":\"drop\",\"k\":2}", "drop 2"),
-    (b"{\"cmd\":\"status\",\"id\":18446744073709551615}", "18446744073709551615 status"),
+    (
+        b"{\"cmd\":\"status\",\"id\":18446744073709551615}",
+        "18446744073709551615 status",
+    ),
     (b"{\"cmd\":\"bye\",\"id\":0}", "0 bye"),
     // further fields are passed over, blanks stand between, and the last of two equal keys counts
-    (b" { \"x\" : [ 1.5 , { } ] ,\n\t\"cmd\" : \"bye\" }\r", "bye"),
+    (
+        b" { \"x\" : [ 1.5 , { } ] ,\n\t\"cmd\" : \"bye\" }\r",
+        "bye",
+    ),
     (b"{\"cmd\":\"bye\",\"cmd\":\"pause\"}", "pause"),
     (b"{\"cmd\":7,\"cmd\":\"pause\"}", "pause"),
     (b"{\"cmd\":\"drop\",\"k\":null,\"k\":5}", "drop 5"),
     (b"{\"cmd\":\"drop\",\"k\":5,\"k\":null}", "3 k"),
     // escapes
     (b"{\"c\\u006dd\":\"st\\u0061tus\"}", "status"),
-    (b"{\"cmd\":\"values\",\"instance\":\"a\\\"\\\\\\/b\"}", "values a\"\\/b"),
-    (b"{\"cmd\":\"values\",\"instance\":\"\\u00e9\"}", "values \xc3\xa9"),
+    (
+        b"{\"cmd\":\"values\",\"instance\":\"a\\\"\\\\\\/b\"}",
+        "values a\"\\/b",
+    ),
+    (
+        b"{\"cmd\":\"values\",\"instance\":\"\\u00e9\"}",
+        "values \u{e9}",
+    ),
     // 2
     (b"nonsense", "2"),
     (b"", "2"),
@@ -68,9 +92,18 @@ static CASES: [(&[u8], &str); 70] = [
     (b"{\"cmd\":\"break \",\"line\":8}", "4"),
     // 3, for the other fields in the order of the command's
     (b"{\"cmd\":\"break\"}", "3 line"),
-    (b"{\"cmd\":\"break\",\"cond\":1,\"instance\":2,\"line\":\"8\"}", "3 line"),
-    (b"{\"cmd\":\"break\",\"cond\":1,\"instance\":2,\"line\":8,\"id\":4}", "4 3 instance"),
-    (b"{\"cmd\":\"break\",\"cond\":1,\"instance\":\"A\",\"line\":8}", "3 cond"),
+    (
+        b"{\"cmd\":\"break\",\"cond\":1,\"instance\":2,\"line\":\"8\"}",
+        "3 line",
+    ),
+    (
+        b"{\"cmd\":\"break\",\"cond\":1,\"instance\":2,\"line\":8,\"id\":4}",
+        "4 3 instance",
+    ),
+    (
+        b"{\"cmd\":\"break\",\"cond\":1,\"instance\":\"A\",\"line\":8}",
+        "3 cond",
+    ),
     (b"{\"cmd\":\"break\",\"line\":null}", "3 line"),
     (b"{\"cmd\":\"delete\",\"line\":7}", "3 bp"),
     (b"{\"cmd\":\"step\",\"instance\":[]}", "3 instance"),
@@ -78,13 +111,19 @@ static CASES: [(&[u8], &str); 70] = [
     (b"{\"cmd\":\"values\"}", "3 instance"),
     (b"{\"cmd\":\"values\",\"instance\":null}", "3 instance"),
     (b"{\"cmd\":\"eval\",\"expr\":1}", "3 instance"),
-    (b"{\"cmd\":\"eval\",\"instance\":\"A\",\"expr\":1}", "3 expr"),
+    (
+        b"{\"cmd\":\"eval\",\"instance\":\"A\",\"expr\":1}",
+        "3 expr",
+    ),
     // whole numbers
     (b"{\"cmd\":\"drop\",\"k\":1.0}", "3 k"),
     (b"{\"cmd\":\"drop\",\"k\":1e0}", "3 k"),
     (b"{\"cmd\":\"drop\",\"k\":-0}", "3 k"),
     (b"{\"cmd\":\"drop\",\"k\":-1}", "3 k"),
-    (b"{\"cmd\":\"drop\",\"k\":18446744073709551615}", "drop 18446744073709551615"),
+    (
+        b"{\"cmd\":\"drop\",\"k\":18446744073709551615}",
+        "drop 18446744073709551615",
+    ),
     (b"{\"cmd\":\"drop\",\"k\":18446744073709551616}", "3 k"),
 ];
 
@@ -192,7 +231,7 @@ fn reading(alloc: Global, text: &[u8]) -> Result<Vec<u8>, NoMemory> {
 /// Whether a text is read as these words.
 fn is_read(alloc: Global, text: &[u8], words: &str) -> bool {
     match reading(alloc, text) {
-        Ok(found) => found.len() > 0 && found[1..] == *words.as_bytes(),
+        Ok(found) => found.len() > 0 && &found[1..] == words.as_bytes(),
         Err(_) => false,
     }
 }
