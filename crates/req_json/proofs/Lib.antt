@@ -2,3 +2,4 @@ pub mod Kept
 pub mod Objects
 pub mod Round
 pub mod ReadBack
+pub mod Client

@@ -6,3 +6,4 @@ pub mod Values
 pub mod Replies
 pub mod Notices
 pub mod ReadBack
+pub mod Client
