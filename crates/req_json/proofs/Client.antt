@@ -1,9 +1,8 @@
 -- A client reads from a reply what was answered.
-use Rattle.std.proofs.Common.{◌≡◌, ℕ, ◌<◌, ◌^◌, ℤ, pos, negsuc, Bool, true, false, cond, List, [], ◌∷◌, codes, bytes_eq, Option, Some, None, option_map, option_and_then, refl, sym, ap, ap₂, ◌∙◌, lt-ltb}
+use Rattle.std.proofs.Common.{◌≡◌, ℕ, ◌<◌, ◌^◌, ℤ, pos, negsuc, cond, List, codes, Option, Some, None, option_map, option_and_then, refl, sym, ap, ◌∙◌, lt-ltb}
 use Rattle.std.specs.Int.Signed.{mag}
 use Rattle.std.specs.List.{AllByRecursion}
 use Rattle.std.specs.Option.{option_or}
-use Rattle.std.proofs.lemmas.Slice.Eq.{bytes_eq-Decides}
 use Rattle.bv_core.specs.Text.{shown}
 use Rattle.bv_core.specs.declared.reference.Sample.{Sample}
 use Rattle.bv_core.specs.declared.reference.Sample.TheVariants as sample
@@ -16,20 +15,20 @@ use Rattle.machine_core.specs.declared.reply.Shown.TheVariants as shows
 use Rattle.machine_core.specs.declared.reply.Body.{Body}
 use Rattle.machine_core.specs.declared.reply.Body.TheVariants as body
 use Rattle.machine_core.specs.declared.reply.Reply.{Reply}
-use Rattle.serde_json.specs.Data.{Data, object, string}
+use Rattle.serde_json.specs.Data.{object, string}
 use Rattle.serde_json.specs.Find.{as_i64, as_str, get, of_integer}
 use Rattle.serde_json.proofs.Views.{get_member-put, get_member-put_other}
-use Rattle.symtab_json.specs.Entries.{told_count, told_list, told_member, two_found}
-use Rattle.symtab_json.specs.Files.{count_json, list_json}
+use Rattle.symtab_json.specs.Entries.{told_count, told_member, two_found}
+use Rattle.symtab_json.specs.Files.{count_json}
 use Rattle.symtab_json.specs.Told.{json_of}
 use Rattle.symtab_json.proofs.Backs.{each, every, list_same}
 use Rattle.symtab_json.proofs.Shown.{literal_back}
 use Rattle.req_json.specs.Objects.{with_member}
-use Rattle.req_json.specs.Values.{at_json, counts_json, gens_json, going_json, named_json, names_json, position_members, row_pair_json, rows_json, sample_json, shown_json, values_json, variable_json}
-use Rattle.req_json.specs.Replies.{body_members, reply_json, reply_members, reply_text, with_id}
+use Rattle.req_json.specs.Values.{at_json, counts_json, gens_json, going_json, named_json, names_json, row_pair_json, rows_json, sample_json, shown_json, values_json, variable_json}
+use Rattle.req_json.specs.Replies.{body_members, reply_json, with_id}
 use Rattle.req_json.specs.ReadBack.{AreVariables, BodyIsText, IsNamedValue, IsSampleValue, IsShownValue, IsVariable, ReplyIsText}
 use Rattle.req_json.specs.Fields.{optional}
-use Rattle.req_json.specs.Client.{RepliesAreTold, TextsTellApart, going_word, heard_body, heard_reply, if_word, made_break, made_reply, made_status, made_threads, sample_word, shown_word, told_body, told_counts, told_going, told_integer, told_names, told_pair, told_place, told_reply, told_rows, told_sample, told_shown, told_values, told_variables}
+use Rattle.req_json.specs.Client.{RepliesAreTold, TextsTellApart, heard_body, heard_reply, if_word, made_break, made_reply, made_status, made_threads, told_body, told_counts, told_going, told_integer, told_names, told_pair, told_place, told_reply, told_rows, told_sample, told_shown, told_values, told_variables}
 use Rattle.req_json.proofs.ReadBack.{replies_read_back}
 
 -- ---- values

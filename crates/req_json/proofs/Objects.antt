@@ -1,12 +1,12 @@
 -- Members that are kept as texts are those of the object that is written.
-use Rattle.std.proofs.Common.{◌≡◌, ℕ, List, [], ◌∷◌, ◌++◌, map, Bool, true, false, String, Global, string_bytes, string_cmp, nat_cmp, Ordering, Less, Equal, Greater, refl, sym, ap, ◌∙◌}
+use Rattle.std.proofs.Common.{◌≡◌, ℕ, List, [], ◌∷◌, ◌++◌, Bool, true, false, String, Global, string_bytes, string_cmp, nat_cmp, Ordering, Less, Equal, Greater, refl, ap, ◌∙◌}
 use Rattle.std.specs.Ordering.{match_ordering}
 use Rattle.std.specs.BTreeMap.{insert_entry}
 use Rattle.std.specs.Cmp.Lexicographic.{slice_cmp}
 use Rattle.json.specs.Print.{quoted}
-use Rattle.serde_json.specs.Data.{Data, Members, member, no_members, object, put}
+use Rattle.serde_json.specs.Data.{Data, Members, member, no_members, object}
 use Rattle.serde_json.specs.Written.{comma_if, compact_text, members_text}
-use Rattle.req_json.specs.Objects.{MemberTexts, member_texts, object_text, pairs_text, put_text, text_in, texts_in, with_member}
+use Rattle.req_json.specs.Objects.{member_texts, object_text, pairs_text, put_text, text_in, texts_in, with_member}
 
 abbrev Entry : Type 0
 Entry = String Global × List ℕ

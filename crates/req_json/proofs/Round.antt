@@ -1,6 +1,6 @@
 -- The text of an object is read back where each of its members is.
-use Rattle.std.proofs.Common.{◌≡◌, ℕ, suc, ◌≤◌, ◌<◌, ◌+◌, ◌/◌, ◌%◌, ◌^◌, ◌++◌, ◌∷◌, [], zero, ℤ, pos, negsuc, List, map, get_or, true, Ordering, Less, Equal, Greater, nat_cmp, Some, IsUtf8, refl, ap, ◌∙◌, arith, decimal}
-use Rattle.std.specs.Prelude.{⊤, nat_abs}
+use Rattle.std.proofs.Common.{◌≡◌, ℕ, suc, ◌≤◌, ◌<◌, ◌+◌, ◌/◌, ◌%◌, ◌∷◌, [], zero, List, get_or, true, Ordering, Less, Equal, Greater, nat_cmp, Some, IsUtf8, refl, ap, ◌∙◌, arith}
+use Rattle.std.specs.Prelude.{⊤}
 use Rattle.std.specs.Ordering.{match_ordering}
 use Rattle.std.specs.Cmp.Lexicographic.{slice_cmp}
 use Rattle.std.specs.List.{AllByRecursion}
@@ -12,9 +12,9 @@ use Rattle.bv_core.specs.Text.{hex_digit, hex_digits, shown}
 use Rattle.serde_json.specs.Data.{Data, Members, member, no_members, object, put, string}
 use Rattle.serde_json.specs.Read.{of_members}
 use Rattle.serde_json.specs.Written.{compact_text, members_outline}
-use Rattle.symtab_json.specs.Files.{count_json, list_json}
+use Rattle.symtab_json.specs.Files.{list_json}
 use Rattle.symtab_json.specs.Told.{json_of}
-use Rattle.symtab_json.proofs.Rounds.{Round, json_back, member_back, round_count, round_end, round_list, round_member, round_object, round_string}
+use Rattle.symtab_json.proofs.Rounds.{Round, json_back, member_back, round_end, round_list, round_member, round_object, round_string}
 use Rattle.req_json.specs.Objects.{one_member, two_members, with_member}
 
 -- every member is read back

@@ -1,5 +1,5 @@
 -- What a client reads from a reply: from the text the JSON value, and from that what was answered. None is for a value that no reply is.
-use Rattle.std.specs.Prelude.{◌≡◌, ℕ, ◌==◌, ℤ, List, [], is_some, codes, bytes_eq, Option, Some, None, option_map, option_and_then, if◌then◌else◌}
+use Rattle.std.specs.Prelude.{◌≡◌, ℕ, ◌==◌, ℤ, List, is_some, codes, bytes_eq, Option, Some, None, option_map, option_and_then, if◌then◌else◌}
 use Rattle.std.specs.Option.{option_or}
 use Rattle.bv_core.specs.declared.reference.Sample.{Sample}
 use Rattle.bv_core.specs.declared.reference.Sample.TheVariants as sample

@@ -1,5 +1,5 @@
 -- What is written of a reply or a notice is read back by any reader of JSON.
-use Rattle.std.specs.Prelude.{◌≡◌, ℕ, ℤ, ◌<◌, ◌^◌, List, Option, Some, IfSome, IsUtf8, ⊤}
+use Rattle.std.specs.Prelude.{◌≡◌, ℕ, ℤ, ◌<◌, ◌^◌, List, Some, IfSome, IsUtf8, ⊤}
 use Rattle.std.specs.Int.Signed.{mag}
 use Rattle.std.specs.List.{AllByRecursion}
 use Rattle.bv_core.specs.Value.{IsBits}
