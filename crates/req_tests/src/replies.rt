@@ -277,9 +277,41 @@ fn lists_are_accepted(rt: HostRuntime) -> Result<(), Fail> {
     Ok(())
 }
 
-/// A refusal that keeps a text.
-fn refused(alloc: Global, text: &[u8], body: impl FnOnce(Text) -> Body) -> Result<Body, NoMemory> {
-    Ok(body(name(alloc, text)?))
+/// A field that is wrong.
+fn bad_shape(alloc: Global, field: &[u8]) -> Result<Body, NoMemory> {
+    Ok(Body::BadShape {
+        field: name(alloc, field)?,
+    })
+}
+
+/// A path that no instance has.
+fn no_instance(alloc: Global, path: &[u8]) -> Result<Body, NoMemory> {
+    Ok(Body::NoInstance {
+        instance: name(alloc, path)?,
+    })
+}
+
+/// A name that is not in scope.
+fn not_in_scope(alloc: Global, text: &[u8]) -> Result<Body, NoMemory> {
+    Ok(Body::BadCondName {
+        name: name(alloc, text)?,
+    })
+}
+
+/// A name of which nothing was kept.
+fn removed(alloc: Global, text: &[u8], slot: u32) -> Result<Body, NoMemory> {
+    Ok(Body::CondRemoved {
+        name: name(alloc, text)?,
+        slot,
+    })
+}
+
+/// A name that is not assigned.
+fn unset(alloc: Global, text: &[u8], slot: u32) -> Result<Body, NoMemory> {
+    Ok(Body::CondUnset {
+        name: name(alloc, text)?,
+        slot,
+    })
 }
 
 #[test]
@@ -396,7 +428,7 @@ fn what_keeps_a_text_is_refused(rt: HostRuntime) -> Result<(), Fail> {
             a,
             2,
             Some(5),
-            refused(a, b"cmd", |field| Body::BadShape { field }),
+            bad_shape(a, b"cmd"),
             "{\"code\":3,\"error\":\"BadShape\",\"field\":\"cmd\",\"id\":5,\"ok\":false,\"seq\":2}"
         )
     );
@@ -405,7 +437,7 @@ fn what_keeps_a_text_is_refused(rt: HostRuntime) -> Result<(), Fail> {
             a,
             2,
             None,
-            refused(a, b"", |field| Body::BadShape { field }),
+            bad_shape(a, b""),
             "{\"code\":3,\"error\":\"BadShape\",\"field\":\"\",\"ok\":false,\"seq\":2}"
         )
     );
@@ -414,7 +446,7 @@ fn what_keeps_a_text_is_refused(rt: HostRuntime) -> Result<(), Fail> {
             a,
             5,
             None,
-            refused(a, b"B.x", |instance| Body::NoInstance { instance }),
+            no_instance(a, b"B.x"),
             "{\"code\":6,\"error\":\"NoInstance\",\"instance\":\"B.x\",\"ok\":false,\"seq\":5}"
         )
     );
@@ -423,7 +455,7 @@ fn what_keeps_a_text_is_refused(rt: HostRuntime) -> Result<(), Fail> {
             a,
             6,
             None,
-            refused(a, b"u", |name| Body::CondRemoved { name, slot: 5 }),
+            removed(a, b"u", 5),
             "{\"code\":8,\"error\":\"CondRemoved\",\"name\":\"u\",\"ok\":false,\"seq\":6,\"slot\":5}"
         )
     );
@@ -432,7 +464,7 @@ fn what_keeps_a_text_is_refused(rt: HostRuntime) -> Result<(), Fail> {
             a,
             7,
             None,
-            refused(a, b"u", |name| Body::CondUnset { name, slot: 3 }),
+            unset(a, b"u", 3),
             "{\"code\":9,\"error\":\"CondUnset\",\"name\":\"u\",\"ok\":false,\"seq\":7,\"slot\":3}"
         )
     );
@@ -441,7 +473,7 @@ fn what_keeps_a_text_is_refused(rt: HostRuntime) -> Result<(), Fail> {
             a,
             8,
             None,
-            refused(a, b"zz", |name| Body::BadCondName { name }),
+            not_in_scope(a, b"zz"),
             "{\"code\":7,\"error\":\"BadCond\",\"name\":\"zz\",\"ok\":false,\"seq\":8}"
         )
     );
@@ -451,11 +483,7 @@ fn what_keeps_a_text_is_refused(rt: HostRuntime) -> Result<(), Fail> {
             a,
             8,
             None,
-            refused(
-                a,
-                b"\"\\/\x08\x0c\n\r\t\x01\x1f\x7f\xc3\xa9",
-                |name| Body::BadCondName { name }
-            ),
+            not_in_scope(a, b"\"\\/\x08\x0c\n\r\t\x01\x1f\x7f\xc3\xa9"),
             "{\"code\":7,\"error\":\"BadCond\",\"name\":\"\\\"\\\\/\\b\\f\\n\\r\\t\\u0001\\u001f\x7f\u{e9}\",\"ok\":false,\"seq\":8}"
         )
     );

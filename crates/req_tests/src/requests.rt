@@ -248,7 +248,7 @@ fn each_text_is_read(rt: HostRuntime) -> Result<(), Fail> {
 fn filled(alloc: Global, len: usize) -> Result<Vec<u8>, NoMemory> {
     let mut text = Vec::new(alloc);
     text.extend_from_slice(b"{\"cmd\":\"bye\"}")?;
-    while text.len() < len {
+    for _ in text.len()..len {
         text.push(b' ')?;
     }
     Ok(text)
