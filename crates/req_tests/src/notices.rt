@@ -54,9 +54,30 @@ fn rows(alloc: Global, k: u32, all: &[(u64, u64)]) -> Result<Notice, NoMemory> {
     })
 }
 
+static NOTICES: [&str; 6] = [
+    "{\"cycle\":2,\"gens\":[],\"line\":12,\"notice\":\"stopped\",\"slot\":3,\"threads\":[\"A\"]}",
+    "{\"cycle\":2,\"gens\":[[\"W\",-4611686018427387904]],\"line\":8,\"notice\":\"stopped\",\"slot\":5,\"threads\":[\"C.u#0\",\"C.u#1\"]}",
+    "{\"notice\":\"ended\"}",
+    "{\"notice\":\"start\"}",
+    "{\"k\":0,\"notice\":\"rows\",\"rows\":[[18,4],[39,1]]}",
+    "{\"k\":1,\"notice\":\"rows\",\"rows\":[]}",
+];
+
+/// A notice, by the place of its text.
+fn notice(alloc: Global, case: usize) -> Result<Notice, NoMemory> {
+    match case {
+        0 => stopped_plainly(alloc),
+        1 => stopped(alloc, -4611686018427387904),
+        2 => Ok(Notice::Ended),
+        3 => Ok(Notice::Start),
+        4 => rows(alloc, 0, &[(18, 4), (39, 1)]),
+        _ => rows(alloc, 1, &[]),
+    }
+}
+
 /// Whether the text of a notice is this one.
-fn is_written(alloc: Global, notice: Result<Notice, NoMemory>, text: &str) -> bool {
-    let Ok(notice) = notice else {
+fn is_written(alloc: Global, case: usize, text: &str) -> bool {
+    let Ok(notice) = notice(alloc, case) else {
         return false;
     };
     match notice_text(alloc, &notice) {
@@ -67,36 +88,8 @@ fn is_written(alloc: Global, notice: Result<Notice, NoMemory>, text: &str) -> bo
 
 #[test]
 fn each_notice_is_written(rt: HostRuntime) -> Result<(), Fail> {
-    let a = rt.alloc();
-    assert!(rt;
-        is_written(
-            a,
-            stopped_plainly(a),
-            "{\"cycle\":2,\"gens\":[],\"line\":12,\"notice\":\"stopped\",\"slot\":3,\"threads\":[\"A\"]}"
-        )
-    );
-    assert!(rt;
-        is_written(
-            a,
-            stopped(a, -4611686018427387904),
-            "{\"cycle\":2,\"gens\":[[\"W\",-4611686018427387904]],\"line\":8,\"notice\":\"stopped\",\"slot\":5,\"threads\":[\"C.u#0\",\"C.u#1\"]}"
-        )
-    );
-    assert!(rt; is_written(a, Ok(Notice::Ended), "{\"notice\":\"ended\"}"));
-    assert!(rt; is_written(a, Ok(Notice::Start), "{\"notice\":\"start\"}"));
-    assert!(rt;
-        is_written(
-            a,
-            rows(a, 0, &[(18, 4), (39, 1)]),
-            "{\"k\":0,\"notice\":\"rows\",\"rows\":[[18,4],[39,1]]}"
-        )
-    );
-    assert!(rt;
-        is_written(
-            a,
-            rows(a, 1, &[]),
-            "{\"k\":1,\"notice\":\"rows\",\"rows\":[]}"
-        )
-    );
+    for (case, text) in NOTICES.iter().enumerate() {
+        assert!(rt; is_written(rt.alloc(), case, *text));
+    }
     Ok(())
 }
