@@ -26,7 +26,7 @@ use Rattle.symtab_json.proofs.Shown.{literal_back}
 use Rattle.req_json.specs.Objects.{with_member}
 use Rattle.req_json.specs.Values.{at_json, counts_json, gens_json, going_json, named_json, names_json, row_pair_json, rows_json, sample_json, shown_json, values_json, variable_json}
 use Rattle.req_json.specs.Replies.{body_members, reply_json, with_id}
-use Rattle.req_json.specs.ReadBack.{AreVariables, BodyIsText, IsNamedValue, IsSampleValue, IsShownValue, IsVariable, ReplyIsText}
+use Rattle.req_json.specs.ReadBack.{VariablesFit, BodyIsText, IsNamedValue, IsSampleValue, IsShownValue, VariableFits, ReplyIsText}
 use Rattle.req_json.specs.Fields.{optional}
 use Rattle.req_json.specs.Client.{RepliesAreTold, TextsTellApart, heard_body, heard_reply, if_word, made_break, made_reply, made_status, made_threads, told_body, told_counts, told_going, told_integer, told_names, told_pair, told_place, told_reply, told_rows, told_sample, told_shown, told_values, told_variables}
 use Rattle.req_json.proofs.ReadBack.{replies_read_back}
@@ -43,11 +43,11 @@ integer_told : (z : ℤ) → mag z < 2 ^ 63 → as_i64 (of_integer z) ≡ Some z
 integer_told (pos n) h = ap (λ b. cond b (Some (pos n)) None) (lt-ltb n 9223372036854775808 h)
 integer_told (negsuc n) h = refl
 
-variable_told : (v : List ℕ × ℤ) → IsVariable v → told_pair as_str told_integer (variable_json v) ≡ Some v
+variable_told : (v : List ℕ × ℤ) → VariableFits v → told_pair as_str told_integer (variable_json v) ≡ Some v
 variable_told v h = ap (two_found (Some v.0)) (integer_told v.1 h.1)
 
-gens_told : (gens : List (List ℕ × ℤ)) → AreVariables gens → told_variables (gens_json gens) ≡ Some gens
-gens_told gens h = list_same (told_pair as_str told_integer) variable_json gens (every IsVariable (λ v. told_pair as_str told_integer (variable_json v) ≡ Some v) variable_told gens h)
+gens_told : (gens : List (List ℕ × ℤ)) → VariablesFit gens → told_variables (gens_json gens) ≡ Some gens
+gens_told gens h = list_same (told_pair as_str told_integer) variable_json gens (every VariableFits (λ v. told_pair as_str told_integer (variable_json v) ≡ Some v) variable_told gens h)
 
 rows_told : (rows : List (ℕ × ℕ)) → told_rows (rows_json rows) ≡ Some rows
 rows_told rows = list_same (told_pair told_count told_count) row_pair_json rows (each (λ row. told_pair told_count told_count (row_pair_json row) ≡ Some row) (λ row. refl) rows)
@@ -81,7 +81,7 @@ place_told at.Start = refl
 place_told at.End = refl
 place_told (at.Position cycle slot) = refl
 
-threads_told : (a : At) (gens : List (List ℕ × ℤ)) (line : ℕ) (threads : List (List ℕ)) → AreVariables gens →
+threads_told : (a : At) (gens : List (List ℕ × ℤ)) (line : ℕ) (threads : List (List ℕ)) → VariablesFit gens →
     made_threads (told_place (at_json a)) (told_variables (gens_json gens)) (Some line) (told_names (names_json threads)) ≡ Some (body.Threads a gens line threads)
 threads_told a gens line threads h =
     ap (λ p. made_threads p (told_variables (gens_json gens)) (Some line) (told_names (names_json threads))) (place_told a)

@@ -10,8 +10,8 @@ use Rattle.req_json.specs.declared.cmd_kind.CmdKind.{CmdKind}
 use Rattle.req_json.specs.declared.field.FieldName.{FieldName}
 use Rattle.req_json.specs.declared.field.FieldName.TheVariants as field
 use Rattle.req_json.specs.Commands.{cmd_kind_of}
-use Rattle.req_json.specs.Fields.{under, optional, text_in}
-use Rattle.req_json.specs.Asked.{IsAsked, asked_cmd, asked_kind, asked_word, asked_id, asked_tree, bad_shape, cmd_in, unknown_cmd}
+use Rattle.req_json.specs.Fields.{under, optional, required_text}
+use Rattle.req_json.specs.Asked.{IsAsked, asked_cmd, asked_kind, asked_word, asked_with_id, asked_tree, bad_shape, cmd_in, unknown_cmd}
 
 shape_kept : (id : Option ℕ) (f : FieldName) → IsAsked (bad_shape id f)
 shape_kept id f = record { least = omega arith; most = omega arith; named = refl }
@@ -31,14 +31,14 @@ word_kept : (id : Option ℕ) (d : Data) (word : Result (List ℕ) FieldName) �
 word_kept id d (Err f) = shape_kept id f
 word_kept id d (Ok word) = kind_kept id d (cmd_kind_of word)
 
-id_kept : (d : Data) (id : Option (Option ℕ)) → IsAsked (asked_id d id)
+id_kept : (d : Data) (id : Option (Option ℕ)) → IsAsked (asked_with_id d id)
 id_kept d None = shape_kept None field.Id
-id_kept d (Some id) = word_kept id d (text_in field.Cmd d)
+id_kept d (Some id) = word_kept id d (required_text field.Cmd d)
 
 tree_kept : (d : Data) → IsAsked (asked_tree d)
 tree_kept d = at (is_some (as_object d))
   where
-    at : (b : Bool) → IsAsked (cond b (asked_id d (optional told_count (under field.Id d))) (bad_shape None field.Whole))
+    at : (b : Bool) → IsAsked (cond b (asked_with_id d (optional told_count (under field.Id d))) (bad_shape None field.Whole))
     at true = id_kept d (optional told_count (under field.Id d))
     at false = shape_kept None field.Whole
 

@@ -19,9 +19,9 @@ use Rattle.symtab_json.specs.Files.{count_json}
 use Rattle.symtab_json.proofs.Rounds.{Round, round_count, round_integer, round_pair, round_string}
 use Rattle.req_json.specs.Objects.{two_members, with_member}
 use Rattle.req_json.specs.Values.{at_json, counts_json, gens_json, going_json, named_json, names_json, position_members, row_pair_json, rows_json, sample_json, shown_json, values_json, variable_json}
-use Rattle.req_json.specs.Replies.{body_members, marked, own_members, refusal_of, reply_members, with_id}
+use Rattle.req_json.specs.Replies.{body_members, with_mark, own_members, body_refusal, reply_members, with_id}
 use Rattle.req_json.specs.Notices.{notice_members, notice_word, told_members}
-use Rattle.req_json.specs.ReadBack.{AreCounts, AreNames, AreRowPairs, AreVariables, BodyIsText, IsCount, IsNamedValue, IsPlace, IsRowPair, IsSampleValue, IsShownValue, IsVariable, NoticeIsText, NoticesReadBack, RepliesReadBack, ReplyIsText}
+use Rattle.req_json.specs.ReadBack.{AreCounts, AreNames, RowPairsFit, VariablesFit, BodyIsText, IsCount, IsNamedValue, AtFits, RowPairFits, IsSampleValue, IsShownValue, VariableFits, NoticeIsText, NoticesReadBack, RepliesReadBack, ReplyIsText}
 use Rattle.req_json.proofs.Round.{AllRound, all_one, all_two, all_with, bits_round, each_round, object_round, put_all, text_back, word_round}
 
 -- ---- values
@@ -32,17 +32,17 @@ counts_round ns h = each_round 2 IsCount count_json (round_count 2) ns h
 names_round : (names : List (List ℕ)) → AreNames names → Round 3 (names_json names)
 names_round names h = each_round 2 IsUtf8 string (round_string 2) names h
 
-variable_round : (v : List ℕ × ℤ) → IsVariable v → Round 2 (variable_json v)
+variable_round : (v : List ℕ × ℤ) → VariableFits v → Round 2 (variable_json v)
 variable_round v h = round_pair 1 (string v.0) _ (round_string 1 v.0 h.0) (round_integer 1 v.1 h.1)
 
-gens_round : (gens : List (List ℕ × ℤ)) → AreVariables gens → Round 3 (gens_json gens)
-gens_round gens h = each_round 2 IsVariable variable_json variable_round gens h
+gens_round : (gens : List (List ℕ × ℤ)) → VariablesFit gens → Round 3 (gens_json gens)
+gens_round gens h = each_round 2 VariableFits variable_json variable_round gens h
 
-row_round : (row : ℕ × ℕ) → IsRowPair row → Round 2 (row_pair_json row)
+row_round : (row : ℕ × ℕ) → RowPairFits row → Round 2 (row_pair_json row)
 row_round row h = round_pair 1 (count_json row.0) (count_json row.1) (round_count 1 row.0 h.0) (round_count 1 row.1 h.1)
 
-rows_round : (rows : List (ℕ × ℕ)) → AreRowPairs rows → Round 3 (rows_json rows)
-rows_round rows h = each_round 2 IsRowPair row_pair_json row_round rows h
+rows_round : (rows : List (ℕ × ℕ)) → RowPairsFit rows → Round 3 (rows_json rows)
+rows_round rows h = each_round 2 RowPairFits row_pair_json row_round rows h
 
 shown_round : (n : ℕ) (s : Shown) → IsShownValue s → Round n (shown_json s)
 shown_round n (shows.Value bits) h = bits_round n bits h
@@ -66,7 +66,7 @@ position_again : (cycle slot : ℕ) → put_all (position_members cycle slot) no
 unfolding with_member
 position_again cycle slot = refl
 
-at_round : (a : At) → IsPlace a → Round 3 (at_json a)
+at_round : (a : At) → AtFits a → Round 3 (at_json a)
 at_round at.Start h = word_round 3 (codes "start") refl
 at_round at.End h = word_round 3 (codes "end") refl
 at_round (at.Position cycle slot) h =
@@ -122,7 +122,7 @@ own_round (body.NoListener k) h = all_one 3 (codes "k") (count_json k) refl (rou
 abbrev RefusalIsText : Option (ℕ × List ℕ) → Type 0
 RefusalIsText refusal = IfSome refusal (λ r. (r.0 < 16) × (are_ascii r.1 ≡ true))
 
-refusal_text : (b : Body) → RefusalIsText (refusal_of b)
+refusal_text : (b : Body) → RefusalIsText (body_refusal b)
 refusal_text (body.Break bp slots) = tt
 refusal_text body.Delete = tt
 refusal_text body.Continue = tt
@@ -153,7 +153,7 @@ refusal_text (body.TooMany limit) = (omega arith, refl)
 refusal_text (body.NoBreakpoint bp) = (omega arith, refl)
 refusal_text (body.NoListener k) = (omega arith, refl)
 
-marked_round : (refusal : Option (ℕ × List ℕ)) (ms : Members) → RefusalIsText refusal → AllRound 3 ms → AllRound 3 (marked refusal ms)
+marked_round : (refusal : Option (ℕ × List ℕ)) (ms : Members) → RefusalIsText refusal → AllRound 3 ms → AllRound 3 (with_mark refusal ms)
 marked_round None ms r h = all_with 3 (codes "ok") (boolean true) ms refl (boolean_round true) h
 marked_round (Some refusal) ms r h =
     let coded = with_member (codes "code") (count_json refusal.0) ms in
@@ -169,7 +169,7 @@ id_round (Some id) ms i h = all_with 3 (codes "id") (count_json id) ms refl (rou
 reply_round : (r : Reply) → ReplyIsText r → AllRound 3 (reply_members r)
 reply_round r h =
     all_with 3 (codes "seq") (count_json r.seq) (with_id r.id (body_members r.body)) refl (round_count 3 r.seq h.seq)
-    (id_round r.id (body_members r.body) h.id (marked_round (refusal_of r.body) (own_members r.body) (refusal_text r.body) (own_round r.body h.body)))
+    (id_round r.id (body_members r.body) h.id (marked_round (body_refusal r.body) (own_members r.body) (refusal_text r.body) (own_round r.body h.body)))
 
 -- ---- the keys of a reply stand in order already
 

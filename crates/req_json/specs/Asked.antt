@@ -13,46 +13,46 @@ use Rattle.req_json.specs.declared.cmd_kind.CmdKind.TheVariants as kind
 use Rattle.req_json.specs.declared.field.FieldName.{FieldName}
 use Rattle.req_json.specs.declared.field.FieldName.TheVariants as field
 use Rattle.req_json.specs.Commands.{cmd_kind_of}
-use Rattle.req_json.specs.Fields.{field_text, under, optional, whole_in, text_in, optional_text}
+use Rattle.req_json.specs.Fields.{field_key, under, optional, required_count, required_text, optional_text}
 
 -- a field, and what goes on with it; a wrong field ends all
-abbrev pub given : {A B : Type 0} → Result A FieldName → (A → Result B FieldName) → Result B FieldName
-given (Err f) rest = Err f
-given (Ok x) rest = rest x
+abbrev pub with_field : {A B : Type 0} → Result A FieldName → (A → Result B FieldName) → Result B FieldName
+with_field (Err f) rest = Err f
+with_field (Ok x) rest = rest x
 
 -- the table of commands: of each its fields in their order
 abbrev pub cmd_in : CmdKind → Data → Result Cmd FieldName
 cmd_in kind.Break d =
-    given (whole_in field.Line d) (λ line. given (optional_text field.Instance d) (λ instance. given (optional_text field.Cond d) (λ cond. Ok (cmd.Break line instance cond))))
-cmd_in kind.Delete d = given (whole_in field.Bp d) (λ bp. Ok (cmd.Delete bp))
+    with_field (required_count field.Line d) (λ line. with_field (optional_text field.Instance d) (λ instance. with_field (optional_text field.Cond d) (λ cond. Ok (cmd.Break line instance cond))))
+cmd_in kind.Delete d = with_field (required_count field.Bp d) (λ bp. Ok (cmd.Delete bp))
 cmd_in kind.Continue d = Ok cmd.Continue
 cmd_in kind.Reverse d = Ok cmd.Reverse
-cmd_in kind.Step d = given (optional_text field.Instance d) (λ instance. Ok (cmd.Step instance))
-cmd_in kind.Back d = given (optional_text field.Instance d) (λ instance. Ok (cmd.Back instance))
+cmd_in kind.Step d = with_field (optional_text field.Instance d) (λ instance. Ok (cmd.Step instance))
+cmd_in kind.Back d = with_field (optional_text field.Instance d) (λ instance. Ok (cmd.Back instance))
 cmd_in kind.Pause d = Ok cmd.Pause
 cmd_in kind.Threads d = Ok cmd.Threads
-cmd_in kind.Values d = given (text_in field.Instance d) (λ instance. Ok (cmd.Values instance))
-cmd_in kind.Eval d = given (text_in field.Instance d) (λ instance. given (text_in field.Expr d) (λ expr. Ok (cmd.Eval instance expr)))
-cmd_in kind.Drop d = given (whole_in field.K d) (λ k. Ok (cmd.Drop k))
+cmd_in kind.Values d = with_field (required_text field.Instance d) (λ instance. Ok (cmd.Values instance))
+cmd_in kind.Eval d = with_field (required_text field.Instance d) (λ instance. with_field (required_text field.Expr d) (λ expr. Ok (cmd.Eval instance expr)))
+cmd_in kind.Drop d = with_field (required_count field.K d) (λ k. Ok (cmd.Drop k))
 cmd_in kind.Status d = Ok cmd.Status
 cmd_in kind.Bye d = Ok cmd.Bye
 
 -- ---- the reasons: the text is too long, is no JSON, has a field that is wrong, has a command that is not known
 
-abbrev pub bad : ℕ → Option ℕ → Option (List ℕ) → Asked
-bad code id field = Bad (record { code = code; id = id; field = field })
+abbrev pub bad_text : ℕ → Option ℕ → Option (List ℕ) → Asked
+bad_text code id field = Bad (record { code = code; id = id; field = field })
 
 abbrev pub too_long : Asked
-too_long = bad 1 None None
+too_long = bad_text 1 None None
 
 abbrev pub not_json : Asked
-not_json = bad 2 None None
+not_json = bad_text 2 None None
 
 abbrev pub bad_shape : Option ℕ → FieldName → Asked
-bad_shape id f = bad 3 id (Some (field_text f))
+bad_shape id f = bad_text 3 id (Some (field_key f))
 
 abbrev pub unknown_cmd : Option ℕ → Asked
-unknown_cmd id = bad 4 id None
+unknown_cmd id = bad_text 4 id None
 
 -- ---- in their order: the whole, id, cmd, whether the command is known, its fields
 
@@ -68,12 +68,12 @@ abbrev pub asked_word : Option ℕ → Data → Result (List ℕ) FieldName → 
 asked_word id d (Err f) = bad_shape id f
 asked_word id d (Ok word) = asked_kind id d (cmd_kind_of word)
 
-abbrev pub asked_id : Data → Option (Option ℕ) → Asked
-asked_id d None = bad_shape None field.Id
-asked_id d (Some id) = asked_word id d (text_in field.Cmd d)
+abbrev pub asked_with_id : Data → Option (Option ℕ) → Asked
+asked_with_id d None = bad_shape None field.Id
+asked_with_id d (Some id) = asked_word id d (required_text field.Cmd d)
 
 abbrev pub asked_tree : Data → Asked
-asked_tree d = if is_some (as_object d) then asked_id d (optional told_count (under field.Id d)) else bad_shape None field.Whole
+asked_tree d = if is_some (as_object d) then asked_with_id d (optional told_count (under field.Id d)) else bad_shape None field.Whole
 
 abbrev pub asked_json : Option Data → Asked
 asked_json None = not_json

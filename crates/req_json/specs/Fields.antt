@@ -9,20 +9,20 @@ use Rattle.req_json.specs.declared.field.FieldFault.{FieldFault}
 use Rattle.req_json.specs.declared.field.FieldFault.TheVariants as fault
 
 -- the key of a field; the whole request has none
-abbrev pub field_text : FieldName → List ℕ
-field_text field.Whole = codes ""
-field_text field.Id = codes "id"
-field_text field.Cmd = codes "cmd"
-field_text field.Line = codes "line"
-field_text field.Instance = codes "instance"
-field_text field.Cond = codes "cond"
-field_text field.Bp = codes "bp"
-field_text field.Expr = codes "expr"
-field_text field.K = codes "k"
+abbrev pub field_key : FieldName → List ℕ
+field_key field.Whole = codes ""
+field_key field.Id = codes "id"
+field_key field.Cmd = codes "cmd"
+field_key field.Line = codes "line"
+field_key field.Instance = codes "instance"
+field_key field.Cond = codes "cond"
+field_key field.Bp = codes "bp"
+field_key field.Expr = codes "expr"
+field_key field.K = codes "k"
 
 -- what stands under the key of a field
 abbrev pub under : FieldName → Data → Option Data
-under f d = get (field_text f) d
+under f d = get (field_key f) d
 
 -- what is told, or that the field is wrong
 abbrev pub unless_wrong : {A : Type 0} → FieldName → Option A → Result A FieldName
@@ -36,11 +36,11 @@ optional told (Some d) = if is_some (as_null d) then Some None else option_map S
 
 -- ---- the kinds: whole numbers from 0 to 2^64-1, and texts, each of which must be there or may be left out
 
-abbrev pub whole_in : FieldName → Data → Result ℕ FieldName
-whole_in f d = unless_wrong f (option_and_then told_count (under f d))
+abbrev pub required_count : FieldName → Data → Result ℕ FieldName
+required_count f d = unless_wrong f (option_and_then told_count (under f d))
 
-abbrev pub text_in : FieldName → Data → Result (List ℕ) FieldName
-text_in f d = unless_wrong f (option_and_then as_str (under f d))
+abbrev pub required_text : FieldName → Data → Result (List ℕ) FieldName
+required_text f d = unless_wrong f (option_and_then as_str (under f d))
 
 abbrev pub optional_text : FieldName → Data → Result (Option (List ℕ)) FieldName
 optional_text f d = unless_wrong f (optional as_str (under f d))

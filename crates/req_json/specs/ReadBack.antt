@@ -30,22 +30,22 @@ abbrev pub AreNames : List (List ℕ) → Type 0
 AreNames names = AllByRecursion IsUtf8 names
 
 -- a name and a number that fits 64 bits with its sign: `mag` is n of n and of -1 - n
-abbrev pub IsVariable : List ℕ × ℤ → Type 0
-IsVariable v = IsUtf8 v.0 × (mag v.1 < 2 ^ 63)
+abbrev pub VariableFits : List ℕ × ℤ → Type 0
+VariableFits v = IsUtf8 v.0 × (mag v.1 < 2 ^ 63)
 
-abbrev pub AreVariables : List (List ℕ × ℤ) → Type 0
-AreVariables gens = AllByRecursion IsVariable gens
+abbrev pub VariablesFit : List (List ℕ × ℤ) → Type 0
+VariablesFit gens = AllByRecursion VariableFits gens
 
-abbrev pub IsRowPair : ℕ × ℕ → Type 0
-IsRowPair row = IsCount row.0 × IsCount row.1
+abbrev pub RowPairFits : ℕ × ℕ → Type 0
+RowPairFits row = IsCount row.0 × IsCount row.1
 
-abbrev pub AreRowPairs : List (ℕ × ℕ) → Type 0
-AreRowPairs rows = AllByRecursion IsRowPair rows
+abbrev pub RowPairsFit : List (ℕ × ℕ) → Type 0
+RowPairsFit rows = AllByRecursion RowPairFits rows
 
-abbrev pub IsPlace : At → Type 0
-IsPlace at.Start = ⊤
-IsPlace at.End = ⊤
-IsPlace (at.Position cycle slot) = IsCount cycle × IsCount slot
+abbrev pub AtFits : At → Type 0
+AtFits at.Start = ⊤
+AtFits at.End = ⊤
+AtFits (at.Position cycle slot) = IsCount cycle × IsCount slot
 
 abbrev pub IsSampleValue : Sample → Type 0
 IsSampleValue (sample.Known bits) = IsBits bits
@@ -69,12 +69,12 @@ BodyIsText body.Continue = ⊤
 BodyIsText body.Reverse = ⊤
 BodyIsText body.Step = ⊤
 BodyIsText body.Back = ⊤
-BodyIsText (body.Pause at) = IsPlace at
-BodyIsText (body.Threads at gens line threads) = (IsPlace at × AreVariables gens) × (IsCount line × AreNames threads)
+BodyIsText (body.Pause at) = AtFits at
+BodyIsText (body.Threads at gens line threads) = (AtFits at × VariablesFit gens) × (IsCount line × AreNames threads)
 BodyIsText (body.Values values) = AllByRecursion IsNamedValue values
 BodyIsText (body.Eval value) = IsSampleValue value
-BodyIsText (body.Drop rows) = AreRowPairs rows
-BodyIsText (body.Status at bps listeners mode) = (IsPlace at × AreCounts bps) × AreCounts listeners
+BodyIsText (body.Drop rows) = RowPairsFit rows
+BodyIsText (body.Status at bps listeners mode) = (AtFits at × AreCounts bps) × AreCounts listeners
 BodyIsText body.Bye = ⊤
 BodyIsText body.TooLong = ⊤
 BodyIsText body.NotJson = ⊤
@@ -88,7 +88,7 @@ BodyIsText (body.CondRemoved name slot) = IsUtf8 name × IsCount slot
 BodyIsText (body.CondUnset name slot) = IsUtf8 name × IsCount slot
 BodyIsText (body.Busy mode) = ⊤
 BodyIsText body.NotRunning = ⊤
-BodyIsText (body.NoStop at) = IsPlace at
+BodyIsText (body.NoStop at) = AtFits at
 BodyIsText (body.TooMany limit) = IsCount limit
 BodyIsText (body.NoBreakpoint bp) = IsCount bp
 BodyIsText (body.NoListener k) = IsCount k
@@ -99,10 +99,10 @@ pub record ReplyIsText (r : Reply) : Type 0 where
   pub body : BodyIsText r.body
 
 abbrev pub NoticeIsText : Notice → Type 0
-NoticeIsText (notice.Stopped note gens paths) = ((IsCount note.cycle × IsCount note.slot) × IsCount note.line) × (AreVariables gens × AreNames paths)
+NoticeIsText (notice.Stopped note gens paths) = ((IsCount note.cycle × IsCount note.slot) × IsCount note.line) × (VariablesFit gens × AreNames paths)
 NoticeIsText notice.Ended = ⊤
 NoticeIsText notice.Start = ⊤
-NoticeIsText (notice.Rows k rows) = IsCount k × AreRowPairs rows
+NoticeIsText (notice.Rows k rows) = IsCount k × RowPairsFit rows
 
 -- ---- what is read back
 

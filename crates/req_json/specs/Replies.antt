@@ -46,46 +46,46 @@ own_members (body.NoListener k) = one_member (codes "k") (count_json k)
 
 -- ---- the code and the name of each refusal; what was accepted has none
 
-abbrev pub refusal_of : Body → Option (ℕ × List ℕ)
-refusal_of (body.Break bp slots) = None
-refusal_of body.Delete = None
-refusal_of body.Continue = None
-refusal_of body.Reverse = None
-refusal_of body.Step = None
-refusal_of body.Back = None
-refusal_of (body.Pause at) = None
-refusal_of (body.Threads at gens line threads) = None
-refusal_of (body.Values values) = None
-refusal_of (body.Eval value) = None
-refusal_of (body.Drop rows) = None
-refusal_of (body.Status at bps listeners mode) = None
-refusal_of body.Bye = None
-refusal_of body.TooLong = Some (1, codes "TooLong")
-refusal_of body.NotJson = Some (2, codes "NotJson")
-refusal_of (body.BadShape field) = Some (3, codes "BadShape")
-refusal_of body.UnknownCmd = Some (4, codes "UnknownCmd")
-refusal_of (body.NoSite line) = Some (5, codes "NoSite")
-refusal_of (body.NoInstance instance) = Some (6, codes "NoInstance")
-refusal_of (body.BadCondAt offset) = Some (7, codes "BadCond")
-refusal_of (body.BadCondName name) = Some (7, codes "BadCond")
-refusal_of (body.CondRemoved name slot) = Some (8, codes "CondRemoved")
-refusal_of (body.CondUnset name slot) = Some (9, codes "CondUnset")
-refusal_of (body.Busy mode) = Some (10, codes "Busy")
-refusal_of body.NotRunning = Some (11, codes "NotRunning")
-refusal_of (body.NoStop at) = Some (12, codes "NoStop")
-refusal_of (body.TooMany limit) = Some (13, codes "TooMany")
-refusal_of (body.NoBreakpoint bp) = Some (14, codes "NoBreakpoint")
-refusal_of (body.NoListener k) = Some (15, codes "NoListener")
+abbrev pub body_refusal : Body → Option (ℕ × List ℕ)
+body_refusal (body.Break bp slots) = None
+body_refusal body.Delete = None
+body_refusal body.Continue = None
+body_refusal body.Reverse = None
+body_refusal body.Step = None
+body_refusal body.Back = None
+body_refusal (body.Pause at) = None
+body_refusal (body.Threads at gens line threads) = None
+body_refusal (body.Values values) = None
+body_refusal (body.Eval value) = None
+body_refusal (body.Drop rows) = None
+body_refusal (body.Status at bps listeners mode) = None
+body_refusal body.Bye = None
+body_refusal body.TooLong = Some (1, codes "TooLong")
+body_refusal body.NotJson = Some (2, codes "NotJson")
+body_refusal (body.BadShape field) = Some (3, codes "BadShape")
+body_refusal body.UnknownCmd = Some (4, codes "UnknownCmd")
+body_refusal (body.NoSite line) = Some (5, codes "NoSite")
+body_refusal (body.NoInstance instance) = Some (6, codes "NoInstance")
+body_refusal (body.BadCondAt offset) = Some (7, codes "BadCond")
+body_refusal (body.BadCondName name) = Some (7, codes "BadCond")
+body_refusal (body.CondRemoved name slot) = Some (8, codes "CondRemoved")
+body_refusal (body.CondUnset name slot) = Some (9, codes "CondUnset")
+body_refusal (body.Busy mode) = Some (10, codes "Busy")
+body_refusal body.NotRunning = Some (11, codes "NotRunning")
+body_refusal (body.NoStop at) = Some (12, codes "NoStop")
+body_refusal (body.TooMany limit) = Some (13, codes "TooMany")
+body_refusal (body.NoBreakpoint bp) = Some (14, codes "NoBreakpoint")
+body_refusal (body.NoListener k) = Some (15, codes "NoListener")
 
 -- ---- what every reply has
 
 -- whether it was accepted; of a refusal its code and its name
-abbrev pub marked : Option (ℕ × List ℕ) → Members → Members
-marked None ms = with_member (codes "ok") (boolean true) ms
-marked (Some refusal) ms = with_member (codes "ok") (boolean false) (with_member (codes "error") (string refusal.1) (with_member (codes "code") (count_json refusal.0) ms))
+abbrev pub with_mark : Option (ℕ × List ℕ) → Members → Members
+with_mark None ms = with_member (codes "ok") (boolean true) ms
+with_mark (Some refusal) ms = with_member (codes "ok") (boolean false) (with_member (codes "error") (string refusal.1) (with_member (codes "code") (count_json refusal.0) ms))
 
 abbrev pub body_members : Body → Members
-body_members b = marked (refusal_of b) (own_members b)
+body_members b = with_mark (body_refusal b) (own_members b)
 
 abbrev pub with_id : Option ℕ → Members → Members
 with_id None ms = ms

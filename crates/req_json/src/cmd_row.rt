@@ -6,7 +6,7 @@ ghost use Rattle.req_json.specs.Fields.{IsWrong};
 ghost use Rattle.req_json.specs.Asked.{cmd_in};
 
 use crate::cmd_kind::CmdKind;
-use crate::field::{FieldFault, FieldName, optional_text, text, whole};
+use crate::field::{FieldFault, FieldName, optional_text, required_count, required_text};
 use machine_core::Cmd;
 use serde_json::Value;
 use std::alloc::Global;
@@ -18,12 +18,12 @@ pub(crate) fn cmd_in(alloc: Global, kind: CmdKind, value: &Value) -> Result<Cmd,
 {
     match kind {
         CmdKind::Break => Ok(Cmd::Break {
-            line: whole(value, FieldName::Line)?,
+            line: required_count(value, FieldName::Line)?,
             instance: optional_text(alloc, value, FieldName::Instance)?,
             cond: optional_text(alloc, value, FieldName::Cond)?,
         }),
         CmdKind::Delete => Ok(Cmd::Delete {
-            bp: whole(value, FieldName::Bp)?,
+            bp: required_count(value, FieldName::Bp)?,
         }),
         CmdKind::Continue => Ok(Cmd::Continue),
         CmdKind::Reverse => Ok(Cmd::Reverse),
@@ -36,14 +36,14 @@ pub(crate) fn cmd_in(alloc: Global, kind: CmdKind, value: &Value) -> Result<Cmd,
         CmdKind::Pause => Ok(Cmd::Pause),
         CmdKind::Threads => Ok(Cmd::Threads),
         CmdKind::Values => Ok(Cmd::Values {
-            instance: text(alloc, value, FieldName::Instance)?,
+            instance: required_text(alloc, value, FieldName::Instance)?,
         }),
         CmdKind::Eval => Ok(Cmd::Eval {
-            instance: text(alloc, value, FieldName::Instance)?,
-            expr: text(alloc, value, FieldName::Expr)?,
+            instance: required_text(alloc, value, FieldName::Instance)?,
+            expr: required_text(alloc, value, FieldName::Expr)?,
         }),
         CmdKind::Drop => Ok(Cmd::Drop {
-            k: whole(value, FieldName::K)?,
+            k: required_count(value, FieldName::K)?,
         }),
         CmdKind::Status => Ok(Cmd::Status),
         CmdKind::Bye => Ok(Cmd::Bye),

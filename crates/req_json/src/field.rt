@@ -5,7 +5,7 @@ ghost use Rattle.serde_json.specs.Find.{get};
 ghost use Rattle.serde_json.specs.View.{view};
 ghost use Rattle.symtab_json.specs.Entries.{told_count};
 ghost use Rattle.req_json.specs.declared.field.FieldFault.TheVariants.{NoMemory};
-ghost use Rattle.req_json.specs.Fields.{field_text, IsWrong, optional, optional_text, text_in, under, whole_in};
+ghost use Rattle.req_json.specs.Fields.{field_key, IsWrong, optional, optional_text, required_text, under, required_count};
 
 use machine_core::Utf8;
 use serde_json::Value;
@@ -28,7 +28,7 @@ pub enum FieldName {
 impl FieldName {
     /// Its key; no text for the whole.
     pub(crate) fn text(self) -> &'static str
-        ensures { result.now ≡ field_text self }
+        ensures { result.now ≡ field_key self }
     {
         match self {
             FieldName::Whole => "",
@@ -61,9 +61,9 @@ impl From<AllocError> for FieldFault {
 }
 
 /// A whole number that must be there.
-pub(crate) fn whole(value: &Value, field: FieldName) -> Result<u64, FieldFault>
-    ensures ok { IfOk result (λ number. whole_in field (view value.now) ≡ Ok number) }
-    ensures err { IfErr result (IsWrong (whole_in field (view value.now))) }
+pub(crate) fn required_count(value: &Value, field: FieldName) -> Result<u64, FieldFault>
+    ensures ok { IfOk result (λ number. required_count field (view value.now) ≡ Ok number) }
+    ensures err { IfErr result (IsWrong (required_count field (view value.now))) }
 {
     value
         .get(field.text())
@@ -88,9 +88,13 @@ pub(crate) fn optional_whole(value: &Value, field: FieldName) -> Option<Option<u
 }
 
 /// A text that must be there.
-pub(crate) fn text(alloc: Global, value: &Value, field: FieldName) -> Result<Utf8, FieldFault>
-    ensures ok { IfOk result (λ text. text_in field (view value.now) ≡ Ok text) }
-    ensures err { IfErr result (IsWrong (text_in field (view value.now))) }
+pub(crate) fn required_text(
+    alloc: Global,
+    value: &Value,
+    field: FieldName,
+) -> Result<Utf8, FieldFault>
+    ensures ok { IfOk result (λ text. required_text field (view value.now) ≡ Ok text) }
+    ensures err { IfErr result (IsWrong (required_text field (view value.now))) }
 {
     match value.get(field.text()).and_then(Value::as_str) {
         Some(found) => Ok(Utf8::new(String::from_str(alloc, found)?)),

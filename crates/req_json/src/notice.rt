@@ -5,7 +5,7 @@ ghost use Rattle.machine_core.specs.declared.turn.Notice.TheVariants.{Rows, Stop
 ghost use Rattle.req_json.specs.Objects.{member_texts};
 ghost use Rattle.req_json.specs.Notices.{notice_members, notice_text, notice_word, told_members};
 
-use crate::object::{Object, two};
+use crate::object::{Object, object_of_two};
 use listen::StopNote;
 use machine_core::Notice;
 use std::alloc::Global;
@@ -33,7 +33,7 @@ fn stop_members(
 ) -> Result<Object, NoMemory>
     ensures { IfOk result (λ object. object ≡ member_texts (told_members (Stopped note gens.now paths.now))) }
 {
-    let mut object = two(alloc, "cycle", &note.cycle, "slot", &note.slot)?;
+    let mut object = object_of_two(alloc, "cycle", &note.cycle, "slot", &note.slot)?;
     object.put(alloc, "line", &note.line)?;
     object.put(alloc, "gens", gens)?;
     object.put(alloc, "threads", paths)?;
@@ -45,7 +45,7 @@ fn stop_members(
 fn rows_members(alloc: Global, k: u32, rows: &Listed<(u64, u64)>) -> Result<Object, NoMemory>
     ensures { IfOk result (λ object. object ≡ member_texts (told_members (Rows k rows.now))) }
 {
-    two(alloc, "k", &k, "rows", rows)
+    object_of_two(alloc, "k", &k, "rows", rows)
 }
 
 /// What each notice has of its own.

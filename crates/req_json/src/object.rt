@@ -104,7 +104,11 @@ impl Object {
 }
 
 /// An object of one member.
-pub(crate) fn one<T: Compact>(alloc: Global, key: &str, value: &T) -> Result<Object, NoMemory>
+pub(crate) fn object_of_one<T: Compact>(
+    alloc: Global,
+    key: &str,
+    value: &T,
+) -> Result<Object, NoMemory>
     ensures { IfOk result (λ object. object ≡ put_text key.now (compact_text (T.tree value.now)) []) }
 {
     let mut object = Object::new(alloc);
@@ -113,7 +117,7 @@ pub(crate) fn one<T: Compact>(alloc: Global, key: &str, value: &T) -> Result<Obj
 }
 
 /// An object of two members.
-pub(crate) fn two<A: Compact, B: Compact>(
+pub(crate) fn object_of_two<A: Compact, B: Compact>(
     alloc: Global,
     key: &str,
     value: &A,

@@ -2,17 +2,17 @@
 
 ghost use Rattle.std.specs.Prelude.{◌≡◌, IfOk, option_map};
 ghost use Rattle.req_json.specs.Objects.{member_texts};
-ghost use Rattle.req_json.specs.Replies.{body_members, own_members, refusal_of, reply_members, reply_text};
+ghost use Rattle.req_json.specs.Replies.{body_members, own_members, body_refusal, reply_members, reply_text};
 ghost use Rattle.machine_core.specs.declared.reply.Body.TheVariants.{Status, Threads};
 
-use crate::object::{Object, one, two};
+use crate::object::{Object, object_of_one, object_of_two};
 use machine_core::{At, Body, Going, Reply};
 use std::alloc::Global;
 use text_core::{Listed, NoMemory, Text};
 
 /// The code and the name of a refusal; None of what was accepted.
-fn refusal_of(body: &Body) -> Option<(u8, &'static str)>
-    ensures { option_map (λ refusal. (refusal.0, refusal.1.now)) result ≡ refusal_of body.now }
+fn body_refusal(body: &Body) -> Option<(u8, &'static str)>
+    ensures { option_map (λ refusal. (refusal.0, refusal.1.now)) result ≡ body_refusal body.now }
 {
     match body {
         Body::TooLong => Some((1, "TooLong")),
@@ -45,7 +45,7 @@ fn threads_members(
 ) -> Result<Object, NoMemory>
     ensures { IfOk result (λ object. object ≡ member_texts (own_members (Threads at gens.now line threads.now))) }
 {
-    let mut object = two(alloc, "at", &at, "gens", gens)?;
+    let mut object = object_of_two(alloc, "at", &at, "gens", gens)?;
     object.put(alloc, "line", &line)?;
     object.put(alloc, "threads", threads)?;
     Ok(object)
@@ -62,7 +62,7 @@ fn status_members(
 ) -> Result<Object, NoMemory>
     ensures { IfOk result (λ object. object ≡ member_texts (own_members (Status at bps.now listeners.now mode))) }
 {
-    let mut object = two(alloc, "at", &at, "bps", bps)?;
+    let mut object = object_of_two(alloc, "at", &at, "bps", bps)?;
     object.put(alloc, "listeners", listeners)?;
     object.put(alloc, "mode", &mode)?;
     Ok(object)
@@ -74,35 +74,35 @@ fn own_members(alloc: Global, body: &Body) -> Result<Object, NoMemory>
     ensures { IfOk result (λ object. object ≡ member_texts (own_members body.now)) }
 {
     match body {
-        Body::Break { bp, slots } => two(alloc, "bp", bp, "slots", slots),
-        Body::Pause { at } | Body::NoStop { at } => one(alloc, "at", at),
+        Body::Break { bp, slots } => object_of_two(alloc, "bp", bp, "slots", slots),
+        Body::Pause { at } | Body::NoStop { at } => object_of_one(alloc, "at", at),
         Body::Threads {
             at,
             gens,
             line,
             threads,
         } => threads_members(alloc, *at, gens, *line, threads),
-        Body::Values { values } => one(alloc, "values", values),
-        Body::Eval { value } => one(alloc, "value", value),
-        Body::Drop { rows } => one(alloc, "rows", rows),
+        Body::Values { values } => object_of_one(alloc, "values", values),
+        Body::Eval { value } => object_of_one(alloc, "value", value),
+        Body::Drop { rows } => object_of_one(alloc, "rows", rows),
         Body::Status {
             at,
             bps,
             listeners,
             mode,
         } => status_members(alloc, *at, bps, listeners, *mode),
-        Body::BadShape { field } => one(alloc, "field", field),
-        Body::NoSite { line } => one(alloc, "line", line),
-        Body::NoInstance { instance } => one(alloc, "instance", instance),
-        Body::BadCondAt { offset } => one(alloc, "offset", offset),
-        Body::BadCondName { name } => one(alloc, "name", name),
+        Body::BadShape { field } => object_of_one(alloc, "field", field),
+        Body::NoSite { line } => object_of_one(alloc, "line", line),
+        Body::NoInstance { instance } => object_of_one(alloc, "instance", instance),
+        Body::BadCondAt { offset } => object_of_one(alloc, "offset", offset),
+        Body::BadCondName { name } => object_of_one(alloc, "name", name),
         Body::CondRemoved { name, slot } | Body::CondUnset { name, slot } => {
-            two(alloc, "name", name, "slot", slot)
+            object_of_two(alloc, "name", name, "slot", slot)
         }
-        Body::Busy { mode } => one(alloc, "mode", mode),
-        Body::TooMany { limit } => one(alloc, "limit", limit),
-        Body::NoBreakpoint { bp } => one(alloc, "bp", bp),
-        Body::NoListener { k } => one(alloc, "k", k),
+        Body::Busy { mode } => object_of_one(alloc, "mode", mode),
+        Body::TooMany { limit } => object_of_one(alloc, "limit", limit),
+        Body::NoBreakpoint { bp } => object_of_one(alloc, "bp", bp),
+        Body::NoListener { k } => object_of_one(alloc, "k", k),
         _ => Ok(Object::new(alloc)),
     }
 }
@@ -113,7 +113,7 @@ fn body_members(alloc: Global, body: &Body) -> Result<Object, NoMemory>
     ensures { IfOk result (λ object. object ≡ member_texts (body_members body.now)) }
 {
     let mut object = own_members(alloc, body)?;
-    match refusal_of(body) {
+    match body_refusal(body) {
         None => {
             object.put(alloc, "ok", &true)?;
             Ok(object)

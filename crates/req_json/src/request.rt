@@ -4,7 +4,7 @@ ghost use Rattle.std.specs.Prelude.{◌≡◌, IfOk, Some, None, option_map};
 ghost use Rattle.serde_json.specs.View.{view};
 ghost use Rattle.symtab_json.specs.Told.{json_of};
 ghost use Rattle.req_json.specs.Commands.{cmd_kind_of};
-ghost use Rattle.req_json.specs.Asked.{IsAsked, asked, asked_kind, asked_tree, bad, bad_shape};
+ghost use Rattle.req_json.specs.Asked.{IsAsked, asked, asked_kind, asked_tree, bad_text, bad_shape};
 
 use crate::cmd_kind::{CmdKind, cmd_kind_of};
 use crate::cmd_row::cmd_in;
@@ -18,8 +18,8 @@ use text_core::NoMemory;
 const MOST_BYTES: usize = 65_536;
 
 /// A text that asks nothing, for a reason that names no field.
-fn bad(code: u8, id: Option<u64>) -> Asked
-    ensures { result ≡ bad code id None }
+fn bad_text(code: u8, id: Option<u64>) -> Asked
+    ensures { result ≡ bad_text code id None }
 {
     Asked::Bad(BadText {
         code,
@@ -62,7 +62,7 @@ fn asked_word(alloc: Global, id: Option<u64>, value: &Value, word: &str) -> Resu
 {
     match cmd_kind_of(word.as_bytes()) {
         Some(kind) => asked_kind(alloc, id, value, kind),
-        None => Ok(bad(4, id)),
+        None => Ok(bad_text(4, id)),
     }
 }
 
@@ -105,10 +105,10 @@ pub fn read_request(alloc: Global, text: &[u8]) -> Result<Asked, NoMemory>
     ensures kept { IfOk result IsAsked }
 {
     if text.len() > MOST_BYTES {
-        return Ok(bad(1, None));
+        return Ok(bad_text(1, None));
     }
     match json_of(alloc, text)? {
         Some(value) => asked_tree(alloc, &value),
-        None => Ok(bad(2, None)),
+        None => Ok(bad_text(2, None)),
     }
 }

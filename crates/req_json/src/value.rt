@@ -15,7 +15,7 @@ ghost use Rattle.symtab_json.specs.Files.{count_json, list_json, pair_json};
 ghost use Rattle.req_json.specs.Values.{at_json, going_json, position_members, sample_json, shown_json};
 ghost use Rattle.req_json.specs.Objects.{member_texts};
 
-use crate::object::{Object, two};
+use crate::object::{Object, object_of_two};
 use crate::quoted::push_quoted;
 use bv_core::{Bv, Sample, text_of};
 use itoa::Buffer;
@@ -200,7 +200,7 @@ impl Compact for At {
 fn position_members(alloc: Global, cycle: u64, slot: u32) -> Result<Object, NoMemory>
     ensures { IfOk result (λ object. object ≡ member_texts (position_members cycle slot)) }
 {
-    two(alloc, "cycle", &cycle, "slot", &slot)
+    object_of_two(alloc, "cycle", &cycle, "slot", &slot)
 }
 
 /// Adds a position.
