@@ -98,8 +98,9 @@ fn json_of(alloc: Global, text: &[u8]) -> Result<Option<Value>, NoMemory>
     }
 }
 
-/// What these bytes ask: a command with its fields, or the first reason why they ask nothing, which is one of four. Fails only
-/// where memory runs out.
+/// What these bytes ask: a command with its fields, or the first reason why they ask nothing. These are, in order: 1, they are more
+/// than 65,536; 2, they are no UTF-8, or no JSON value that nests at most 127 deep; 3, they are no object, or the `id` or the `cmd` is
+/// wrong; 4, the command is not known; 3, another field is wrong. Fails only where memory runs out.
 pub fn read_request(alloc: Global, text: &[u8]) -> Result<Asked, NoMemory>
     ensures asked { IfOk result (λ found. found ≡ asked text.now) }
     ensures kept { IfOk result IsAsked }

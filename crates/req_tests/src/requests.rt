@@ -148,6 +148,31 @@ fn push_optional(text: &mut Vec<u8>, word: &Option<Utf8>) -> Result<(), NoMemory
     }
 }
 
+/// Adds a breakpoint that is to be armed.
+fn push_break(
+    alloc: Global,
+    text: &mut Vec<u8>,
+    line: u64,
+    instance: &Option<Utf8>,
+    cond: &Option<Utf8>,
+) -> Result<(), NoMemory> {
+    push_word(text, b"break")?;
+    push_number(alloc, text, line)?;
+    push_optional(text, instance)?;
+    push_optional(text, cond)
+}
+
+/// Adds a word and a number.
+fn push_numbered(
+    alloc: Global,
+    text: &mut Vec<u8>,
+    word: &[u8],
+    number: u64,
+) -> Result<(), NoMemory> {
+    push_word(text, word)?;
+    push_number(alloc, text, number)
+}
+
 /// Adds a command with its fields.
 fn push_cmd(alloc: Global, text: &mut Vec<u8>, cmd: &Cmd) -> Result<(), NoMemory> {
     match cmd {
@@ -155,16 +180,8 @@ fn push_cmd(alloc: Global, text: &mut Vec<u8>, cmd: &Cmd) -> Result<(), NoMemory
             line,
             instance,
             cond,
-        } => {
-            push_word(text, b"break")?;
-            push_number(alloc, text, *line)?;
-            push_optional(text, instance)?;
-            push_optional(text, cond)
-        }
-        Cmd::Delete { bp } => {
-            push_word(text, b"delete")?;
-            push_number(alloc, text, *bp)
-        }
+        } => push_break(alloc, text, *line, instance, cond),
+        Cmd::Delete { bp } => push_numbered(alloc, text, b"delete", *bp),
         Cmd::Continue => push_word(text, b"continue"),
         Cmd::Reverse => push_word(text, b"reverse"),
         Cmd::Step { instance } => {
@@ -186,10 +203,7 @@ fn push_cmd(alloc: Global, text: &mut Vec<u8>, cmd: &Cmd) -> Result<(), NoMemory
             push_word(text, instance.text().as_bytes())?;
             push_word(text, expr.text().as_bytes())
         }
-        Cmd::Drop { k } => {
-            push_word(text, b"drop")?;
-            push_number(alloc, text, *k)
-        }
+        Cmd::Drop { k } => push_numbered(alloc, text, b"drop", *k),
         Cmd::Status => push_word(text, b"status"),
         Cmd::Bye => push_word(text, b"bye"),
     }
