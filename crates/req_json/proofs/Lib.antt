@@ -3,3 +3,4 @@ pub mod Objects
 pub mod Round
 pub mod ReadBack
 pub mod Client
+pub mod Requests

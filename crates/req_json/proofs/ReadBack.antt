@@ -162,7 +162,7 @@ marked_round (Some refusal) ms r h =
     (all_with 3 (codes "error") (string refusal.1) coded refl (word_round 3 refusal.1 r.1)
     (all_with 3 (codes "code") (count_json refusal.0) ms refl (round_count 3 refusal.0 fits) h))
 
-id_round : (id : Option ℕ) (ms : Members) → IfSome id IsCount → AllRound 3 ms → AllRound 3 (with_id id ms)
+pub id_round : (id : Option ℕ) (ms : Members) → IfSome id IsCount → AllRound 3 ms → AllRound 3 (with_id id ms)
 id_round None ms i h = h
 id_round (Some id) ms i h = all_with 3 (codes "id") (count_json id) ms refl (round_count 3 id i) h
 

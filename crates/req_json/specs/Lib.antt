@@ -7,3 +7,4 @@ pub mod Replies
 pub mod Notices
 pub mod ReadBack
 pub mod Client
+pub mod Requests

@@ -1,7 +1,13 @@
-//! What holds of replies and notices by their definitions alone.
+//! What holds of requests, replies and notices by their definitions alone.
 
 ghost use Rattle.req_json.specs.Client.{RepliesAreTold, TextsTellApart};
 ghost use Rattle.req_json.specs.ReadBack.{NoticesReadBack, RepliesReadBack};
+ghost use Rattle.req_json.specs.Requests.{RequestsAreAsked};
+
+/// A request that a client writes as compact JSON, in at most 65,536 bytes, is what is asked. Computes nothing.
+pub fn requests_are_asked()
+    ensures { RequestsAreAsked }
+{}
 
 /// The text of a reply whose names are UTF-8 is read as the JSON value that the reply is: so every reader of JSON is told, key for
 /// key, what was answered. Computes nothing.

@@ -16,7 +16,9 @@ mod reply;
 mod request;
 mod value;
 
-pub use laws::{notices_read_back, replies_are_told, replies_read_back, texts_tell_apart};
+pub use laws::{
+    notices_read_back, replies_are_told, replies_read_back, requests_are_asked, texts_tell_apart,
+};
 pub use notice::notice_text;
 pub use reply::reply_text;
 pub use request::read_request;
