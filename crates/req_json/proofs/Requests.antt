@@ -1,5 +1,5 @@
 -- A request that a client writes is asked.
-use Rattle.std.proofs.Common.{◌≡◌, ℕ, ◌≤◌, true, false, cond, List, length, nat_lt, codes, Option, Some, None, IfSome, IsUtf8, refl, ap, ◌∙◌, arith}
+use Rattle.std.proofs.Common.{◌≡◌, ℕ, true, false, cond, List, length, nat_lt, codes, Option, Some, None, IfSome, IsUtf8, refl, ap, ◌∙◌, arith}
 use Rattle.std.proofs.lemmas.Bool.Decides.{nat_tests}
 use Rattle.json.proofs.Printed.Utf8.{are_ascii}
 use Rattle.machine_core.specs.declared.request.Asked.TheVariants.{Good}
