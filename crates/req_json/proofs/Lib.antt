@@ -1,0 +1,6 @@
+pub mod Kept
+pub mod Objects
+pub mod Round
+pub mod ReadBack
+pub mod Client
+pub mod Requests

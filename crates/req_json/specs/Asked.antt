@@ -1,0 +1,99 @@
+-- What the bytes of a request ask: a command with its fields, or the first reason why they ask nothing.
+use Rattle.std.specs.Prelude.{◌≡◌, ℕ, ◌≤◌, ◌==◌, List, length, is_some, nat_lt, Option, Some, None, Result, Ok, Err, if◌then◌else◌, ⊤}
+use Rattle.serde_json.specs.Data.{Data}
+use Rattle.serde_json.specs.Find.{as_object}
+use Rattle.symtab_json.specs.Entries.{told_count}
+use Rattle.symtab_json.specs.Told.{json_of}
+use Rattle.machine_core.specs.declared.request.Asked.{Asked}
+use Rattle.machine_core.specs.declared.request.Asked.TheVariants.{Good, Bad}
+use Rattle.machine_core.specs.declared.request.Cmd.{Cmd}
+use Rattle.machine_core.specs.declared.request.Cmd.TheVariants as cmd
+use Rattle.req_json.specs.declared.cmd_kind.CmdKind.{CmdKind}
+use Rattle.req_json.specs.declared.cmd_kind.CmdKind.TheVariants as kind
+use Rattle.req_json.specs.declared.field.FieldName.{FieldName}
+use Rattle.req_json.specs.declared.field.FieldName.TheVariants as field
+use Rattle.req_json.specs.Commands.{cmd_kind_of}
+use Rattle.req_json.specs.Fields.{field_key, under, optional, required_count, required_text, optional_text}
+
+-- a field, and what goes on with it; a wrong field ends all
+abbrev pub with_field : {A B : Type 0} → Result A FieldName → (A → Result B FieldName) → Result B FieldName
+with_field (Err f) rest = Err f
+with_field (Ok x) rest = rest x
+
+-- the table of commands: of each its fields in their order
+abbrev pub cmd_in : CmdKind → Data → Result Cmd FieldName
+cmd_in kind.Break d =
+    with_field (required_count field.Line d) (λ line. with_field (optional_text field.Instance d) (λ instance. with_field (optional_text field.Cond d) (λ cond. Ok (cmd.Break line instance cond))))
+cmd_in kind.Delete d = with_field (required_count field.Bp d) (λ bp. Ok (cmd.Delete bp))
+cmd_in kind.Continue d = Ok cmd.Continue
+cmd_in kind.Reverse d = Ok cmd.Reverse
+cmd_in kind.Step d = with_field (optional_text field.Instance d) (λ instance. Ok (cmd.Step instance))
+cmd_in kind.Back d = with_field (optional_text field.Instance d) (λ instance. Ok (cmd.Back instance))
+cmd_in kind.Pause d = Ok cmd.Pause
+cmd_in kind.Threads d = Ok cmd.Threads
+cmd_in kind.Values d = with_field (required_text field.Instance d) (λ instance. Ok (cmd.Values instance))
+cmd_in kind.Eval d = with_field (required_text field.Instance d) (λ instance. with_field (required_text field.Expr d) (λ expr. Ok (cmd.Eval instance expr)))
+cmd_in kind.Drop d = with_field (required_count field.K d) (λ k. Ok (cmd.Drop k))
+cmd_in kind.Status d = Ok cmd.Status
+cmd_in kind.Bye d = Ok cmd.Bye
+
+-- ---- the reasons: the text is too long, is no JSON, has a field that is wrong, has a command that is not known
+
+abbrev pub bad_text : ℕ → Option ℕ → Option (List ℕ) → Asked
+bad_text code id field = Bad (record { code = code; id = id; field = field })
+
+abbrev pub too_long : Asked
+too_long = bad_text 1 None None
+
+abbrev pub not_json : Asked
+not_json = bad_text 2 None None
+
+abbrev pub bad_shape : Option ℕ → FieldName → Asked
+bad_shape id f = bad_text 3 id (Some (field_key f))
+
+abbrev pub unknown_cmd : Option ℕ → Asked
+unknown_cmd id = bad_text 4 id None
+
+-- ---- in their order: the whole, id, cmd, whether the command is known, its fields
+
+abbrev pub asked_cmd : Option ℕ → Result Cmd FieldName → Asked
+asked_cmd id (Ok c) = Good (record { id = id; cmd = c })
+asked_cmd id (Err f) = bad_shape id f
+
+abbrev pub asked_kind : Option ℕ → Data → Option CmdKind → Asked
+asked_kind id d None = unknown_cmd id
+asked_kind id d (Some k) = asked_cmd id (cmd_in k d)
+
+abbrev pub asked_word : Option ℕ → Data → Result (List ℕ) FieldName → Asked
+asked_word id d (Err f) = bad_shape id f
+asked_word id d (Ok word) = asked_kind id d (cmd_kind_of word)
+
+abbrev pub asked_with_id : Data → Option (Option ℕ) → Asked
+asked_with_id d None = bad_shape None field.Id
+asked_with_id d (Some id) = asked_word id d (required_text field.Cmd d)
+
+abbrev pub asked_tree : Data → Asked
+asked_tree d = if is_some (as_object d) then asked_with_id d (optional told_count (under field.Id d)) else bad_shape None field.Whole
+
+abbrev pub asked_json : Option Data → Asked
+asked_json None = not_json
+asked_json (Some d) = asked_tree d
+
+-- the largest request in bytes
+abbrev pub most_bytes : ℕ
+most_bytes = 65536
+
+-- what bytes ask
+abbrev pub asked : List ℕ → Asked
+asked text = if nat_lt most_bytes (length text) then too_long else asked_json (json_of text)
+
+-- ---- what holds of a text that asks nothing: its code is one of four, and it has a field exactly where that is its reason
+
+pub record IsTextFault (code : ℕ) (field : Option (List ℕ)) : Type 0 where
+  pub least : 1 ≤ code
+  pub most : code ≤ 4
+  pub named : is_some field ≡ (code == 3)
+
+abbrev pub IsAsked : Asked → Type 0
+IsAsked (Good request) = ⊤
+IsAsked (Bad text) = IsTextFault text.code text.field

@@ -1,0 +1,10 @@
+pub mod Commands
+pub mod Fields
+pub mod Asked
+pub mod Objects
+pub mod Values
+pub mod Replies
+pub mod Notices
+pub mod ReadBack
+pub mod Client
+pub mod Requests

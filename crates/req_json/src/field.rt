@@ -1,0 +1,126 @@
+//! The fields of requests, and what each kind of field tells.
+
+ghost use Rattle.std.specs.Prelude.{◌≡◌, Ok, IfOk, IfErr, option_map};
+ghost use Rattle.serde_json.specs.Find.{get};
+ghost use Rattle.serde_json.specs.View.{view};
+ghost use Rattle.symtab_json.specs.Entries.{told_count};
+ghost use Rattle.req_json.specs.declared.field.FieldFault.TheVariants.{NoMemory};
+ghost use Rattle.req_json.specs.Fields.{field_key, IsWrong, optional, optional_text, required_text, under, required_count};
+
+use machine_core::Utf8;
+use serde_json::Value;
+use std::alloc::{AllocError, Global};
+
+/// A field of a request; or the whole of it.
+#[derive(Clone, Copy, PartialEq, Eq)]
+pub enum FieldName {
+    Whole,
+    Id,
+    Cmd,
+    Line,
+    Instance,
+    Cond,
+    Bp,
+    Expr,
+    K,
+}
+
+impl FieldName {
+    /// Its key; no text for the whole.
+    pub(crate) fn text(self) -> &'static str
+        ensures { result.now ≡ field_key self }
+    {
+        match self {
+            FieldName::Whole => "",
+            FieldName::Id => "id",
+            FieldName::Cmd => "cmd",
+            FieldName::Line => "line",
+            FieldName::Instance => "instance",
+            FieldName::Cond => "cond",
+            FieldName::Bp => "bp",
+            FieldName::Expr => "expr",
+            FieldName::K => "k",
+        }
+    }
+}
+
+/// Why a field tells nothing.
+#[derive(Clone, Copy, PartialEq, Eq)]
+pub enum FieldFault {
+    NoMemory,
+    /// It has not its kind or is missing.
+    Wrong(FieldName),
+}
+
+impl From<AllocError> for FieldFault {
+    ghost from_gives = { λ _ fault. fault ≡ NoMemory };
+
+    fn from(_: AllocError) -> Self {
+        FieldFault::NoMemory
+    }
+}
+
+/// A whole number that must be there.
+pub(crate) fn required_count(value: &Value, field: FieldName) -> Result<u64, FieldFault>
+    ensures ok { IfOk result (λ number. required_count field (view value.now) ≡ Ok number) }
+    ensures err { IfErr result (IsWrong (required_count field (view value.now))) }
+{
+    value
+        .get(field.text())
+        .and_then(Value::as_u64)
+        .ok_or(FieldFault::Wrong(field))
+}
+
+/// A whole number that may be left out; None where it is wrong.
+pub(crate) fn optional_whole(value: &Value, field: FieldName) -> Option<Option<u64>>
+    ensures { result ≡ optional told_count (under field (view value.now)) }
+{
+    match value.get(field.text()) {
+        None => Some(None),
+        Some(found) => {
+            if found.is_null() {
+                Some(None)
+            } else {
+                found.as_u64().map(Some)
+            }
+        }
+    }
+}
+
+/// A text that must be there.
+pub(crate) fn required_text(
+    alloc: Global,
+    value: &Value,
+    field: FieldName,
+) -> Result<Utf8, FieldFault>
+    ensures ok { IfOk result (λ text. required_text field (view value.now) ≡ Ok text) }
+    ensures err { IfErr result (IsWrong (required_text field (view value.now))) }
+{
+    match value.get(field.text()).and_then(Value::as_str) {
+        Some(found) => Ok(Utf8::new(String::from_str(alloc, found)?)),
+        None => Err(FieldFault::Wrong(field)),
+    }
+}
+
+/// A text that may be left out.
+pub(crate) fn optional_text(
+    alloc: Global,
+    value: &Value,
+    field: FieldName,
+) -> Result<Option<Utf8>, FieldFault>
+    ensures ok { IfOk result (λ text. optional_text field (view value.now) ≡ Ok text) }
+    ensures err { IfErr result (IsWrong (optional_text field (view value.now))) }
+{
+    match value.get(field.text()) {
+        None => Ok(None),
+        Some(found) => {
+            if found.is_null() {
+                return Ok(None);
+            }
+            match found.as_str() {
+                Some(text) => Ok(Some(Utf8::new(String::from_str(alloc, text)?))),
+                None => Err(FieldFault::Wrong(field)),
+            }
+        }
+    }
+}
