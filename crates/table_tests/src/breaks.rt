@@ -12,7 +12,7 @@ use std::alloc::{AllocError, Global};
 use std::test::Fail;
 use symtab::Table;
 use text_core::NoMemory;
-use trace_core::{FakeTrace, Scanned, Want, Way};
+use trace_core::{FakeTrace, Scanned, Trace, Want, Way};
 use trace_fits::fits;
 
 /// The table of what is told.
@@ -101,10 +101,10 @@ fn breakpoints_are_1024_at_most(rt: HostRuntime) -> Result<(), Fail> {
     Ok(())
 }
 
-/// What is searched for: a condition on line 4 or 9, where none was armed none; from where, in which direction, and for what; and
-/// what is found.
+/// What is searched for: a breakpoint's line and condition; from where, in which direction, and for what; and what is found.
+#[derive(Clone, Copy)]
 struct Search {
-    cond: Option<(u64, &'static [u8])>,
+    armed: (u64, &'static [u8]),
     at: i64,
     way: Way,
     want: Want,
@@ -115,10 +115,9 @@ struct Search {
 fn schedule_of(alloc: Global, table: &Table, search: &Search) -> Option<Schedule>
     ensures { IfSome result (AreOf table.now) }
 {
+    let (line, cond) = search.armed;
     let mut schedule = Schedule::new(alloc);
-    if let Some((line, cond)) = search.cond {
-        schedule.arm(table, line, None, Some(cond)).ok()?;
-    }
+    schedule.arm(table, line, None, Some(cond)).ok()?;
     Some(schedule)
 }
 
@@ -137,42 +136,35 @@ fn finds(alloc: Global, table: &Table, trace: &mut FakeTrace, search: &Search) -
     schedule.scan(table, trace, search.at, search.way, search.want) == search.found
 }
 
-/// The condition that holds at position 4 alone: slot 0 in the cycle in which the byte is known and 9.
-static NINE: Option<(u64, &[u8])> = Some((4, b"(x == 8'd9)"));
-
-const fn breaks(at: i64, way: Way, found: Scanned) -> Search {
-    Search {
-        cond: NINE,
-        at,
-        way,
-        want: Want::Breakpoints,
-        found,
-    }
-}
-
-const fn steps(at: i64, way: Way, instance: Option<u32>, found: Scanned) -> Search {
-    Search {
-        cond: None,
-        at,
-        way,
-        want: Want::Step(instance),
-        found,
-    }
-}
+/// From where, in which direction, and for what is searched; and what is found. One breakpoint is armed, on line 4, where `x` is known
+/// and 9: that is position 4 alone, slot 0 in the last cycle.
+type Small = (i64, Way, Want, Scanned);
 
 /// Over two slots and three cycles. `T.b` is a thread of slot 0 in cycle 1 alone: its enable is 0 in cycle 0, and not known in cycle 2.
-static SMALL: [Search; 10] = [
-    breaks(-1, Way::Forward, Scanned::Hit(4)),
-    breaks(6, Way::Backward, Scanned::Hit(4)),
-    breaks(4, Way::Backward, Scanned::Edge),
-    breaks(4, Way::Forward, Scanned::Edge),
-    steps(2, Way::Forward, None, Scanned::Hit(3)),
-    steps(6, Way::Backward, None, Scanned::Hit(5)),
-    steps(-1, Way::Forward, Some(2), Scanned::Hit(2)),
-    steps(6, Way::Backward, Some(2), Scanned::Hit(2)),
-    steps(2, Way::Forward, Some(2), Scanned::Edge),
-    steps(-1, Way::Backward, None, Scanned::Edge),
+static SMALL: [Small; 10] = [
+    (-1, Way::Forward, Want::Breakpoints, Scanned::Hit(4)),
+    (6, Way::Backward, Want::Breakpoints, Scanned::Hit(4)),
+    (4, Way::Backward, Want::Breakpoints, Scanned::Edge),
+    (4, Way::Forward, Want::Breakpoints, Scanned::Edge),
+    (2, Way::Forward, Want::Step(None), Scanned::Hit(3)),
+    (6, Way::Backward, Want::Step(None), Scanned::Hit(5)),
+    (-1, Way::Forward, Want::Step(Some(2)), Scanned::Hit(2)),
+    (6, Way::Backward, Want::Step(Some(2)), Scanned::Hit(2)),
+    (2, Way::Forward, Want::Step(Some(2)), Scanned::Edge),
+    (-1, Way::Backward, Want::Step(None), Scanned::Edge),
 ];
+
+/// The search that a case tells.
+fn small_search(case: &Small) -> Search {
+    let (at, way, want, found) = *case;
+    Search {
+        armed: (4, b"(x == 8'd9)"),
+        at,
+        way,
+        want,
+        found,
+    }
+}
 
 #[test]
 fn searches_find_the_nearest_both_ways(rt: HostRuntime) -> Result<(), Fail> {
@@ -182,40 +174,45 @@ fn searches_find_the_nearest_both_ways(rt: HostRuntime) -> Result<(), Fail> {
     let Ok(mut trace) = trace(rt.alloc()) else {
         return Err("memory lasts".into());
     };
-    for (i, search) in SMALL.iter().enumerate() {
-        assert!(rt; finds(rt.alloc(), &table, &mut trace, search), "case {i}");
+    for (i, case) in SMALL.iter().enumerate() {
+        let search = small_search(case);
+        assert!(rt; finds(rt.alloc(), &table, &mut trace, &search), "case {i}");
     }
     Ok(())
 }
 
-/// A search for the position with this condition on line 9.
-const fn far(cond: &'static [u8], at: i64, way: Way, found: Scanned) -> Search {
+/// A condition on line 9; from where and in which direction is searched; and what is found.
+type Far = (&'static [u8], i64, Way, Scanned);
+
+/// Over one slot and 100 cycles, of which each has its number as `x`: what lies 63, 64 and 65 positions ahead, and the ends.
+static FAR: [Far; 14] = [
+    (b"(x == 8'd63)", 0, Way::Forward, Scanned::Hit(63)),
+    (b"(x == 8'd64)", 0, Way::Forward, Scanned::Hit(64)),
+    (b"(x == 8'd65)", 0, Way::Forward, Scanned::Nowhere),
+    (b"(x == 8'd63)", -1, Way::Forward, Scanned::Hit(63)),
+    (b"(x == 8'd64)", -1, Way::Forward, Scanned::Nowhere),
+    (b"(x == 8'd36)", 99, Way::Backward, Scanned::Hit(36)),
+    (b"(x == 8'd35)", 99, Way::Backward, Scanned::Hit(35)),
+    (b"(x == 8'd34)", 99, Way::Backward, Scanned::Nowhere),
+    (b"(x == 8'd36)", 100, Way::Backward, Scanned::Hit(36)),
+    (b"(x == 8'd35)", 100, Way::Backward, Scanned::Nowhere),
+    (b"(x == 8'd200)", 36, Way::Forward, Scanned::Edge),
+    (b"(x == 8'd200)", 35, Way::Forward, Scanned::Nowhere),
+    (b"(x == 8'd200)", 63, Way::Backward, Scanned::Edge),
+    (b"(x == 8'd200)", 64, Way::Backward, Scanned::Nowhere),
+];
+
+/// The search that a case tells.
+fn far_search(case: &Far) -> Search {
+    let (cond, at, way, found) = *case;
     Search {
-        cond: Some((9, cond)),
+        armed: (9, cond),
         at,
         way,
         want: Want::Breakpoints,
         found,
     }
 }
-
-/// Over one slot and 100 cycles, of which each has its number as `x`: what lies 63, 64 and 65 positions ahead, and the ends.
-static FAR: [Search; 14] = [
-    far(b"(x == 8'd63)", 0, Way::Forward, Scanned::Hit(63)),
-    far(b"(x == 8'd64)", 0, Way::Forward, Scanned::Hit(64)),
-    far(b"(x == 8'd65)", 0, Way::Forward, Scanned::Nowhere),
-    far(b"(x == 8'd63)", -1, Way::Forward, Scanned::Hit(63)),
-    far(b"(x == 8'd64)", -1, Way::Forward, Scanned::Nowhere),
-    far(b"(x == 8'd36)", 99, Way::Backward, Scanned::Hit(36)),
-    far(b"(x == 8'd35)", 99, Way::Backward, Scanned::Hit(35)),
-    far(b"(x == 8'd34)", 99, Way::Backward, Scanned::Nowhere),
-    far(b"(x == 8'd36)", 100, Way::Backward, Scanned::Hit(36)),
-    far(b"(x == 8'd35)", 100, Way::Backward, Scanned::Nowhere),
-    far(b"(x == 8'd200)", 36, Way::Forward, Scanned::Edge),
-    far(b"(x == 8'd200)", 35, Way::Forward, Scanned::Nowhere),
-    far(b"(x == 8'd200)", 63, Way::Backward, Scanned::Edge),
-    far(b"(x == 8'd200)", 64, Way::Backward, Scanned::Nowhere),
-];
 
 /// A sample of 8 bits with this number, as the one row of a cycle.
 fn byte_row(alloc: Global, number: u128) -> Result<Vec<Sample>, AllocError>
@@ -241,8 +238,9 @@ fn searches_look_at_64_positions(rt: HostRuntime) -> Result<(), Fail> {
     let Ok(mut trace) = long_trace(rt.alloc()) else {
         return Err("memory lasts".into());
     };
-    for (i, search) in FAR.iter().enumerate() {
-        assert!(rt; finds(rt.alloc(), &table, &mut trace, search), "case {i}");
+    for (i, case) in FAR.iter().enumerate() {
+        let search = far_search(case);
+        assert!(rt; finds(rt.alloc(), &table, &mut trace, &search), "case {i}");
     }
     Ok(())
 }
