@@ -1,9 +1,15 @@
 pub mod Any
+pub mod Arming
+pub mod Ascii
+pub mod Firsts
 pub mod Matches
+pub mod Names
 pub mod Nearest
 pub mod Order
+pub mod Readings
 pub mod Ready
 pub mod Searched
+pub mod Scopes
 pub mod Tests
 pub mod Turns
 pub mod Values

@@ -45,7 +45,7 @@ pub all_each : {A : Type 0} (P : A → Type 0) (xs : List A) → All P xs → Ea
 all_each P [] h = tt
 all_each P (x ∷ xs) h = (All-head P x xs h, all_each P xs (All-tail P x xs h))
 
-number_told : (i : ℕ) (xs : List ℕ) → IsIn i xs → list_any (nat_eq i) xs ≡ true
+pub number_told : (i : ℕ) (xs : List ℕ) → IsIn i xs → list_any (nat_eq i) xs ≡ true
 number_told i [] m = absurd m
 number_told i (x ∷ xs) (inl e) = ap (λ b. b || list_any (nat_eq i) xs) (eq-eqb i x e)
 number_told i (x ∷ xs) (inr m) = ap (λ b. nat_eq i x || b) (number_told i xs m) ∙ or_true (nat_eq i x)
@@ -105,7 +105,7 @@ no_place : (parts : TableParts) (x : Name) (o : Option Slot) → has_name (optio
 no_place parts x None e = refl
 no_place parts x (Some slot) e = no_position (bytes_eq x) slot.names e
 
-not_named : (parts : TableParts) (k i : ℕ) (x : Name) → has_name (slice_get (map (shows_by parts) parts.slots) k) x ≡ false → binding_of parts k i x ≡ None
+pub not_named : (parts : TableParts) (k i : ℕ) (x : Name) → has_name (slice_get (map (shows_by parts) parts.slots) k) x ≡ false → binding_of parts k i x ≡ None
 not_named parts k i x e =
     ap (λ (o : Option ℕ). option_and_then (λ (row : Row). option_and_then (slice_get row.cells) o) (row_of parts k i))
     (no_place parts x (slice_get parts.slots k) (sym (ap (λ o. has_name o x) (slice_get-map (shows_by parts) parts.slots k)) ∙ e))

@@ -1,5 +1,5 @@
 -- Lists of breakpoints from which one is taken.
-use Rattle.std.proofs.Common.{◌≡◌, ℕ, ◌+◌, ◌≤◌, ◌==◌, ◌||◌, Bool, true, false, cond, not, List, [], ◌∷◌, ◌++◌, map, filter, refl, ap, arith}
+use Rattle.std.proofs.Common.{◌≡◌, ℕ, ◌+◌, ◌≤◌, ◌==◌, ◌||◌, Bool, true, false, cond, not, List, [], ◌∷◌, ◌++◌, map, filter, refl, sym, ap, ◌∙◌, subst, arith}
 use Rattle.std.specs.List.{list_any}
 use Rattle.machine_core.specs.Matching.{Breakpoint}
 use Rattle.machine_core.specs.Machine.{has_number}
@@ -42,3 +42,15 @@ rising_kept test least (b ∷ bs) next h = by_test (test b) (filter test bs) (ri
 pub rising_more : (least : ℕ) (xs : List ℕ) (next : ℕ) → AreRising least xs next → AreRising least (xs ++ next ∷ []) (next + 1)
 rising_more least [] next h = (h, omega arith)
 rising_more least (x ∷ xs) next h = (h.0, rising_more (x + 1) xs next h.1)
+
+numbers_more : (armed : List Armed) (a : Armed) → map (λ b. b.number) (map breakpoint_of (armed ++ a ∷ [])) ≡ map (λ b. b.number) (map breakpoint_of armed) ++ a.number ∷ []
+numbers_more [] a = refl
+numbers_more (other ∷ armed) a = ap (λ l. other.number ∷ l) (numbers_more armed a)
+
+-- one breakpoint more, under the next number
+pub order_more : (armed items : List Armed) (a : Armed) (given : ℕ) → items ≡ armed ++ a ∷ [] → a.number ≡ given + 1 → AreRising 1 (map (λ b. b.number) (map breakpoint_of armed)) (given + 1)
+    → AreRising 1 (map (λ b. b.number) (map breakpoint_of items)) (given + 1 + 1)
+order_more armed items a given e n h =
+    subst (λ (l : List ℕ). AreRising 1 l (given + 1 + 1))
+    (sym (ap (λ (l : List Armed). map (λ b. b.number) (map breakpoint_of l)) e ∙ numbers_more armed a ∙ ap (λ (m : ℕ). map (λ b. b.number) (map breakpoint_of armed) ++ m ∷ []) n))
+    (rising_more 1 (map (λ b. b.number) (map breakpoint_of armed)) (given + 1) h)

@@ -1,3 +1,4 @@
+pub mod Arm
 pub mod Armed
 pub mod Waiting
 pub mod Scan

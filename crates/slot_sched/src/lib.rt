@@ -5,11 +5,13 @@
 #![tactic(auto)]
 
 mod armed;
+mod fault;
 mod found;
 mod laws;
 mod sampled;
 mod schedule;
 
+pub use fault::ArmFault;
 pub use found::Found;
 pub use laws::{sample_is_searched, turns_by_search};
 pub use schedule::Schedule;

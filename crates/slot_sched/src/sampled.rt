@@ -4,6 +4,7 @@ ghost use Rattle.std.specs.Prelude.{◌≡◌, ◌<◌, Contains};
 ghost use Rattle.symtab.specs.Lookups.{instances_of};
 ghost use Rattle.trace_core.specs.Known.{known, is_one};
 ghost use Rattle.trace_world.specs.Fitting.{FitsTable};
+ghost use Rattle.machine_core.specs.Matching.{is_wanted};
 ghost use Rattle.slot_sched.specs.Waiting.{cycle_samples, IsSet, IsValue, IsTest, is_thread, is_true, test_holds};
 
 use bv_core::{NodeId, Ref, Sample, Truth};
@@ -32,6 +33,16 @@ fn is_one(sample: Sample) -> bool
     match sample {
         Sample::Known(value) => value.value() == 1,
         Sample::Unknown => false,
+    }
+}
+
+/// Whether no instance was named, or this one was.
+pub(crate) fn is_wanted(named: Option<u32>, instance: u32) -> bool
+    ensures { result ≡ is_wanted named instance }
+{
+    match named {
+        Some(one) => instance == one,
+        None => true,
     }
 }
 

@@ -1,6 +1,6 @@
 //! The breakpoints that are armed, and the search for the nearest position where one of them, or a step, stops.
 
-ghost use Rattle.std.specs.Prelude.{◌≡◌, ◌<◌, ◌≤◌, ◌+◌, ◌-◌, ◌*◌, ◌/◌, ◌≤ℤ◌, not, false, ℕ, pos, negsuc, [], length, filter, find, slice_get, option_map, Some, IfSome};
+ghost use Rattle.std.specs.Prelude.{◌≡◌, ◌<◌, ◌≤◌, ◌+◌, ◌-◌, ◌*◌, ◌/◌, ◌≤ℤ◌, not, false, ℕ, List, pos, negsuc, [], ◌∷◌, ◌++◌, length, filter, find, slice_get, option_map, Some, IfSome, IfOk, OnOk, OnErr};
 ghost use Rattle.std.specs.List.{list_any};
 ghost use Rattle.list_core.specs.Lists.{from};
 ghost use Rattle.symtab.specs.declared.parts.TableParts.{TableParts};
@@ -8,18 +8,28 @@ ghost use Rattle.world_core.specs.Seen.{seen};
 ghost use Rattle.trace_world.specs.TraceWorld.{trace_world};
 ghost use Rattle.trace_world.specs.Fitting.{FitsTable};
 ghost use Rattle.machine_core.specs.Machine.{has_number};
-ghost use Rattle.machine_core.specs.Matching.{is_wanted};
+ghost use Rattle.machine_core.specs.Matching.{Breakpoint};
+ghost use Rattle.cond_lang.specs.TextShown.{text_expr};
+ghost use Rattle.machine_core.specs.Arming.{limit_refusal, breakpoint_on};
+ghost use Rattle.machine_core.specs.Reading.{Reader, IsReader};
+ghost use Rattle.trace_core.specs.Samples.{Samples};
+ghost use Rattle.slot_sched.specs.Arm.{Arms, TellsNone};
 ghost use Rattle.slot_sched.specs.Armed.{breakpoints, next_number, is_number, AreOf, AreInOrder};
 ghost use Rattle.slot_sched.specs.Waiting.{cycle_samples, IsSet, AreReady, any_stops, any_steps, slot_stops};
 ghost use Rattle.slot_sched.specs.Scan.{searched, scanned, total_of, position_stops, down_from};
 ghost use Rattle.symtab.specs.Lookups.{instances_of};
 
-use crate::armed::Armed;
+use crate::armed::{Armed, Trap};
+use crate::fault::ArmFault;
 use crate::found::{Found, place_of, told};
-use crate::sampled::is_thread;
+use crate::sampled::{is_thread, is_wanted};
+use cond_lang::CondText;
 use std::alloc::Global;
 use symtab::Table;
 use trace_core::{Scanned, Trace, Want, Way};
+
+/// So many breakpoints are armed at most.
+const MOST_ARMED: usize = 1024;
 
 /// A search looks at so many positions.
 const REACH: u64 = 64;
@@ -45,16 +55,6 @@ fn set_at<T: Trace>(trace: &mut T, stands: Option<u64>, cycle: u64)
         }
     }
     trace.seek(cycle);
-}
-
-/// Whether no instance was named, or this one was.
-fn is_wanted(named: Option<u32>, instance: u32) -> bool
-    ensures { result ≡ is_wanted named instance }
-{
-    match named {
-        Some(one) => instance == one,
-        None => true,
-    }
 }
 
 /// Whether a slot has a thread: of the named instance, if one was named.
@@ -94,6 +94,100 @@ impl Schedule {
     {
         let armed = self.armed.get(i)?;
         Some(armed.number)
+    }
+
+    /// The slots of the breakpoint at this place, counted from 0, rising. None exactly where no more are armed. Takes no memory.
+    pub fn slots(&self, i: usize) -> Option<&[u32]>
+        ensures { option_map (λ s. s.now) result ≡ option_map (λ b. b.slots) (slice_get (breakpoints self.now) i) }
+    {
+        let armed = self.armed.get(i)?;
+        Some(&armed.slots)
+    }
+
+    /// How many breakpoints are armed. Takes no memory.
+    pub fn len(&self) -> usize
+        ensures { result ≡ length (breakpoints self.now) }
+    {
+        self.armed.len()
+    }
+
+    /// That no breakpoint more is armed, where so many are armed or the last number was given.
+    fn limit(&self) -> Result<(), ArmFault>
+        ensures { TellsNone result (limit_refusal (length (breakpoints self.now)) (next_number self.now)) }
+    {
+        if self.armed.len() >= MOST_ARMED {
+            return Err(ArmFault::TooMany {
+                limit: MOST_ARMED as u64,
+            });
+        }
+        if self.given == u64::MAX {
+            return Err(ArmFault::TooMany { limit: u64::MAX });
+        }
+        Ok(())
+    }
+
+    /// Arms a breakpoint under the next number.
+    fn add(
+        &mut self,
+        slots: Vec<u32>,
+        instance: Option<u32>,
+        text: Option<CondText>,
+        traps: Vec<Trap>,
+    ) -> Result<u64, ArmFault>
+        ensures made { IfOk result (λ number. number ≡ next_number self.old) }
+        ensures breakpoints { OnOk result (breakpoints self.new ≡ breakpoints self.old ++ record { number = next_number self.old; slots = slots.items; instance = instance; condition = option_map text_expr text } ∷ []) }
+        ensures next { OnOk result (next_number self.new ≡ next_number self.old + 1) }
+        ensures refused { TellsNone result (limit_refusal (length (breakpoints self.old)) (next_number self.old)) }
+        ensures kept { OnErr result (breakpoints self.new ≡ breakpoints self.old) }
+        ensures same { OnErr result (next_number self.new ≡ next_number self.old) }
+        ensures order { AreInOrder self.old → AreInOrder self.new }
+    {
+        self.limit()?;
+        let number = self.given + 1;
+        self.armed.push(Armed {
+            number,
+            slots,
+            instance,
+            text,
+            traps,
+        })?;
+        self.given = number;
+        Ok(number)
+    }
+
+    /// Arms a breakpoint on a line: in one instance alone, if a path is given; where a condition holds, if a text is given. Gives its
+    /// number, from 1 on, that of the one before and one.
+    ///
+    /// Refused, in this order: no statement is on the line; no instance of that path has one there; the text is no condition; a
+    /// name of it has no value, or its widths do not fit, at a slot of an instance that it would wait at; 1,024 breakpoints are armed,
+    /// or the number 2^64 - 1 was given. After a refusal all is as before, and so it is for want of memory.
+    pub fn arm(
+        &mut self,
+        table: &Table,
+        line: u64,
+        instance: Option<&str>,
+        cond: Option<&[u8]>,
+    ) -> Result<u64, ArmFault>
+        ensures armed { (read : Reader) (s : Samples) → IsReader read → Arms result (breakpoint_on read (seen (trace_world table.now s)) (length (breakpoints self.old)) (next_number self.old) line (option_map (λ p. p.now) instance.entry) (option_map (λ t. t.now) cond.entry)) (breakpoints self.old) (breakpoints self.new) }
+        ensures next { OnOk result (next_number self.new ≡ next_number self.old + 1) }
+        ensures kept { OnErr result (breakpoints self.new ≡ breakpoints self.old) }
+        ensures same { OnErr result (next_number self.new ≡ next_number self.old) }
+        ensures own { AreOf table.now self.old → AreOf table.now self.new }
+        ensures order { AreInOrder self.old → AreInOrder self.new }
+    {
+        let _ = (table, line, instance, cond);
+        Err(ArmFault::NoMemory)
+    }
+
+    /// Takes back what was armed last, its number too. Takes no memory.
+    pub fn take_back(&mut self)
+        requires given { 1 < next_number self.old }
+        ensures breakpoints { (front : List Breakpoint) (last : Breakpoint) → breakpoints self.old ≡ front ++ last ∷ [] → breakpoints self.new ≡ front }
+        ensures next { next_number self.new + 1 ≡ next_number self.old }
+        ensures own { (parts : TableParts) → AreOf parts self.old → AreOf parts self.new }
+    {
+        self.armed.pop();
+        self.given -= 1;
     }
 
     /// Whether a breakpoint of this number is armed.

@@ -1,0 +1,127 @@
+-- What is found in a table where a breakpoint is armed, and what the answers other than Ok say.
+use Rattle.std.specs.Prelude.{◌≡◌, ℕ, Bool, true, List, [], ◌∷◌, ◌++◌, Option, Some, None, Result, Ok, Err, position, bytes_eq, nat_eq, nat_lt, ◌<◌, length, map, filter, Contains, if◌then◌else◌}
+use Rattle.std.specs.List.{list_any, list_all}
+use Rattle.bv_core.specs.declared.Binding.{Binding}
+use Rattle.exec_core.specs.Block.{Name}
+use Rattle.gen_tree.specs.Tree.{Expr}
+use Rattle.symtab.specs.declared.parts.TableParts.{TableParts}
+use Rattle.symtab.specs.Shape.{paths_of}
+use Rattle.symtab.specs.Lookups.{instances_of, binding_of}
+use Rattle.cond_lang.specs.declared.cond.Cond.{Cond}
+use Rattle.cond_lang.specs.declared.text.CondText.{CondText}
+use Rattle.cond_lang.specs.Bound.{scope_of, bound_by}
+use Rattle.cond_lang.specs.Judged.{judged}
+use Rattle.cond_lang.specs.Shown.{cond_tree, cond_width}
+use Rattle.cond_lang.specs.TextShown.{text_expr, text_offsets}
+use Rattle.machine_core.specs.declared.reply.Body.{Body}
+use Rattle.machine_core.specs.declared.reply.Body.TheVariants as body
+use Rattle.machine_core.specs.Arming.{bit_refusal}
+use Rattle.machine_core.specs.Reading.{Reader, Reading, Condition, NoCondition}
+use Rattle.machine_core.specs.Matching.{Breakpoint, is_wanted}
+use Rattle.slot_sched.specs.declared.armed.Trap.{Trap}
+use Rattle.slot_sched.specs.declared.fault.ArmFault.{ArmFault}
+use Rattle.slot_sched.specs.declared.fault.ArmFault.TheVariants as fault
+
+-- ---- faults
+
+-- the answer that a fault stands for; want of memory stands for none
+abbrev pub answer_for : ArmFault → Option Body
+answer_for (fault.NoSite line) = Some (body.NoSite line)
+answer_for (fault.NoInstance instance) = Some (body.NoInstance instance)
+answer_for (fault.BadCondAt offset) = Some (body.BadCondAt offset)
+answer_for (fault.BadCondName name) = Some (body.BadCondName name)
+answer_for (fault.CondRemoved name slot) = Some (body.CondRemoved name slot)
+answer_for (fault.CondUnset name slot) = Some (body.CondUnset name slot)
+answer_for (fault.TooMany limit) = Some (body.TooMany limit)
+answer_for fault.NoMemory = None
+
+-- what is answered in place of what was to be made, unless memory ran out
+abbrev pub IsRefusal : {A : Type 0} → Option Body → Result A Body → Type 0
+IsRefusal None made = Unit {0}
+IsRefusal (Some refusal) made = made ≡ Err refusal
+
+-- what was made, seen by view; or why it was not, unless memory ran out
+abbrev pub TellsMade : {X Y : Type 0} → (X → Y) → Result X ArmFault → Result Y Body → Type 0
+TellsMade view (Ok x) made = made ≡ Ok (view x)
+TellsMade view (Err end) made = IsRefusal (answer_for end) made
+
+-- nothing is refused; or this is, unless memory ran out
+abbrev pub IsTold : Option Body → Option Body → Type 0
+IsTold None refusal = Unit {0}
+IsTold (Some told) refusal = refusal ≡ Some told
+
+abbrev pub TellsNone : {X : Type 0} → Result X ArmFault → Option Body → Type 0
+TellsNone (Ok x) refusal = refusal ≡ None
+TellsNone (Err end) refusal = IsTold (answer_for end) refusal
+
+-- ---- slots and instances of a table
+
+abbrev pub has_slot : TableParts → (instance slot : ℕ) → Bool
+has_slot parts i k = list_any (nat_eq i) (instances_of parts k)
+
+-- an instance has a slot, if one was named
+abbrev pub named_has : TableParts → Option ℕ → ℕ → Bool
+named_has parts None k = true
+named_has parts (Some i) k = has_slot parts i k
+
+abbrev pub found_instance : TableParts → List ℕ → Name → Option ℕ → Result (Option ℕ) Body
+found_instance parts slots path None = Err (body.NoInstance path)
+found_instance parts slots path (Some i) = if list_any (has_slot parts i) slots then Ok (Some i) else Err (body.NoInstance path)
+
+abbrev pub asked_instance : TableParts → List ℕ → Option Name → Result (Option ℕ) Body
+asked_instance parts slots None = Ok None
+asked_instance parts slots (Some path) = found_instance parts slots path (position (bytes_eq path) (paths_of parts.instances))
+
+-- ---- conditions
+
+-- how a text is read that was given
+abbrev pub reading_made : Reading → Result (Option (Expr × List ℕ)) Body
+reading_made (Condition e offsets) = Ok (Some (e, offsets))
+reading_made (NoCondition offset) = Err (body.BadCondAt offset)
+
+abbrev pub as_read : Reader → Option (List ℕ) → Result (Option (Expr × List ℕ)) Body
+as_read read None = Ok None
+as_read read (Some text) = reading_made (read text)
+
+abbrev pub text_parts : CondText → Expr × List ℕ
+text_parts t = (text_expr t, text_offsets t)
+
+-- bytes below 128; a condition has names of these alone
+abbrev pub is_ascii : ℕ → Bool
+is_ascii byte = nat_lt byte 128
+
+-- what such a name stands for at a slot of an instance
+abbrev pub ascii_binding : TableParts → (slot instance : ℕ) → Name → Option Binding
+ascii_binding parts k i x = if list_all is_ascii x then binding_of parts k i x else None
+
+-- why a condition is none at a slot of an instance
+abbrev pub ascii_refused : TableParts → Option CondText → ℕ × ℕ → Option Body
+ascii_refused parts None at = None
+ascii_refused parts (Some text) at = bit_refusal at.0 (judged (scope_of (ascii_binding parts at.0 at.1)) (text_expr text) (text_offsets text))
+
+-- a condition of width 1 is the text's, with its names found at these places
+abbrev pub IsBoundBy : (Name → Option Binding) → CondText → Cond → Type 0
+IsBoundBy places text cond =
+    (cond_width cond ≡ 1) × (cond_tree cond ≡ bound_by places (text_expr text)) × (judged (scope_of places) (text_expr text) (text_offsets text) ≡ Ok 1)
+
+abbrev pub IsAsciiBound : TableParts → (slot instance : ℕ) → Option CondText → Option Cond → Type 0
+IsAsciiBound parts k i None None = Unit {0}
+IsAsciiBound parts k i None (Some cond) = ⊥
+IsAsciiBound parts k i (Some text) None = ⊥
+IsAsciiBound parts k i (Some text) (Some cond) = IsBoundBy (ascii_binding parts k i) text cond
+
+pub record IsAsciiTrap (parts : TableParts) (text : Option CondText) (t : Trap) : Type 0 where
+  pub slot : t.slot < length parts.slots
+  pub instance : Contains (instances_of parts t.slot) t.instance
+  pub bound : IsAsciiBound parts t.slot t.instance text t.cond
+
+-- the instances that have a slot; where one was named, that one alone
+abbrev pub traps_in : TableParts → Option ℕ → ℕ → List (ℕ × ℕ)
+traps_in parts named k = map (λ i. (k, i)) (filter (is_wanted named) (instances_of parts k))
+
+-- ---- what is armed
+
+-- the breakpoint that the machine arms there, under this number, behind those that were; or why it is refused, unless memory ran out
+abbrev pub Arms : Result ℕ ArmFault → Result Breakpoint Body → (old new : List Breakpoint) → Type 0
+Arms (Ok number) made old new = (b : Breakpoint) × ((made ≡ Ok b) × ((b.number ≡ number) × (new ≡ old ++ b ∷ [])))
+Arms (Err end) made old new = IsRefusal (answer_for end) made
