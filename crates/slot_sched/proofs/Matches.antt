@@ -122,10 +122,10 @@ test_is parts samples k i (Some text) (Some c) h =
 -- ---- a slot
 
 module _ (parts : TableParts) (s : Samples) (t k : ℕ) (inside : t < s.cycles) (below : k < length parts.slots) where
-  threads_told : (told parts s).threads t k ≡ filter (is_thread parts (s.sample t) k) (instances_of parts k)
+  pub threads_told : (told parts s).threads t k ≡ filter (is_thread parts (s.sample t) k) (instances_of parts k)
   threads_told = (seen_worlds_same (trace_world parts s)).threads t k inside (subst (λ n. k < n) (sym (length-map parts.slots (shows_by parts))) below)
 
-  shown_told : (i : ℕ) (x : Name) → IsIn i ((told parts s).threads t k) → (told parts s).shown t k i x ≡ binding_shown (s.sample t) (binding_of parts k i x)
+  pub shown_told : (i : ℕ) (x : Name) → IsIn i ((told parts s).threads t k) → (told parts s).shown t k i x ≡ binding_shown (s.sample t) (binding_of parts k i x)
   shown_told i x m = by_name (has_name (slice_get (map (shows_by parts) parts.slots) k) x) refl
     where
       by_name : (b : Bool) → has_name (slice_get (map (shows_by parts) parts.slots) k) x ≡ b → (told parts s).shown t k i x ≡ binding_shown (s.sample t) (binding_of parts k i x)

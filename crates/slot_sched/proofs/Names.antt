@@ -11,7 +11,7 @@ use Rattle.gen_token.specs.Spelling.{is_name_text, IsName, Spells, IsTokenOf}
 use Rattle.gen_token.specs.Tokens.{skip, token_at, TokensFrom, AreTokens}
 use Rattle.gen_token.specs.Words.{Word, Name, Number, Literal, Reserved, Sign, Tok}
 use Rattle.gen_token.proofs.ReadToken.{exact}
-use Rattle.gen_tree.specs.declared.Mode.TheVariants as mode
+use Rattle.gen_tree.specs.declared.Dialect.TheVariants as dialect
 use Rattle.gen_token.specs.declared.Mark.TheVariants as mark
 use Rattle.gen_tree.specs.Grammar.{Span, ◌⨾◌, Single, Never, SpellsInt, SpellsIndex, SpellsFam, SpellsLit, SpellsTwo, SpellsRead, SpellsPrim, SpellsExpr, op_mark}
 use Rattle.gen_tree.specs.Tree.{Int, num, var, bin, Fam, Lit, plain, bits, Expr, read, out, value, unary, binary, mux, zext, slice}
@@ -103,7 +103,7 @@ single : (word : Word) → Gives (Single word) (WordFits word)
 single word [] rest h w = absurd h
 single word (t ∷ ts) rest h w = (subst WordFits h.0 w.0, subst Fit h.1 w.1)
 
-int_gives : (i : Int) → Gives (SpellsInt mode.Condition i) (number i ≤ 2 ^ 62)
+int_gives : (i : Int) → Gives (SpellsInt dialect.Condition i) (number i ≤ 2 ^ 62)
 int_gives (num n) = single (Number n)
 int_gives (var x) = never
 int_gives (bin o a b) = never
@@ -111,21 +111,21 @@ int_gives (bin o a b) = never
 index_ascii : (n : ℕ) → n ≤ 2 ^ 62 → AreAscii (codes "#" ++ decimal n)
 index_ascii n h = (let hash : 35 < 128 = omega arith in hash, ascii_each (decimal n) (IsAscii-decimal n (omega (arith, h))))
 
-index_gives : (o : Option Int) → Gives (SpellsIndex mode.Condition o) (AreAscii (index_name o))
+index_gives : (o : Option Int) → Gives (SpellsIndex dialect.Condition o) (AreAscii (index_name o))
 index_gives None ts rest h w = (tt, subst Fit h w)
 index_gives (Some i) ts rest h w = given (λ x. index_ascii (number i) x.1) (after (single (Sign mark.Hash)) (int_gives i)) ts rest h w
 
-fam_gives : (f : Fam) → Gives (SpellsFam mode.Condition f) (AreAscii (fam_name f))
+fam_gives : (f : Fam) → Gives (SpellsFam dialect.Condition f) (AreAscii (fam_name f))
 fam_gives f = given (λ x. joined _ f.name (index_name f.index) x.0 x.1) (after (single (Name f.name)) (index_gives f.index))
 
-lit_gives : (l : Lit) → Gives (SpellsLit mode.Condition l) (Unit {0})
+lit_gives : (l : Lit) → Gives (SpellsLit dialect.Condition l) (Unit {0})
 lit_gives (plain w v) = given (λ x. tt) (single (Literal w v))
 lit_gives (bits w v) = never
 
 abbrev Names : Expr → Type 0
 Names e = EachOf AreAscii (leaves (tree_of e))
 
-out_gives : (f : Fam) (q : List ℕ) → Gives (SpellsRead mode.Condition f (Some q)) (AreAscii (output_name f q))
+out_gives : (f : Fam) (q : List ℕ) → Gives (SpellsRead dialect.Condition f (Some q)) (AreAscii (output_name f q))
 out_gives f q =
     given (λ x. joined _ (fam_name f) (codes "." ++ q) x.0 (let dot : 46 < 128 = omega arith in dot, x.1.1))
     (after (fam_gives f) (after (single (Sign mark.Dot)) (single (Name q))))
@@ -134,7 +134,7 @@ two_gives : (o : Option _) {A B : Span} {M N : Type 0} → Gives A M → Gives B
 two_gives (Some m) a b = given (λ x. (x.1.0, x.1.1.1.0)) (after (single _) (after a (after (single _) (after b (single _)))))
 two_gives None a b = given (λ x. (x.1.1.0, x.1.1.1.1.0)) (after (single _) (after (single _) (after a (after (single _) (after b (single _))))))
 
-prim_is_expr : (e : Expr) (ts rest : List Tok) → SpellsPrim mode.Condition e ts rest → SpellsExpr mode.Condition e ts rest
+prim_is_expr : (e : Expr) (ts rest : List Tok) → SpellsPrim dialect.Condition e ts rest → SpellsExpr dialect.Condition e ts rest
 prim_is_expr (read f) ts rest h = h
 prim_is_expr (out f q) ts rest h = h
 prim_is_expr (value l) ts rest h = h
@@ -144,7 +144,7 @@ prim_is_expr (mux c a b) ts rest h = h
 prim_is_expr (zext e w) ts rest h = h
 prim_is_expr (slice e x y) ts rest h = absurd h
 
-expr_gives : (e : Expr) → Gives (SpellsExpr mode.Condition e) (Names e)
+expr_gives : (e : Expr) → Gives (SpellsExpr dialect.Condition e) (Names e)
 expr_gives (read f) = given (λ x. (x, tt)) (fam_gives f)
 expr_gives (out f q) = given (λ x. (x, tt)) (out_gives f q)
 expr_gives (value l) = lit_gives l
@@ -159,5 +159,5 @@ expr_gives (slice e hi lo) =
     (after (λ ts rest h w. expr_gives e ts rest (prim_is_expr e ts rest h) w) (after (single _) (after (int_gives hi) (after (single _) (after (int_gives lo) (single _))))))
 
 -- of the tokens of a text, all of which the expression spells
-pub names_ascii : (text : List ℕ) (tokens : List Tok) (e : Expr) → AreTokens text tokens → SpellsExpr mode.Condition e tokens [] → EachOf AreAscii (leaves (tree_of e))
+pub names_ascii : (text : List ℕ) (tokens : List Tok) (e : Expr) → AreTokens text tokens → SpellsExpr dialect.Condition e tokens [] → EachOf AreAscii (leaves (tree_of e))
 names_ascii text tokens e are spelled = (expr_gives e tokens [] spelled (words_fit (skip false 1 text) tokens None are)).0

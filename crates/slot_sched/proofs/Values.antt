@@ -109,11 +109,11 @@ module _ (samples : ℕ → Sample) where
       let found = first_found x (places x) (first_refused (scope_of places) xs) e in
       (found.0, names_found places xs found.1)
 
-accepted : (o : Option Refusal) (r : Result ℕ Refusal) → unless_refused o r ≡ Ok 1 → o ≡ None
+accepted : {width : ℕ} (o : Option Refusal) (r : Result ℕ Refusal) → unless_refused o r ≡ Ok width → o ≡ None
 accepted None r e = refl
 accepted (Some refusal) r e = cc
 
-pub bound_value_is : (samples : ℕ → Sample) (places : Name → Option Binding) (e : Expr) (offsets : List ℕ) → judged (scope_of places) e offsets ≡ Ok 1
+pub bound_value_is : {width : ℕ} (samples : ℕ → Sample) (places : Name → Option Binding) (e : Expr) (offsets : List ℕ) → judged (scope_of places) e offsets ≡ Ok width
     → bound_value (λ node. samples node.0) (bound_by places e) ≡ cond.value_by (λ x. world.value_by samples (places x)) e
 bound_value_is samples places e offsets h =
     agree (λ x. ref_or_nought (places x)) (value_at (λ node. samples node.0)) (λ x. world.value_by samples (places x)) (tree_of e)
@@ -133,7 +133,7 @@ value_told samples (Some (binding.Value at)) = by_value (found_by samples at)
 -- ---- what is bound in a table can be evaluated over a trace that fits it
 
 module _ (parts : TableParts) (table : IsTable parts) (s : Samples) (fits : FitsTable parts s) where
-  node_of : (k i : ℕ) (x : Name) (o : Option Binding) → binding_of parts k i x ≡ o → EachNode (IsNodeOf s) (Leaf (ref_or_nought o))
+  pub node_of : (k i : ℕ) (x : Name) (o : Option Binding) → binding_of parts k i x ≡ o → EachNode (IsNodeOf s) (Leaf (ref_or_nought o))
   node_of k i x None e = tt
   node_of k i x (Some binding.Unset) e = tt
   node_of k i x (Some binding.Removed) e = tt
