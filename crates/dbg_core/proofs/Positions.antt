@@ -103,9 +103,10 @@ stands_at parts s (suc p) cycle slot within e = by_test (nat_eq p (position_coun
     by_test false f e =
         let less = inside f in
         let back : suc p - 1 ≡ p = omega arith in
-        let there : p < position_count (world_of parts s) = subst (λ n. p < n) (sym (count_told parts s)) less in
-        ( subst (λ n. n < total_of parts s) (sym back) less
-        , ap (λ b. if b then Some p else None) (lt-ltb p (position_count (world_of parts s)) there) ∙ ap (λ n. Some n) (sym back) )
+        let there : p < position_count (world_of parts s) = subst (λ n. p < n) (sym (count_told parts s)) less in (
+          subst (λ n. n < total_of parts s) (sym back) less,
+          ap (λ b. if b then Some p else None) (lt-ltb p (position_count (world_of parts s)) there) ∙ ap (λ n. Some n) (sym back),
+        )
 
 pub stands_nowhere : (parts : TableParts) (s : Samples) (place : ℕ) (at : At) → at_place (world_of parts s) place ≡ at → ((cycle slot : ℕ) → at ≡ Position cycle slot → ⊥) → position_of (world_of parts s) place ≡ None
 stands_nowhere parts s zero at e none = refl

@@ -73,7 +73,7 @@ pub(crate) fn break_asked(
     path: Option<&str>,
     text: Option<&[u8]>,
 ) -> Result<Body, NoMemory>
-    ensures body { (read : Reader) (s : Samples) → IsReader read → IfOk result (λ body. (breakpoints schedule.new, (next_number schedule.new, body)) ≡ broken (breakpoint_on read (world_of table.now s) (length (breakpoints schedule.old)) (next_number schedule.old) line (option_map (λ p. p.now) path.entry) (option_map (λ t. t.now) text.entry)) (breakpoints schedule.old) (next_number schedule.old)) }
+    ensures body { (read : Reader) (s : Samples) → IsReader read → IfOk result (λ body. (breakpoints schedule.new, next_number schedule.new, body) ≡ broken (breakpoint_on read (world_of table.now s) (length (breakpoints schedule.old)) (next_number schedule.old) line (option_map (λ p. p.now) path.entry) (option_map (λ t. t.now) text.entry)) (breakpoints schedule.old) (next_number schedule.old)) }
     ensures kept { OnErr result (breakpoints schedule.new ≡ breakpoints schedule.old) }
     ensures same { OnErr result (next_number schedule.new ≡ next_number schedule.old) }
     ensures own { AreOf table.now schedule.old → AreOf table.now schedule.new }

@@ -175,7 +175,10 @@ impl Schedule {
         ensures own { AreOf table.now self.old → AreOf table.now self.new }
         ensures order { AreInOrder self.old → AreInOrder self.new }
     {
-        let _ = (table, line, instance, cond);
+        let _ = table;
+        let _ = line;
+        let _ = instance;
+        let _ = cond;
         Err(ArmFault::NoMemory)
     }
 
