@@ -1,11 +1,12 @@
 -- What the row of an instance has for the names of a slot is what the machine shows of them.
 use Rattle.std.proofs.Common.{◌≡◌, ℕ, zero, suc, ◌+◌, ◌<◌, ◌≤◌, ◌%◌, ◌/◌, ◌&&◌, Bool, true, false, true≢false, cond, List, [], ◌∷◌, length, map, Option, Some, None, option_map, position, bytes_eq, refl, sym, ap, ap₂, ◌∙◌, subst, arith, lt-ltb, nat_lt, not}
-use Rattle.std.specs.Prelude.{slice_get, option_and_then, nat_eq, unwrap_or, All, Contains}
+use Rattle.std.specs.Prelude.{slice_get, option_and_then, get_or, All}
 use Rattle.std.specs.List.{position_or_len, IsDistinct, AllByRecursion, list_any}
+use Rattle.std.specs.Option.{option_map_or}
 use Rattle.std.proofs.lemmas.Bool.{false_from_ne_true}
 use Rattle.std.proofs.lemmas.List.{length-map}
 use Rattle.std.proofs.lemmas.List.Elements.{All-weaker}
-use Rattle.std.proofs.lemmas.Option.{none-some, same_Some, get_or_from_slice_get, slice_get_within, slice_get-get_or}
+use Rattle.std.proofs.lemmas.Option.{none-some, same_Some, slice_get_within, slice_get_read}
 use Rattle.std.proofs.lemmas.Slice.Eq.{bytes_eq-Decides}
 use Rattle.std.proofs.lemmas.Map.Keys.{IsDistinct-head, IsDistinct-tail}
 use Rattle.bv_core.specs.declared.reference.Binding.{Binding}
@@ -20,7 +21,8 @@ use Rattle.symtab.specs.declared.parts.NodeName.{NodeName}
 use Rattle.symtab.specs.declared.parts.Row.{Row}
 use Rattle.symtab.specs.declared.parts.Slot.{Slot}
 use Rattle.symtab.specs.declared.parts.TableParts.{TableParts}
-use Rattle.symtab.specs.Shape.{IsFound, IsCell, IsRow, IsTable, width_of}
+use Rattle.symtab.specs.Shape.{IsFound, IsCell, IsRow, IsTable, variants_of}
+use Rattle.symtab.specs.Places.{places}
 use Rattle.symtab.specs.Lookups.{instances_of, row_of, binding_of}
 use Rattle.symtab.proofs.Rows.{row_at, row_fits, slot_fits}
 use Rattle.trace_core.specs.Samples.{Samples}
@@ -112,6 +114,29 @@ module _ (parts : TableParts) (table : IsTable parts) (k i : ℕ) (row : Row) (t
       cell_among Unset h = tt
       cell_among Removed h = tt
 
+-- the same of the cells alone
+module _ (parts : TableParts) (table : IsTable parts) (k i : ℕ) (slot : Slot) (cells : List Binding) (at : slice_get parts.slots k ≡ Some slot)
+    (are : option_map (λ (row : Row). row.cells) (row_of parts k i) ≡ Some cells) where
+  pub cells_long : length slot.names ≡ length cells
+  cells_long = let row = mapped (λ (r : Row). r.cells) (row_of parts k i) cells are in row_long parts table k i row.0 row.1.0 slot at ∙ ap length row.1.1
+
+  pub cells_told : (samples : ℕ → Sample) → cells_shown samples slot.names cells ≡ row_shown parts samples k i
+  cells_told samples =
+      let row = mapped (λ (r : Row). r.cells) (row_of parts k i) cells are in
+      ap (cells_shown samples slot.names) (sym row.1.1) ∙ row_told parts table k i row.0 row.1.0 samples slot at
+
+  pub cells_among : (s : Samples) → FitsTable parts s → All (IsCellAmong s.nodes) cells
+  cells_among s fits =
+      let row = mapped (λ (r : Row). r.cells) (row_of parts k i) cells are in
+      subst (All (IsCellAmong s.nodes)) row.1.1 (row_among parts table k i row.0 row.1.0 s fits)
+
 -- the row of an instance stands where the instance stands
-pub placed_row : (parts : TableParts) (k i place : ℕ) (slot : Slot) (row : Row) → slice_get parts.slots k ≡ Some slot → slice_get (instances_of parts k) place ≡ Some i → slice_get slot.rows place ≡ Some row → row_of parts k i ≡ Some row
-placed_row parts k i place slot row at listed there = row_at parts k slot place i at listed ∙ there
+pub cells_are : (parts : TableParts) → IsTable parts → (k i place : ℕ) (slot : Slot) (rows : List Row) (row : Row) (cells : List Binding) → slice_get parts.slots k ≡ Some slot
+    → slice_get (instances_of parts k) place ≡ Some i → rows ≡ slot.rows → row ≡ get_or rows place row → cells ≡ row.cells → option_map (λ (r : Row). r.cells) (row_of parts k i) ≡ Some cells
+cells_are parts table k i place slot rows row cells at listed er read ec =
+    let count : length (instances_of parts k) ≡ length slot.rows =
+    ap (λ o. length (option_map_or (λ (z : Slot). places z.variant (variants_of parts.instances)) o [])) at ∙ sym (slot_fits parts table k slot at).count in
+    let inside : place < length (instances_of parts k) = slice_get_within (instances_of parts k) place i listed in
+    let within : place < length rows = omega (arith, inside, count, ap length er) in
+    let there : slice_get slot.rows place ≡ Some row = ap (λ (l : List Row). slice_get l place) (sym er) ∙ slice_get_read rows (length rows) place row refl within read in
+    ap (option_map (λ (r : Row). r.cells)) (row_at parts k slot place i at listed ∙ there) ∙ ap (λ c. Some c) (sym ec)

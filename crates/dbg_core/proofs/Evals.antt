@@ -1,5 +1,5 @@
 -- What an expression comes to by a table and a trace is what the machine says of it in a thread.
-use Rattle.std.proofs.Common.{◌≡◌, ℕ, zero, suc, ◌+◌, ◌<◌, ◌&&◌, Bool, true, false, List, [], ◌∷◌, length, Option, Some, None, Result, Ok, Err, refl, sym, ap, ap₂, ◌∙◌, subst, arith, lt-ltb, nat_lt, if◌then◌else◌}
+use Rattle.std.proofs.Common.{◌≡◌, ℕ, ◌/◌, ◌%◌, ◌<◌, ◌&&◌, Bool, true, false, List, [], ◌∷◌, length, Option, Some, None, Result, Ok, Err, refl, sym, ap, ap₂, ◌∙◌, subst, arith, lt-ltb, nat_lt, if◌then◌else◌}
 use Rattle.std.specs.Prelude.{nat_eq, slice_get, Contains, IfOk}
 use Rattle.std.specs.List.{list_any, list_all}
 use Rattle.std.specs.Borrow.{Bor}
@@ -39,7 +39,7 @@ use Rattle.machine_core.specs.Positions.{cycle_at, slot_at}
 use Rattle.machine_core.specs.Reading.{Reading, Condition, NoCondition}
 use Rattle.machine_core.specs.Matching.{value_there}
 use Rattle.machine_core.specs.Arming.{refusal_at, scope_at}
-use Rattle.machine_core.specs.Machine.{sample_of}
+use Rattle.machine_core.specs.Machine.{sample_of, threads_at}
 use Rattle.slot_sched.specs.Arm.{is_ascii, ascii_binding}
 use Rattle.slot_sched.specs.Waiting.{cycle_samples, IsSet, IsValue, IsNodeOf}
 use Rattle.slot_sched.proofs.Matches.{number_told, shown_told}
@@ -47,9 +47,13 @@ use Rattle.slot_sched.proofs.Names.{AreAscii, names_ascii}
 use Rattle.slot_sched.proofs.Scopes.{judged_told, judged_alike, bound_alike}
 use Rattle.slot_sched.proofs.Tests.{each_weaker, wide}
 use Rattle.slot_sched.proofs.Values.{bound_value_is, value_told, node_of}
+use Rattle.slot_sched.specs.Scan.{total_of}
 use Rattle.dbg_core.specs.World.{world_of}
 use Rattle.dbg_core.specs.Answering.{judged_body, read_body, eval_body}
 use Rattle.dbg_core.specs.Eval.{is_refused_so, value_or, expr_body, AreFound, text_body, table_body}
+use Rattle.dbg_core.proofs.Positions.{slots_told}
+use Rattle.dbg_core.proofs.Threads.{cycle_inside, slot_inside}
+use Rattle.dbg_core.proofs.Values.{any_in}
 
 -- ---- names
 
@@ -133,3 +137,16 @@ module _ (parts : TableParts) (table : IsTable parts) (s : Samples) (t k i : ℕ
   read_told (Condition e offsets) =
       by_judged e (judged (scope_of (binding_of parts k i)) e offsets)
       ∙ ap (judged_body (world_of parts s) t k i e) (sym (judged_told parts table s k i among e offsets))
+
+-- at a position, where a trace was set
+pub eval_at_stop : (parts : TableParts) → IsTable parts → (s : Samples) (p : ℕ) → p < total_of parts s → (now : Samples) (cursor : Option ℕ) (slot i : ℕ) → now ≡ s → cursor ≡ Some (p / length parts.slots)
+    → slot ≡ p % length parts.slots → Contains (instances_of parts (p % length parts.slots)) i → list_any (nat_eq i) (threads_at (world_of parts s) p) ≡ true → (reading : Reading)
+    → table_body parts (cycle_samples now cursor) slot i reading ≡ eval_body (world_of parts s) reading (p, i)
+eval_at_stop parts table s p below now cursor slot i en ec ek among thread reading =
+    let inside = cycle_inside s.cycles (length parts.slots) p below in
+    let there = slot_inside s.cycles (length parts.slots) p below in
+    let own : IsIn i ((world_of parts s).threads (p / length parts.slots) (p % length parts.slots)) =
+    any_in i _ (ap (λ n. list_any (nat_eq i) ((world_of parts s).threads (p / n) (p % n))) (sym (slots_told parts s)) ∙ thread) in
+    (λ j. table_body parts (cycle_samples (en j) (ec j)) (ek j) i reading)
+    ∙ read_told parts table s (p / length parts.slots) (p % length parts.slots) i inside there among own reading
+    ∙ ap (λ n. read_body (world_of parts s) (p / n) (p % n) i reading) (sym (slots_told parts s))

@@ -20,6 +20,9 @@ use Rattle.machine_core.specs.Arming.{instance_named, scope_at}
 use Rattle.machine_core.specs.Machine.{Machine, Answer, Outcome, Accepted, Refused, accepted_unless, armed_break, if_idle, if_stopped, at_stop, if_thread, at_thread, position_of, threads_at, threads, values, eval, judged_value, listener, drop_listener, answer_by}
 use Rattle.dbg_core.specs.Answering.{answered, told_of, stand, stand_at, thread_of, thread_there, thread_from, threads_body, values_body, eval_body, judged_body, broken, dropped}
 
+same_Ok : (x y : ℕ × ℕ) → Ok {E = Body} x ≡ Ok y → x ≡ y
+same_Ok x y e = cc
+
 -- ---- at a stop
 
 module _ (w : World) (m : Machine) (id : Option ℕ) where
@@ -70,6 +73,25 @@ module _ (w : World) (m : Machine) (id : Option ℕ) where
 
   pub eval_answered : (path : Name) (reading : Reading) → answered m id (told_of (eval_body w reading) (thread_of w m.motion m.place path)) ≡ answer_by m id (at_thread w m path (λ p i. eval w m p i reading))
   eval_answered path reading = by_going m.motion (instance_named w path) (λ p i. eval w m p i reading) (eval_body w reading) (λ p i. by_reading p i reading)
+
+-- ---- a thread that was found is one
+
+known_there : (w : World) (place p : ℕ) (o : Option ℕ) (q i : ℕ) → Ok (q, i) ≡ thread_there w place p o → list_any (nat_eq i) (threads_at w q) ≡ true
+known_there w place p None q i e = cc
+known_there w place p (Some j) q i e = by_test (list_any (nat_eq j) (threads_at w p)) refl e
+  where
+    by_test : (b : Bool) → list_any (nat_eq j) (threads_at w p) ≡ b → Ok (q, i) ≡ (if b then Ok (p, j) else Err (body.NoStop (at_place w place))) → list_any (nat_eq i) (threads_at w q) ≡ true
+    by_test false f g = cc
+    by_test true f g =
+        let same : (q, i) ≡ (p, j) = same_Ok (q, i) (p, j) g in
+        ap (λ (x : ℕ × ℕ). list_any (nat_eq x.1) (threads_at w x.0)) same ∙ f
+
+known_from : (w : World) (place : ℕ) (named : Option ℕ) (r : Result ℕ Body) (q i : ℕ) → Ok (q, i) ≡ thread_from w place named r → list_any (nat_eq i) (threads_at w q) ≡ true
+known_from w place named (Err refusal) q i e = cc
+known_from w place named (Ok p) q i e = known_there w place p named q i e
+
+pub thread_known : (w : World) (motion : Motion) (place : ℕ) (path : Name) (q i : ℕ) → Ok (q, i) ≡ thread_of w motion place path → list_any (nat_eq i) (threads_at w q) ≡ true
+thread_known w motion place path q i e = known_from w place (instance_named w path) (stand w motion place) q i e
 
 -- ---- breakpoints and listeners
 

@@ -18,7 +18,7 @@ use Rattle.symtab.proofs.Grouped.{length-places_from}
 use Rattle.trace_core.specs.Samples.{Samples}
 use Rattle.trace_core.specs.declared.scan.Seek.{Seek}
 use Rattle.trace_core.specs.declared.scan.Seek.TheVariants as seek
-use Rattle.machine_core.specs.Machine.{note_at, threads_at}
+use Rattle.machine_core.specs.Machine.{note_at, line_at, threads_at}
 use Rattle.machine_core.specs.Positions.{cycle_at, slot_at}
 use Rattle.slot_sched.specs.Waiting.{is_thread, step_stops, any_steps, cycle_samples}
 use Rattle.slot_sched.specs.Scan.{total_of}
@@ -119,3 +119,14 @@ few_by parts (Some slot) = omega (arith, length-places_from 0 slot.variant (vari
 
 pub few_instances : (parts : TableParts) → IsTable parts → (k : ℕ) → length (instances_of parts k) < 2 ^ 32
 few_instances parts table k = let most = few_by parts (slice_get parts.slots k) in let short = table.short_instances in omega (arith, most, short)
+
+-- what is told of a stop
+pub note_told : (parts : TableParts) (s now : Samples) (cursor : Option ℕ) (p cycle k line count : ℕ) (slot : Slot) → p < total_of parts s → slice_get parts.slots k ≡ Some slot
+    → cycle ≡ p / length parts.slots → k ≡ p % length parts.slots → line ≡ slot.line → count ≡ length (slot_threads parts (cycle_samples now cursor) k) → now ≡ s → cursor ≡ Some cycle
+    → (let note : StopNote = record { cycle = cycle; slot = k; line = line; threads = count } in note) ≡ note_at (world_of parts s) p
+note_told parts s now cursor p cycle k line count slot below there ec ek el en es et =
+    let first : cycle ≡ cycle_at (world_of parts s) p = ec ∙ ap (λ n. p / n) (sym (slots_told parts s)) in
+    let second : k ≡ slot_at (world_of parts s) p = ek ∙ ap (λ n. p % n) (sym (slots_told parts s)) in
+    let third = el ∙ sym (line_told parts s k slot there) in
+    let fourth = en ∙ ap length ((λ j. slot_threads parts (cycle_samples (es j) ((et ∙ ap (λ t. Some t) ec) j)) (ek j)) ∙ sym (threads_there parts s p below)) in
+    (λ j. record { cycle = first j; slot = second j; line = third j; threads = fourth j }) ∙ ap (λ n. record { cycle = cycle_at (world_of parts s) p; slot = slot_at (world_of parts s) p; line = line_at (world_of parts s) n; threads = length (threads_at (world_of parts s) p) }) second

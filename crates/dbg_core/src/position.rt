@@ -1,14 +1,13 @@
 //! What a table and a trace tell of a position: where it is told to be, what a stop there is, and its threads.
 
 ghost use Rattle.std.specs.Prelude.{◌≡◌, ◌<◌, ◌≤◌, ◌+◌, ◌/◌, ◌%◌, ◌^◌, All, IfOk, length, map};
-ghost use Rattle.world_core.specs.World.{path_in};
 ghost use Rattle.trace_core.specs.Samples.{Samples};
 ghost use Rattle.trace_world.specs.TraceWorld.{gen_of};
 ghost use Rattle.trace_world.specs.Fitting.{FitsTable};
 ghost use Rattle.machine_core.specs.Positions.{at_place};
 ghost use Rattle.machine_core.specs.Machine.{note_at, line_at, gens_at};
 ghost use Rattle.slot_sched.specs.Scan.{total_of};
-ghost use Rattle.dbg_core.specs.World.{world_of};
+ghost use Rattle.dbg_core.specs.World.{world_of, path_at};
 
 use crate::sampled::{thread_count, threads_of};
 use listen::StopNote;
@@ -98,7 +97,7 @@ pub(crate) fn threads_in<T: Trace>(
 /// The path of an instance.
 fn path_of(alloc: Global, table: &Table, instance: u32) -> Result<Text, NoMemory>
     requires { instance < length table.now.instances }
-    ensures { (s : Samples) → IfOk result (λ path. path ≡ path_in (world_of table.now s) instance) }
+    ensures { IfOk result (λ path. path ≡ path_at table.now instance) }
 {
     let parts = table.parts();
     Text::new(
@@ -114,7 +113,7 @@ pub(crate) fn paths_of(
     instances: &[u32],
 ) -> Result<Vec<Text>, NoMemory>
     requires { All (λ i. i < length table.now.instances) instances.now }
-    ensures { (s : Samples) → IfOk result (λ paths. paths.items ≡ map (path_in (world_of table.now s)) instances.now) }
+    ensures { IfOk result (λ paths. paths.items ≡ map (path_at table.now) instances.now) }
 {
     let mut paths = Vec::new(alloc);
     for instance in instances {

@@ -15,7 +15,7 @@ use slot_sched::{Found, Schedule};
 use std::alloc::Global;
 use symtab::Table;
 use text_core::{NoMemory, Text};
-use trace_core::{Trace, Way};
+use trace_core::{Trace, Want, Way};
 
 /// A turn looks at so many positions.
 const REACH: u64 = 64;
@@ -38,7 +38,7 @@ pub struct Session<T: Trace> {
 
 impl<T: Trace> Session<T> {
     ghost use Rattle.listen.specs.Pairs.{Heard};
-    ghost use Rattle.trace_core.specs.declared.scan.Way.{Way};
+    ghost use Rattle.machine_core.specs.declared.turn.Motion.TheVariants.{Running};
     ghost use Rattle.machine_core.specs.Machine.{Machine, Turn, opening, stopped_at, edge_turn, moved_turn, turn_of};
     ghost use Rattle.machine_core.specs.Journal.{notices_of};
     ghost use Rattle.dbg_core.specs.World.{world_of};
@@ -124,17 +124,13 @@ impl<T: Trace> Session<T> {
         Turned::Moved
     }
 
-    /// One turn. An idle session does nothing. One that runs looks at the next 64 positions: it stops at the nearest that matches, and
-    /// tells each listener that remains; else at the end or the start, if that comes before; else it stands 64 positions further. Takes
-    /// no memory.
-    pub fn turn(&mut self, listeners: &mut Listeners) -> Turned
+    /// A turn of a session that runs.
+    fn run(&mut self, way: Way, want: Want, listeners: &mut Listeners) -> Turned
+        requires { self.old.motion ≡ Running way want }
         ensures table { self.new.table ≡ self.old.table }
         ensures samples { T.samples self.new.trace ≡ T.samples self.old.trace }
         ensures turn { (let turn : Turn = record { after = machine_of self.new (map (option_map (λ b. heard b)) listeners.new.boxes.items); turned = result } in turn) ≡ turn_of (world_of self.old.table (T.samples self.old.trace)) (machine_of self.old (map (option_map (λ b. heard b)) listeners.old.boxes.items)) }
     {
-        let Motion::Running(way, want) = self.motion else {
-            return Turned::Idle;
-        };
         match self
             .schedule
             .search(&self.table, &mut self.trace, self.place, way, want)
@@ -142,6 +138,21 @@ impl<T: Trace> Session<T> {
             Found::At(p) => self.stop(p, listeners),
             Found::Edge => self.stop_at_edge(way),
             Found::Nowhere => self.move_on(way),
+        }
+    }
+
+    /// One turn. An idle session does nothing. One that runs looks at the next 64 positions: it stops at the nearest that matches, and
+    /// tells each listener that remains; else at the end or the start, if that comes before; else it stands 64 positions further. Takes
+    /// no memory.
+    #[tactic(auto, unfolding(machine_core::specs::Machine::turn_of))]
+    pub fn turn(&mut self, listeners: &mut Listeners) -> Turned
+        ensures table { self.new.table ≡ self.old.table }
+        ensures samples { T.samples self.new.trace ≡ T.samples self.old.trace }
+        ensures turn { (let turn : Turn = record { after = machine_of self.new (map (option_map (λ b. heard b)) listeners.new.boxes.items); turned = result } in turn) ≡ turn_of (world_of self.old.table (T.samples self.old.trace)) (machine_of self.old (map (option_map (λ b. heard b)) listeners.old.boxes.items)) }
+    {
+        match self.motion {
+            Motion::Idle => Turned::Idle,
+            Motion::Running(way, want) => self.run(way, want, listeners),
         }
     }
 

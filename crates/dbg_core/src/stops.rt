@@ -148,6 +148,7 @@ pub(crate) fn values_in<T: Trace>(
     requires there { Contains (instances_of table.now slot) instance }
     ensures { IfOk result (λ values. values.items ≡ row_shown table.now (cycle_samples (T.samples trace.now) (T.cursor trace.now)) slot instance) }
 {
+    let _parts = table.parts();
     let cells = cells_of(table, slot, instance);
     values_of(alloc, trace, table.slot(slot).names.items(), cells)
 }
@@ -193,6 +194,7 @@ pub(crate) fn eval_asked<T: Trace>(
     ensures kept { T.samples trace.new ≡ T.samples trace.old }
     ensures body { (read : Reader) → IsReader read → IfOk result (λ body. body ≡ told_of (eval_body (world_of table.now (T.samples trace.old)) (read expr.now)) (thread_of (world_of table.now (T.samples trace.old)) motion place path.now)) }
 {
+    let _parts = table.parts();
     match thread_of(table, trace, motion, place, path) {
         Ok((p, instance)) => {
             let (_, slot) = spot(table, p);
