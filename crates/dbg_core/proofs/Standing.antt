@@ -1,9 +1,10 @@
 -- What is asked at a position is answered as the machine answers it.
 use Rattle.std.proofs.Common.{◌≡◌, ℕ, zero, suc, ◌+◌, ◌++◌, Bool, true, false, not, List, [], ◌∷◌, length, map, filter, Option, Some, None, Result, Ok, Err, if◌then◌else◌, refl, sym, ap, ◌∙◌}
-use Rattle.std.specs.Prelude.{nat_eq, set}
+use Rattle.std.specs.Prelude.{nat_eq, set, OnErr, IfOk}
 use Rattle.std.specs.List.{list_any}
 use Rattle.exec_core.specs.Block.{Name}
 use Rattle.listen.specs.Pairs.{Heard}
+use Rattle.trace_core.specs.Samples.{Samples}
 use Rattle.trace_core.specs.declared.scan.Way.{Way}
 use Rattle.trace_core.specs.declared.scan.Want.{Want}
 use Rattle.world_core.specs.World.{World}
@@ -14,14 +15,19 @@ use Rattle.machine_core.specs.declared.reply.Body.TheVariants as body
 use Rattle.machine_core.specs.declared.turn.Motion.{Motion}
 use Rattle.machine_core.specs.declared.turn.Motion.TheVariants.{Idle, Running}
 use Rattle.machine_core.specs.Positions.{cycle_at, slot_at, at_place}
-use Rattle.machine_core.specs.Reading.{Reading, Condition, NoCondition}
+use Rattle.machine_core.specs.Reading.{Reader, Reading, Condition, NoCondition}
 use Rattle.machine_core.specs.Matching.{Breakpoint}
 use Rattle.machine_core.specs.Arming.{instance_named, scope_at}
 use Rattle.machine_core.specs.Machine.{Machine, Answer, Outcome, Accepted, Refused, accepted_unless, armed_break, if_idle, if_stopped, at_stop, if_thread, at_thread, position_of, threads_at, threads, values, eval, judged_value, listener, drop_listener, answer_by}
 use Rattle.dbg_core.specs.Answering.{answered, told_of, stand, stand_at, thread_of, thread_there, thread_from, threads_body, values_body, eval_body, judged_body, broken, dropped}
 
-same_Ok : (x y : ℕ × ℕ) → Ok {E = Body} x ≡ Ok y → x ≡ y
+same_Ok : {A B : Type 0} (x y : A) → (let r : Result A B = Ok x in r) ≡ Ok y → x ≡ y
 same_Ok x y e = cc
+
+-- what follows of each error holds of one
+pub on_error : {X Y : Type 0} (r : Result X Y) (P Q : Type 0) → (P → Q) → OnErr r P → OnErr r Q
+on_error (Ok x) P Q f h = h
+on_error (Err e) P Q f h = f h
 
 -- ---- at a stop
 
@@ -76,21 +82,22 @@ module _ (w : World) (m : Machine) (id : Option ℕ) where
 
 -- ---- a thread that was found is one
 
-known_there : (w : World) (place p : ℕ) (o : Option ℕ) (q i : ℕ) → Ok (q, i) ≡ thread_there w place p o → list_any (nat_eq i) (threads_at w q) ≡ true
+abbrev found_by : World → (place position instance : ℕ) → Bool → Result (ℕ × ℕ) Body
+found_by w place p i b = if b then Ok (p, i) else Err (body.NoStop (at_place w place))
+
+known_there : (w : World) (place p : ℕ) (o : Option ℕ) (q i : ℕ) → thread_there w place p o ≡ Ok (q, i) → list_any (nat_eq i) (threads_at w q) ≡ true
 known_there w place p None q i e = cc
 known_there w place p (Some j) q i e = by_test (list_any (nat_eq j) (threads_at w p)) refl e
   where
-    by_test : (b : Bool) → list_any (nat_eq j) (threads_at w p) ≡ b → Ok (q, i) ≡ (if b then Ok (p, j) else Err (body.NoStop (at_place w place))) → list_any (nat_eq i) (threads_at w q) ≡ true
+    by_test : (b : Bool) → list_any (nat_eq j) (threads_at w p) ≡ b → found_by w place p j b ≡ Ok (q, i) → list_any (nat_eq i) (threads_at w q) ≡ true
     by_test false f g = cc
-    by_test true f g =
-        let same : (q, i) ≡ (p, j) = same_Ok (q, i) (p, j) g in
-        ap (λ (x : ℕ × ℕ). list_any (nat_eq x.1) (threads_at w x.0)) same ∙ f
+    by_test true f g = ap (λ (x : ℕ × ℕ). list_any (nat_eq x.1) (threads_at w x.0)) (sym (same_Ok {A = ℕ × ℕ} {B = Body} (p, j) (q, i) g)) ∙ f
 
-known_from : (w : World) (place : ℕ) (named : Option ℕ) (r : Result ℕ Body) (q i : ℕ) → Ok (q, i) ≡ thread_from w place named r → list_any (nat_eq i) (threads_at w q) ≡ true
+known_from : (w : World) (place : ℕ) (named : Option ℕ) (r : Result ℕ Body) (q i : ℕ) → thread_from w place named r ≡ Ok (q, i) → list_any (nat_eq i) (threads_at w q) ≡ true
 known_from w place named (Err refusal) q i e = cc
 known_from w place named (Ok p) q i e = known_there w place p named q i e
 
-pub thread_known : (w : World) (motion : Motion) (place : ℕ) (path : Name) (q i : ℕ) → Ok (q, i) ≡ thread_of w motion place path → list_any (nat_eq i) (threads_at w q) ≡ true
+pub thread_known : (w : World) (motion : Motion) (place : ℕ) (path : Name) (q i : ℕ) → thread_of w motion place path ≡ Ok (q, i) → list_any (nat_eq i) (threads_at w q) ≡ true
 thread_known w motion place path q i e = known_from w place (instance_named w path) (stand w motion place) q i e
 
 -- ---- breakpoints and listeners
@@ -108,3 +115,16 @@ pub drop_answered : (m : Machine) (id : Option ℕ) (k : ℕ) (o : Option Heard)
     → answered (record m { heard = (dropped m.heard k o).0 }) id (dropped m.heard k o).1 ≡ answer_by m id (drop_listener m k o)
 drop_answered m id k None = refl
 drop_answered m id k (Some heard) = refl
+
+-- ---- what holds of an answer by each reader
+
+-- a fact of what was made for each reader of conditions, and another of it
+pub ok_for_all : {X Y : Type 0} (r : Result X Y) (R : Reader → Type 0) (P : X → Reader → Type 0) (Q : X → Type 0) → ((x : X) → ((read : Reader) → R read → P x read) → Q x)
+    → ((read : Reader) → R read → IfOk r (λ x. P x read)) → IfOk r Q
+ok_for_all (Ok x) R P Q f h = f x h
+ok_for_all (Err e) R P Q f h = tt
+
+pub ok_for_samples : {X Y : Type 0} (r : Result X Y) (R : Reader → Type 0) (P : X → Reader → Samples → Type 0) (Q : X → Type 0) → ((x : X) → ((read : Reader) (s : Samples) → R read → P x read s) → Q x)
+    → ((read : Reader) (s : Samples) → R read → IfOk r (λ x. P x read s)) → IfOk r Q
+ok_for_samples (Ok x) R P Q f h = f x h
+ok_for_samples (Err e) R P Q f h = tt

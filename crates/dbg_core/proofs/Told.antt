@@ -1,5 +1,5 @@
 -- Loops over lists whose elements have a meaning.
-use Rattle.std.proofs.Common.{◌∷◌, [], Some, None, slice_get, ◌≡◌, ℕ, ◌+◌, ◌<◌, ◌≤◌, List, ◌++◌, length, map, take, drop, set, get_or, refl, ap, ◌∙◌, sym, arith, Option, option_map, Bool, true, false, append-nil}
+use Rattle.std.proofs.Common.{◌∷◌, [], Some, None, slice_get, ◌≡◌, ℕ, ◌+◌, ◌<◌, ◌≤◌, List, ◌++◌, length, map, take, drop, set, get_or, refl, ap, ap₂, ◌∙◌, sym, arith, Option, option_map, Bool, true, false, append-nil}
 use Rattle.std.specs.Prelude.{filter, is_some}
 use Rattle.std.specs.List.{enumerate_from, flat_map}
 use Rattle.std.proofs.lemmas.List.{length-map, map-set, take_more, take_all, map-append}
@@ -7,10 +7,11 @@ use Rattle.std.proofs.lemmas.List.Edits.{map_over_more}
 use Rattle.std.proofs.lemmas.Option.{slice_get_within, get_or_from_slice_get, same_Some}
 use Rattle.std.proofs.Math.ListN.{get_or-map}
 use Rattle.list_core.proofs.Growing.{plain_more}
-use Rattle.list_core.proofs.Listing.{same_get}
+use Rattle.list_core.proofs.Listing.{same_get, some_at}
 use Rattle.listen.specs.Pairs.{Heard}
 use Rattle.machine_core.specs.declared.turn.Notice.{Notice}
 use Rattle.machine_core.specs.declared.turn.Notice.TheVariants as notice
+use Rattle.machine_core.specs.Matching.{Breakpoint}
 use Rattle.machine_core.specs.Machine.{remaining}
 use Rattle.machine_core.specs.Journal.{Line, Noticed, closing_line, closing_lines}
 
@@ -87,3 +88,22 @@ module _ (heard : List (Option Heard)) (k : ℕ) (below : k < length heard) wher
       by_meaning : (o : Option Heard) → get_or heard k None ≡ o → is_some o ≡ false → map (λ n. Noticed n) lines ≡ closing_lines (take (k + 1) heard)
       by_meaning None is e = sym (append-nil (map (λ n. Noticed n) lines)) ∙ line_more (map (λ n. Noticed n) lines) None is inv
       by_meaning (Some h) is e = cc
+
+-- ---- the numbers of breakpoints
+
+number_by : (n : ℕ) (o : Option Breakpoint) → Some n ≡ option_map (λ b. b.number) o → (b : Breakpoint) × ((o ≡ Some b) × (b.number ≡ n))
+number_by n None e = cc
+number_by n (Some b) e = (b, (refl, same_Some b.number n (sym e)))
+
+pub armed_more : (breakpoints : List Breakpoint) (i n : ℕ) (numbers : List ℕ) → Some n ≡ option_map (λ b. b.number) (slice_get breakpoints i) → numbers ≡ map (λ b. b.number) (take i breakpoints)
+    → numbers ++ n ∷ [] ≡ map (λ b. b.number) (take (i + 1) breakpoints)
+armed_more breakpoints i n numbers told inv =
+    let found = number_by n (slice_get breakpoints i) told in
+    let within : i < length breakpoints = slice_get_within breakpoints i found.0 found.1.0 in
+    ap₂ (λ l m. l ++ m ∷ []) inv (sym found.1.1)
+    ∙ sym (ap (map (λ b. b.number)) (take_more breakpoints i found.0 within ∙ ap (λ b. take i breakpoints ++ b ∷ []) (get_or_from_slice_get breakpoints i found.0 found.0 found.1.0)) ∙ map-append (λ b. b.number) (take i breakpoints) (found.0 ∷ []))
+
+pub all_armed : (breakpoints : List Breakpoint) (i : ℕ) (o : Option ℕ) → i < length breakpoints → o ≡ option_map (λ b. b.number) (slice_get breakpoints i) → ((n : ℕ) → o ≡ Some n → ⊥) → ⊥
+all_armed breakpoints i o within told none =
+    let there = some_at breakpoints i within in
+    none there.0.number (told ∙ ap (option_map (λ b. b.number)) there.1)

@@ -122,3 +122,9 @@ no_threads parts s (suc p) at e none = by_test (nat_eq p (position_count (world_
         ap (threads_at (world_of parts s)) last ∙ no_threads_by parts s (length (world_of parts s).slots) (slots_told parts s)
     by_test false f =
         absurd (none (cycle_at (world_of parts s) p) (slot_at (world_of parts s) p) (sym e ∙ ap (λ b. if b then End else Position (cycle_at (world_of parts s) p) (slot_at (world_of parts s) p)) f))
+
+differ : false ≡ true → ⊥
+differ e = cc
+
+pub none_in : (i : ℕ) (xs : List ℕ) → xs ≡ [] → list_any (nat_eq i) xs ≡ true → ⊥
+none_in i xs e h = differ (sym (ap (list_any (nat_eq i)) e) ∙ h)

@@ -1,7 +1,7 @@
 use Rattle.std.proofs.Common.{◌≡◌, ap, sym, subst}
 use Rattle.std.specs.Prelude.{IfOk}
 use Rattle.cond_lang.specs.Faults.{IsCause}
-use Rattle.cond_lang.specs.Reading.{Reads, IsFirstPlace}
+use Rattle.cond_lang.specs.Reading.{Reads}
 use Rattle.cond_lang.specs.TextShown.{text_expr, text_offsets}
 use Rattle.slot_sched.specs.Waiting.{cycle_samples}
 use Rattle.slot_sched.proofs.Readings.{read_once, read_never}
@@ -21,5 +21,5 @@ returns-in-Ok g c = λ read reader.
 pub returns-in-Err-At : goal.returns-in-Err-At
 returns-in-Err-At g c = λ read reader.
     let samples = cycle_samples (g.T.Trace.samples c.args.trace.now) (g.T.Trace.cursor c.args.trace.now) in
-    let cause = subst (λ bytes. IsFirstPlace bytes _) c.as_bytes.ensures.value (subst (IsCause c.as_bytes.result.now) c.in-Err-At.field-0-is c.in-Err-At.ensures.refused) in
-    ap (table_body c.args.table.now samples c.args.slot c.args.instance) (sym (read_never read reader c.args.text.now _ cause))
+    let cause = subst (λ bytes. IsCause bytes c.in-Err-At.field-0) c.as_bytes.ensures.value c.in-Err-At.ensures.refused in
+    ap (table_body c.args.table.now samples c.args.slot c.args.instance) (sym (read_never read reader c.args.text.now _ (subst (IsCause c.args.text.now) c.in-Err-At.field-0-is cause)))
