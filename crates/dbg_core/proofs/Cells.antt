@@ -1,7 +1,7 @@
 -- What the row of an instance has for the names of a slot is what the machine shows of them.
-use Rattle.std.proofs.Common.{◌≡◌, ℕ, zero, suc, ◌+◌, ◌<◌, ◌≤◌, ◌%◌, ◌/◌, ◌&&◌, Bool, true, false, true≢false, cond, List, [], ◌∷◌, length, map, Option, Some, None, option_map, position, bytes_eq, refl, sym, ap, ap₂, ◌∙◌, subst, arith, lt-ltb, nat_lt, not}
+use Rattle.std.proofs.Common.{◌≡◌, ℕ, zero, suc, ◌+◌, ◌<◌, false, true≢false, cond, List, [], ◌∷◌, length, map, Option, Some, None, option_map, position, bytes_eq, refl, sym, ap, ap₂, ◌∙◌, subst, arith, lt-ltb, nat_lt, not}
 use Rattle.std.specs.Prelude.{slice_get, option_and_then, get_or, All}
-use Rattle.std.specs.List.{position_or_len, IsDistinct, AllByRecursion, list_any}
+use Rattle.std.specs.List.{position_or_len, IsDistinct, AllByRecursion}
 use Rattle.std.specs.Option.{option_map_or}
 use Rattle.std.proofs.lemmas.Bool.{false_from_ne_true}
 use Rattle.std.proofs.lemmas.List.{length-map}
@@ -15,24 +15,20 @@ use Rattle.bv_core.specs.declared.reference.Ref.{Ref}
 use Rattle.bv_core.specs.declared.reference.Ref.TheVariants.{Node, Const}
 use Rattle.bv_core.specs.declared.reference.Sample.{Sample}
 use Rattle.exec_core.specs.Block.{Name}
-use Rattle.list_core.specs.Lists.{IsIn}
-use Rattle.list_core.proofs.Listing.{got_in}
 use Rattle.symtab.specs.declared.parts.NodeName.{NodeName}
 use Rattle.symtab.specs.declared.parts.Row.{Row}
 use Rattle.symtab.specs.declared.parts.Slot.{Slot}
 use Rattle.symtab.specs.declared.parts.TableParts.{TableParts}
-use Rattle.symtab.specs.Shape.{IsFound, IsCell, IsRow, IsTable, variants_of}
+use Rattle.symtab.specs.Shape.{IsFound, IsCell, IsTable, variants_of}
 use Rattle.symtab.specs.Places.{places}
 use Rattle.symtab.specs.Lookups.{instances_of, row_of, binding_of}
 use Rattle.symtab.proofs.Rows.{row_at, row_fits, slot_fits}
 use Rattle.trace_core.specs.Samples.{Samples}
 use Rattle.trace_world.specs.Fitting.{FitsTable}
-use Rattle.world_core.specs.World.{Shows}
-use Rattle.trace_world.specs.TraceWorld.{binding_shown, shows_by}
+use Rattle.trace_world.specs.TraceWorld.{binding_shown}
 use Rattle.machine_core.specs.declared.reply.Shown.{Shown}
-use Rattle.machine_core.specs.Machine.{told, shown_there, names_at}
-use Rattle.dbg_core.specs.World.{world_of}
-use Rattle.dbg_core.specs.Shown.{IsAmong, IsCellAmong, cell_shown, cells_shown, names_of, named_shown, row_shown}
+use Rattle.machine_core.specs.Machine.{told}
+use Rattle.dbg_core.specs.Shown.{IsAmong, IsCellAmong, cells_shown, names_of, named_shown, row_shown}
 
 -- ---- names that differ
 

@@ -1,9 +1,7 @@
 -- What an expression comes to by a table and a trace is what the machine says of it in a thread.
-use Rattle.std.proofs.Common.{◌≡◌, ℕ, ◌/◌, ◌%◌, ◌<◌, ◌&&◌, Bool, true, false, List, [], ◌∷◌, length, Option, Some, None, Result, Ok, Err, refl, sym, ap, ap₂, ◌∙◌, subst, arith, lt-ltb, nat_lt, if◌then◌else◌}
-use Rattle.std.specs.Prelude.{nat_eq, slice_get, Contains, IfOk}
+use Rattle.std.proofs.Common.{◌≡◌, ℕ, ◌/◌, ◌%◌, ◌<◌, ◌&&◌, true, List, [], ◌∷◌, length, Option, Some, None, Result, Ok, Err, refl, sym, ap, ap₂, ◌∙◌, subst, lt-ltb, if◌then◌else◌}
+use Rattle.std.specs.Prelude.{nat_eq, Contains, IfOk}
 use Rattle.std.specs.List.{list_any, list_all}
-use Rattle.std.specs.Borrow.{Bor}
-use Rattle.std.specs.Fn.{Shared}
 use Rattle.bv_core.specs.Value.{Bits}
 use Rattle.bv_core.specs.declared.Binding.{Binding}
 use Rattle.bv_core.specs.declared.NodeId.{NodeId}
@@ -22,35 +20,35 @@ use Rattle.trace_core.specs.Samples.{Samples}
 use Rattle.trace_world.specs.TraceWorld as world
 use Rattle.trace_world.specs.Fitting.{FitsTable}
 use Rattle.world_core.specs.World.{value_shown}
-use Rattle.cond_lang.specs.declared.cond.Cond.{Cond}
+use Rattle.cond_lang.specs.declared.fault.CondFault.{CondFault}
+use Rattle.cond_lang.specs.declared.fault.CondFault.TheVariants as cond_faults
 use Rattle.cond_lang.specs.declared.text.CondText.{CondText}
 use Rattle.cond_lang.specs.Bound as bound
 use Rattle.cond_lang.specs.Bound.{scope_of, ref_or_nought, bound_by, bound_value, EachNode, HasWidth}
+use Rattle.cond_lang.specs.Faults.{IsCause}
 use Rattle.cond_lang.specs.Judged.{Refusal, judged}
 use Rattle.cond_lang.specs.Meaning as cond
 use Rattle.cond_lang.specs.Meaning.{tree_of, leaves}
 use Rattle.cond_lang.specs.Reading.{Reads}
-use Rattle.cond_lang.specs.Shown.{cond_tree, cond_width}
 use Rattle.cond_lang.specs.TextShown.{text_expr, text_offsets}
 use Rattle.cond_lang.proofs.Nodes.{each_place}
 use Rattle.machine_core.specs.declared.reply.Body.{Body}
 use Rattle.machine_core.specs.declared.reply.Body.TheVariants as body
-use Rattle.machine_core.specs.Positions.{cycle_at, slot_at}
-use Rattle.machine_core.specs.Reading.{Reading, Condition, NoCondition}
+use Rattle.machine_core.specs.Reading.{Reading, Condition, NoCondition, Reader, IsReader}
 use Rattle.machine_core.specs.Matching.{value_there}
-use Rattle.machine_core.specs.Arming.{refusal_at, scope_at}
 use Rattle.machine_core.specs.Machine.{sample_of, threads_at}
 use Rattle.slot_sched.specs.Arm.{is_ascii, ascii_binding}
 use Rattle.slot_sched.specs.Waiting.{cycle_samples, IsSet, IsValue, IsNodeOf}
-use Rattle.slot_sched.proofs.Matches.{number_told, shown_told}
+use Rattle.slot_sched.proofs.Matches.{shown_told}
 use Rattle.slot_sched.proofs.Names.{AreAscii, names_ascii}
+use Rattle.slot_sched.proofs.Readings.{read_never}
 use Rattle.slot_sched.proofs.Scopes.{judged_told, judged_alike, bound_alike}
 use Rattle.slot_sched.proofs.Tests.{each_weaker, wide}
 use Rattle.slot_sched.proofs.Values.{bound_value_is, value_told, node_of}
 use Rattle.slot_sched.specs.Scan.{total_of}
 use Rattle.dbg_core.specs.World.{world_of}
 use Rattle.dbg_core.specs.Answering.{judged_body, read_body, eval_body}
-use Rattle.dbg_core.specs.Eval.{is_refused_so, value_or, expr_body, AreFound, text_body, table_body}
+use Rattle.dbg_core.specs.Eval.{is_refused_so, is_unread_so, value_or, AreFound, text_body, table_body}
 use Rattle.dbg_core.proofs.Positions.{slots_told}
 use Rattle.dbg_core.proofs.Threads.{cycle_inside, slot_inside}
 use Rattle.dbg_core.proofs.Values.{any_in}
@@ -120,6 +118,13 @@ pub unbound_body : (parts : TableParts) (samples : ℕ → Sample) (k i : ℕ) (
 unbound_body parts samples k i text r found h =
     refused_ok r (judged (scope_of (binding_of parts k i)) (text_expr text) (text_offsets text)) samples (binding_of parts k i) k (text_expr text)
     (subst (λ j. IfOk r (is_refused_so k j)) (judged_alike (ascii_binding parts k i) (binding_of parts k i) (text_expr text) (text_offsets text) found) h)
+
+-- a text that is none
+pub unread_body : (parts : TableParts) (samples : ℕ → Sample) (k i : ℕ) (read : Reader) → IsReader read → (text : List ℕ) (fault : CondFault) (r : Result Body NoMemory) → IsCause text fault
+    → IfOk r (is_unread_so fault) → IfOk r (λ told. told ≡ table_body parts samples k i (read text))
+unread_body parts samples k i read reader text (cond_faults.At offset) (Ok told) cause h = h ∙ ap (table_body parts samples k i) (sym (read_never read reader text offset cause))
+unread_body parts samples k i read reader text cond_faults.NoMemory (Ok told) cause h = absurd h
+unread_body parts samples k i read reader text fault (Err end) cause h = tt
 
 -- ---- in a thread
 

@@ -1,10 +1,10 @@
 -- That breakpoints are those of a table holds in one way at most, up to where an instance is listed; so where it is merely known, it is
 -- known.
-use Rattle.std.proofs.Common.{◌≡◌, ℕ, zero, suc, ◌+◌, ◌<◌, ◌||◌, Bool, true, false, List, [], ◌∷◌, length, map, Option, Some, None, Result, Ok, refl, sym, ap, ◌∙◌, arith, eqb-true, inl, inr}
-use Rattle.std.specs.Prelude.{nat_eq, slice_get, All, Contains}
+use Rattle.std.proofs.Common.{◌≡◌, ℕ, suc, ◌<◌, true, List, [], ◌∷◌, length, map, Option, Some, None, sym, ap, ◌∙◌, arith, eqb-true, inl, inr}
+use Rattle.std.specs.Prelude.{nat_eq, All, Contains}
 use Rattle.std.specs.List.{list_any}
 use Rattle.std.specs.Coded.{×_prop}
-use Rattle.std.proofs.Math.Logic.{∥∥₁_elim, ∥∥₁_prop}
+use Rattle.std.proofs.Math.Logic.{∥∥₁_elim}
 use Rattle.std.proofs.Props.{props}
 use Rattle.std.proofs.lemmas.List.Elements.{All-weaker}
 use Rattle.std.proofs.lemmas.Option.{slice_get-get_or}

@@ -1,25 +1,21 @@
 -- What a table and a trace tell of a position is what the machine tells of it.
-use Rattle.std.proofs.Common.{◌≡◌, ℕ, zero, suc, ◌+◌, ◌-◌, ◌*◌, ◌/◌, ◌%◌, ◌<◌, ◌≤◌, ◌&&◌, Bool, true, false, List, [], ◌∷◌, length, map, Option, Some, None, Result, Ok, Err, option_map, nat_lt, if◌then◌else◌, refl, sym, ap, ap₂, ◌∙◌, subst, arith, lt-ltb, inl, inr}
+use Rattle.std.proofs.Common.{◌≡◌, ℕ, zero, suc, ◌+◌, ◌-◌, ◌*◌, ◌/◌, ◌%◌, ◌<◌, ◌≤◌, Bool, true, false, List, [], ◌∷◌, length, map, Some, None, option_map, if◌then◌else◌, refl, sym, ap, ap₂, ◌∙◌, subst, arith, lt-ltb}
 use Rattle.std.specs.Prelude.{slice_get, nat_eq, unwrap_or}
-use Rattle.std.proofs.lemmas.Bool.{le-ltb, eq-eqb, ltb-true}
+use Rattle.std.proofs.lemmas.Bool.{le-ltb, eq-eqb}
 use Rattle.std.proofs.lemmas.Bool.Decides.{nat_tests}
 use Rattle.std.proofs.lemmas.List.{length-map}
 use Rattle.list_core.proofs.Listing.{get_map}
-use Rattle.listen.specs.declared.note.StopNote.{StopNote}
 use Rattle.symtab.specs.declared.parts.Slot.{Slot}
 use Rattle.symtab.specs.declared.parts.TableParts.{TableParts}
 use Rattle.trace_core.specs.Samples.{Samples}
 use Rattle.world_core.specs.World.{World, Shows}
 use Rattle.trace_world.specs.TraceWorld.{gen_of, shows_by}
 use Rattle.machine_core.specs.declared.reply.At.{At}
-use Rattle.machine_core.specs.declared.reply.At.TheVariants.{Start, End, Position}
-use Rattle.machine_core.specs.declared.reply.Body.{Body}
-use Rattle.machine_core.specs.declared.reply.Body.TheVariants as body
-use Rattle.machine_core.specs.Positions.{position_count, cycle_at, slot_at, end_place, at_place}
-use Rattle.machine_core.specs.Machine.{line_at, threads_at, note_at, gens_at, names_at, position_of}
+use Rattle.machine_core.specs.declared.reply.At.TheVariants.{End, Position}
+use Rattle.machine_core.specs.Positions.{position_count, cycle_at, slot_at, at_place}
+use Rattle.machine_core.specs.Machine.{line_at, gens_at, position_of}
 use Rattle.slot_sched.specs.Scan.{total_of}
 use Rattle.dbg_core.specs.World.{world_of}
-use Rattle.dbg_core.specs.Answering.{stand_at, threads_of}
 
 -- ---- how many there are
 

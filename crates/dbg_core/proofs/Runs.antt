@@ -1,10 +1,10 @@
 -- The turns of a run, one after another, until the machine is idle: for the loops of those who drive a session.
-use Rattle.std.proofs.Common.{◌≡◌, ℕ, zero, suc, ◌+◌, ◌≤◌, List, [], ◌++◌, refl, sym, ap, ◌∙◌, subst, arith, add-one}
+use Rattle.std.proofs.Common.{◌≡◌, ℕ, zero, suc, ◌+◌, ◌≤◌, [], refl, sym, ap, ◌∙◌, add-one}
 use Rattle.world_core.specs.World.{World}
 use Rattle.machine_core.specs.declared.turn.Motion.TheVariants.{Idle}
 use Rattle.machine_core.specs.Positions.{position_count, end_place}
 use Rattle.machine_core.specs.Machine.{Machine, Turn, turn_of}
-use Rattle.machine_core.specs.Journal.{Line, notices_of, Ran, behind, turns_from, until_idle}
+use Rattle.machine_core.specs.Journal.{notices_of, Ran, behind, turns_from, until_idle}
 use Rattle.machine_core.proofs.Ends.{batches_end}
 use Rattle.dbg_core.proofs.Turns.{rests}
 

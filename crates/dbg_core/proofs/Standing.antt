@@ -1,12 +1,10 @@
 -- What is asked at a position is answered as the machine answers it.
-use Rattle.std.proofs.Common.{◌≡◌, ℕ, zero, suc, ◌+◌, ◌++◌, Bool, true, false, not, List, [], ◌∷◌, length, map, filter, Option, Some, None, Result, Ok, Err, if◌then◌else◌, refl, sym, ap, ◌∙◌}
-use Rattle.std.specs.Prelude.{nat_eq, set, OnErr, IfOk}
+use Rattle.std.proofs.Common.{◌≡◌, ℕ, Bool, true, false, List, Option, Some, None, Result, Ok, Err, if◌then◌else◌, refl, sym, ap, ◌∙◌}
+use Rattle.std.specs.Prelude.{nat_eq, OnErr, IfOk}
 use Rattle.std.specs.List.{list_any}
 use Rattle.exec_core.specs.Block.{Name}
 use Rattle.listen.specs.Pairs.{Heard}
 use Rattle.trace_core.specs.Samples.{Samples}
-use Rattle.trace_core.specs.declared.scan.Way.{Way}
-use Rattle.trace_core.specs.declared.scan.Want.{Want}
 use Rattle.world_core.specs.World.{World}
 use Rattle.cond_lang.specs.Judged.{Refusal, judged}
 use Rattle.gen_tree.specs.Tree.{Expr}
@@ -18,7 +16,7 @@ use Rattle.machine_core.specs.Positions.{cycle_at, slot_at, at_place}
 use Rattle.machine_core.specs.Reading.{Reader, Reading, Condition, NoCondition}
 use Rattle.machine_core.specs.Matching.{Breakpoint}
 use Rattle.machine_core.specs.Arming.{instance_named, scope_at}
-use Rattle.machine_core.specs.Machine.{Machine, Answer, Outcome, Accepted, Refused, accepted_unless, armed_break, if_idle, if_stopped, at_stop, if_thread, at_thread, position_of, threads_at, threads, values, eval, judged_value, listener, drop_listener, answer_by}
+use Rattle.machine_core.specs.Machine.{Machine, Outcome, Refused, accepted_unless, armed_break, if_idle, if_stopped, at_stop, if_thread, at_thread, position_of, threads_at, threads, values, eval, judged_value, drop_listener, answer_by}
 use Rattle.dbg_core.specs.Answering.{answered, told_of, stand, stand_at, thread_of, thread_there, thread_from, threads_body, values_body, eval_body, judged_body, broken, dropped}
 
 same_Ok : {A B : Type 0} (x y : A) → (let r : Result A B = Ok x in r) ≡ Ok y → x ≡ y

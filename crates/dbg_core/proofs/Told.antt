@@ -1,5 +1,5 @@
 -- Loops over lists whose elements have a meaning.
-use Rattle.std.proofs.Common.{◌∷◌, [], Some, None, slice_get, ◌≡◌, ℕ, ◌+◌, ◌<◌, ◌≤◌, List, ◌++◌, length, map, take, drop, set, get_or, refl, ap, ap₂, ◌∙◌, sym, arith, Option, option_map, Bool, true, false, append-nil}
+use Rattle.std.proofs.Common.{◌∷◌, [], Some, None, slice_get, ◌≡◌, ℕ, ◌+◌, ◌<◌, ◌≤◌, List, ◌++◌, length, map, take, drop, set, get_or, refl, ap, ap₂, ◌∙◌, sym, Option, option_map, true, false, append-nil}
 use Rattle.std.specs.Prelude.{filter, is_some}
 use Rattle.std.specs.List.{enumerate_from, flat_map}
 use Rattle.std.proofs.lemmas.List.{length-map, map-set, take_more, take_all, map-append}

@@ -1,7 +1,6 @@
 -- A turn does what its search finds.
-use Rattle.std.proofs.Common.{◌≡◌, ℕ, zero, suc, ◌+◌, ◌-◌, ◌*◌, ◌<◌, ◌≤◌, min, Bool, true, false, List, length, map, take, Option, Some, None, find, option_map, nat_lt, if◌then◌else◌, refl, sym, ap, ap₂, ◌∙◌, subst, arith}
+use Rattle.std.proofs.Common.{◌≡◌, ℕ, ◌+◌, ◌≤◌, Bool, true, false, List, length, Option, Some, None, refl, sym, ap, ◌∙◌, subst, arith}
 use Rattle.std.proofs.lemmas.Bool.Decides.{nat_tests}
-use Rattle.listen.specs.Pairs.{Heard, after}
 use Rattle.symtab.specs.declared.parts.TableParts.{TableParts}
 use Rattle.trace_core.specs.Samples.{Samples}
 use Rattle.trace_core.specs.declared.scan.Way.{Way}
@@ -10,9 +9,9 @@ use Rattle.trace_core.specs.declared.scan.Want.{Want}
 use Rattle.world_core.specs.World.{World}
 use Rattle.machine_core.specs.declared.turn.Motion.TheVariants.{Idle, Running}
 use Rattle.machine_core.specs.declared.turn.Turned.TheVariants as turned
-use Rattle.machine_core.specs.Positions.{position_count, end_place, ahead}
+use Rattle.machine_core.specs.Positions.{position_count, ahead}
 use Rattle.machine_core.specs.Matching.{Breakpoint}
-use Rattle.machine_core.specs.Machine.{Machine, Turn, edge_turn, moved_turn, turn_of, turn_by}
+use Rattle.machine_core.specs.Machine.{Machine, Turn, turn_of, turn_by}
 use Rattle.machine_core.proofs.Ends.{length_ahead, ahead_length}
 use Rattle.slot_sched.specs.declared.found.Found.{Found}
 use Rattle.slot_sched.specs.declared.found.Found.TheVariants as found

@@ -1,18 +1,16 @@
 -- What names show in a thread, and which instance is one.
-use Rattle.std.proofs.Common.{◌≡◌, ℕ, zero, suc, ◌+◌, ◌-◌, ◌≤◌, ◌*◌, ◌/◌, ◌%◌, ◌<◌, Bool, true, false, List, [], ◌∷◌, length, map, filter, Option, Some, None, Result, Ok, Err, option_map, if◌then◌else◌, refl, sym, ap, ◌∙◌, subst, arith, eqb-true}
+use Rattle.std.proofs.Common.{◌≡◌, ℕ, zero, suc, ◌+◌, ◌-◌, ◌≤◌, ◌*◌, ◌/◌, ◌%◌, ◌<◌, Bool, true, false, List, [], length, map, filter, Option, Some, None, Ok, Err, option_map, if◌then◌else◌, refl, sym, ap, ◌∙◌, subst, arith, eqb-true}
 use Rattle.std.specs.Prelude.{slice_get, nat_eq, unwrap_or, Contains}
 use Rattle.std.specs.List.{list_any}
 use Rattle.std.proofs.Math.Nat.{mul-div_cancel}
 use Rattle.std.proofs.lemmas.Option.{slice_get-map, slice_get-get_or}
-use Rattle.bv_core.specs.declared.Sample.{Sample}
-use Rattle.exec_core.specs.Block.{Name}
 use Rattle.list_core.specs.Lists.{IsIn}
 use Rattle.list_core.proofs.Listing.{got_in, filter_from}
 use Rattle.symtab.specs.declared.parts.Slot.{Slot}
 use Rattle.symtab.specs.declared.parts.TableParts.{TableParts}
-use Rattle.symtab.specs.Lookups.{instances_of, binding_of}
+use Rattle.symtab.specs.Lookups.{instances_of}
 use Rattle.trace_core.specs.Samples.{Samples}
-use Rattle.world_core.specs.World.{World, Shows}
+use Rattle.world_core.specs.World.{Shows}
 use Rattle.trace_world.specs.TraceWorld.{shows_by}
 use Rattle.machine_core.specs.declared.reply.At.{At}
 use Rattle.machine_core.specs.declared.reply.At.TheVariants.{Start, End, Position}
@@ -24,7 +22,7 @@ use Rattle.slot_sched.specs.Scan.{total_of}
 use Rattle.slot_sched.proofs.Matches.{number_told, shown_told}
 use Rattle.dbg_core.specs.World.{world_of}
 use Rattle.dbg_core.specs.Answering.{threads_of, values_of, thread_there}
-use Rattle.dbg_core.specs.Shown.{names_of, row_shown, slot_threads}
+use Rattle.dbg_core.specs.Shown.{names_of, row_shown}
 use Rattle.dbg_core.proofs.Own.{any_listed}
 use Rattle.dbg_core.proofs.Positions.{slots_told, place_behind, stands_at, stands_so}
 use Rattle.dbg_core.proofs.Threads.{thread_is, threads_there, no_slot, no_cycle, cycle_inside, slot_inside}

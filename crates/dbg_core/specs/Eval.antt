@@ -9,6 +9,8 @@ use Rattle.symtab.specs.declared.parts.TableParts.{TableParts}
 use Rattle.symtab.specs.Lookups.{binding_of}
 use Rattle.trace_world.specs.TraceWorld as world
 use Rattle.cond_lang.specs.declared.text.CondText.{CondText}
+use Rattle.cond_lang.specs.declared.fault.CondFault.{CondFault}
+use Rattle.cond_lang.specs.declared.fault.CondFault.TheVariants as cond_faults
 use Rattle.cond_lang.specs.Bound.{scope_of}
 use Rattle.cond_lang.specs.Judged.{Refusal, judged}
 use Rattle.cond_lang.specs.Meaning as cond
@@ -25,6 +27,11 @@ use Rattle.slot_sched.specs.Arm.{ascii_binding}
 abbrev pub is_refused_so : ℕ → Result ℕ Refusal → Body → Type 0
 is_refused_so k (Ok width) told = ⊥
 is_refused_so k (Err refusal) told = told ≡ refusal_at k refusal
+
+-- what is answered where a text is none
+abbrev pub is_unread_so : CondFault → Body → Type 0
+is_unread_so (cond_faults.At offset) told = told ≡ body.BadCondAt offset
+is_unread_so cond_faults.NoMemory told = ⊥
 
 -- its value, where names stand for this
 abbrev pub value_or : (ℕ → Sample) → (Name → Option Binding) → ℕ → Expr → Result ℕ Refusal → Body

@@ -12,7 +12,7 @@ ghost use Rattle.cond_lang.specs.TextShown.{text_expr, text_offsets};
 ghost use Rattle.machine_core.specs.Reading.{Reader, IsReader};
 ghost use Rattle.slot_sched.specs.Arm.{is_ascii, ascii_binding};
 ghost use Rattle.slot_sched.specs.Waiting.{cycle_samples, IsSet, IsValue, IsNodeOf};
-ghost use Rattle.dbg_core.specs.Eval.{AreFound, text_body, table_body, is_refused_so};
+ghost use Rattle.dbg_core.specs.Eval.{AreFound, text_body, table_body, is_refused_so, is_unread_so};
 
 use bv_core::{Binding, NodeId, Sample};
 use cond_lang::{BindEnd, Cond, CondFault, CondText, bind, read_cond, value_of};
@@ -55,6 +55,16 @@ fn refusal(end: BindEnd, slot: u32) -> Result<Body, NoMemory>
         BindEnd::Unset { name } => Ok(Body::CondUnset { name, slot }),
         BindEnd::Width { offset } => Ok(Body::BadCondAt { offset }),
         BindEnd::NoMemory => Err(NoMemory),
+    }
+}
+
+/// Why a text is no expression.
+fn unread(fault: CondFault) -> Result<Body, NoMemory>
+    ensures { IfOk result (is_unread_so fault) }
+{
+    match fault {
+        CondFault::At { offset } => Ok(Body::BadCondAt { offset }),
+        CondFault::NoMemory => Err(NoMemory),
     }
 }
 
@@ -131,7 +141,6 @@ pub(crate) fn eval_in<T: Trace>(
 {
     match read_cond(alloc, text.as_bytes()) {
         Ok(text) => bound(alloc, table, trace, slot, instance, &text),
-        Err(CondFault::At { offset }) => Ok(Body::BadCondAt { offset }),
-        Err(CondFault::NoMemory) => Err(NoMemory),
+        Err(fault) => unread(fault),
     }
 }

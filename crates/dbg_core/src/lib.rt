@@ -17,7 +17,7 @@
 //!
 //! What each call answers and leaves is that of the machine of `machine_core`, over the world of the table and the trace:
 //! `specs/State.antt` says which state of the machine a session and its listeners have. A request that finds no memory leaves that
-//! state as it was; no other call but for what is printed takes memory.
+//! state as it was, and so does each call that only tells. A turn takes no memory.
 #![tactic(auto)]
 
 mod arming;

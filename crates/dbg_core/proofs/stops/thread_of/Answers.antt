@@ -1,4 +1,4 @@
-use Rattle.std.proofs.Common.{◌<◌, ◌/◌, true, false, Some, Ok, Err, length, sym, subst, ap, ◌∙◌}
+use Rattle.std.proofs.Common.{◌<◌, true, false, Some, Err, length, sym, subst, ap, ◌∙◌}
 use Rattle.machine_core.specs.declared.reply.Body.TheVariants as body
 use Rattle.machine_core.specs.Positions.{at_place}
 use Rattle.machine_core.specs.Arming.{instance_named}

@@ -1,4 +1,4 @@
-use Rattle.std.proofs.Common.{◌≡◌, ◌<◌, Option, map, option_map, length, sym, ◌∙◌, subst, ap}
+use Rattle.std.proofs.Common.{◌<◌, map, option_map, length, sym, ◌∙◌, subst, ap}
 use Rattle.machine_core.specs.Journal.{Noticed}
 use Rattle.dbg_core.proofs.Told.{closes_more, closes_same}
 use Rattle.dbg_core.proofs.listeners.Listeners.closing_lines.Goals.{then-has+in_ok-line+in_ok-push, else-has}

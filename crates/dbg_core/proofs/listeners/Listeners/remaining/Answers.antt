@@ -1,5 +1,5 @@
-use Rattle.std.proofs.Common.{◌≡◌, ◌<◌, ◌≤◌, Option, map, option_map, length, sym, ◌∙◌, arith, subst, ap}
-use Rattle.dbg_core.proofs.Told.{left_numbers, remaining_is, remains_more, remains_same}
+use Rattle.std.proofs.Common.{◌<◌, ◌≤◌, map, option_map, length, sym, ◌∙◌, subst, ap}
+use Rattle.dbg_core.proofs.Told.{remaining_is, remains_more, remains_same}
 use Rattle.dbg_core.proofs.listeners.Listeners.remaining.Goals.{then-has+in_ok-push, else-has}
 use Rattle.dbg_core.proofs.listeners.Listeners.remaining.Goals as goal
 

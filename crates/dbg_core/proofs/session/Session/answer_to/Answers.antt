@@ -1,4 +1,4 @@
-use Rattle.std.proofs.Common.{Option, map, option_map, sym, ap, ◌∙◌}
+use Rattle.std.proofs.Common.{map, option_map, sym, ap, ◌∙◌}
 use Rattle.std.proofs.lemmas.Result.{IfOk-weaker}
 use Rattle.machine_core.specs.Machine.{asked_outcome, answer_by}
 use Rattle.dbg_core.specs.World.{world_of}

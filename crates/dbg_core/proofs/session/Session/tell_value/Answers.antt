@@ -1,5 +1,4 @@
 use Rattle.std.proofs.Common.{ap, ap₂, ◌∙◌}
-use Rattle.std.proofs.lemmas.Result.{IfOk-weaker}
 use Rattle.machine_core.specs.Reading.{IsReader}
 use Rattle.dbg_core.specs.World.{world_of}
 use Rattle.dbg_core.specs.State.{counted_as}

@@ -1,4 +1,4 @@
-use Rattle.std.proofs.Common.{◌≡◌, true, rules, refl, sym, subst, ◌∙◌, inl, inr}
+use Rattle.std.proofs.Common.{◌≡◌, true, rules, sym, subst, ◌∙◌, inl, inr}
 use Rattle.std.specs.Prelude.{IfOk, nat_eq}
 use Rattle.std.specs.List.{list_any}
 use Rattle.machine_core.specs.declared.reply.At.TheVariants.{Start, End}
