@@ -1,0 +1,11 @@
+pub mod Cells
+pub mod Evals
+pub mod Own
+pub mod Positions
+pub mod Runs
+pub mod Standing
+pub mod Threads
+pub mod Told
+pub mod Trees
+pub mod Turns
+pub mod Values

@@ -1,0 +1,11 @@
+use Rattle.std.proofs.Common.{[], ◌∷◌, map, ap, ◌∙◌}
+use Rattle.machine_core.specs.declared.turn.Notice.TheVariants as notice
+use Rattle.machine_core.specs.Journal.{Noticed}
+use Rattle.dbg_core.specs.World.{path_at}
+use Rattle.dbg_core.proofs.notices.stopped.Goals as goal
+
+pub returns-clause-lines : goal.returns-clause-lines
+returns-clause-lines g c =
+    let gens = c.new.ensures ∙ c.in_ok-gens.ensures (g.T.Trace.samples c.args.trace.now) in
+    let paths = c.new-2.ensures ∙ c.in_ok-paths.ensures ∙ ap (map (path_at c.args.table.now)) (c.deref.ensures.value ∙ c.in_ok-threads.ensures.threads) in
+    (λ j. Noticed (notice.Stopped c.args.note (gens j) (paths j)) ∷ [])

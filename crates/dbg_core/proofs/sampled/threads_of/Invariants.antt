@@ -1,0 +1,9 @@
+use Rattle.std.proofs.Common.{◌≡◌, ◌<◌, All, length, filter, take}
+use Rattle.symtab.specs.Lookups.{instances_of}
+use Rattle.slot_sched.specs.Waiting.{cycle_samples, is_thread}
+use Rattle.dbg_core.proofs.sampled.threads_of.Given as goal
+
+abbrev pub invariant-loop-instance : goal.invariant-loop-instance
+invariant-loop-instance g l =
+    (l.threads.items ≡ filter (is_thread l.table (cycle_samples (g.T.Trace.samples l.trace) (g.T.Trace.cursor l.trace)) l.slot) (take l.instance-index (instances_of l.table l.slot)))
+    × All (λ i. i < length l.table.instances) l.threads.items

@@ -1,0 +1,4 @@
+use Rattle.dbg_core.proofs.session.Session.new.Goals as goal
+
+pub invariant_of-result-clause-own : goal.invariant_of-result-clause-own
+invariant_of-result-clause-own g c = ∣ c.new.ensures.own c.args.table ∣₁

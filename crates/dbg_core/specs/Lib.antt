@@ -1,0 +1,5 @@
+pub mod World
+pub mod Shown
+pub mod Eval
+pub mod Answering
+pub mod State

@@ -1,0 +1,146 @@
+//! What an expression comes to in a thread.
+
+ghost use Rattle.std.specs.Prelude.{◌≡◌, ◌<◌, ℕ, Contains, IfOk, Result};
+ghost use Rattle.std.specs.List.{list_all};
+ghost use Rattle.symtab.specs.Lookups.{instances_of};
+ghost use Rattle.trace_world.specs.Fitting.{FitsTable};
+ghost use Rattle.cond_lang.specs.Bound.{scope_of, bound_by, EachNode, known, bound_value};
+ghost use Rattle.cond_lang.specs.Faults.{Refuses};
+ghost use Rattle.cond_lang.specs.Judged.{Refusal, judged};
+ghost use Rattle.cond_lang.specs.Shown.{cond_tree};
+ghost use Rattle.cond_lang.specs.TextShown.{text_expr, text_offsets};
+ghost use Rattle.machine_core.specs.Reading.{Reader, IsReader};
+ghost use Rattle.slot_sched.specs.Arm.{is_ascii, ascii_binding};
+ghost use Rattle.slot_sched.specs.Waiting.{cycle_samples, IsSet, IsValue, IsNodeOf};
+ghost use Rattle.dbg_core.specs.Eval.{AreFound, text_body, table_body, is_refused_so, is_unread_so};
+
+use bv_core::{Binding, NodeId, Sample};
+use cond_lang::{BindEnd, Cond, CondFault, CondText, bind, read_cond, value_of};
+use machine_core::Body;
+use std::alloc::Global;
+use symtab::Table;
+use text_core::NoMemory;
+use trace_core::Trace;
+
+/// Whether each byte is ASCII, as each of an expression's names is.
+fn is_ascii(name: &str) -> bool
+    ensures { result ≡ list_all is_ascii name.now }
+{
+    for byte in name.as_bytes() {
+        if *byte >= 128 {
+            return false;
+        }
+    }
+    true
+}
+
+/// What a name of an expression stands for at a slot of an instance.
+fn binding_of(table: &Table, slot: u32, instance: u32, name: &str) -> Option<Binding>
+    requires { Contains (instances_of table.now slot) instance }
+    ensures { result ≡ ascii_binding table.now slot instance name.now }
+{
+    if !is_ascii(name) {
+        return None;
+    }
+    table.binding(slot, instance, name)
+}
+
+/// Why an expression has no value at a slot, by the end of its binding there.
+fn refusal(end: BindEnd, slot: u32) -> Result<Body, NoMemory>
+    ensures { (judged : Result ℕ Refusal) → Refuses end judged → IfOk result (is_refused_so slot judged) }
+{
+    match end {
+        BindEnd::Unknown { name } => Ok(Body::BadCondName { name }),
+        BindEnd::Removed { name } => Ok(Body::CondRemoved { name, slot }),
+        BindEnd::Unset { name } => Ok(Body::CondUnset { name, slot }),
+        BindEnd::Width { offset } => Ok(Body::BadCondAt { offset }),
+        BindEnd::NoMemory => Err(NoMemory),
+    }
+}
+
+/// Why a text is no expression.
+fn unread(fault: CondFault) -> Result<Body, NoMemory>
+    ensures { IfOk result (is_unread_so fault) }
+{
+    match fault {
+        CondFault::At { offset } => Ok(Body::BadCondAt { offset }),
+        CondFault::NoMemory => Err(NoMemory),
+    }
+}
+
+/// The sample of a node.
+fn sample_at<T: Trace>(trace: &T, node: NodeId) -> Sample
+    requires set { IsSet (T.samples trace.now) (T.cursor trace.now) }
+    requires node { node.0 < (T.samples trace.now).nodes }
+    ensures sample { result ≡ cycle_samples (T.samples trace.now) (T.cursor trace.now) node.0 }
+    ensures value { IsValue result }
+{
+    let sample = trace.value(node);
+    if let Sample::Known(value) = sample {
+        let _width = value.width();
+    }
+    sample
+}
+
+/// What a condition comes to, in the cycle at which the trace stands.
+fn come_to<T: Trace>(trace: &T, cond: &Cond) -> Sample
+    requires set { IsSet (T.samples trace.now) (T.cursor trace.now) }
+    requires nodes { EachNode (IsNodeOf (T.samples trace.now)) (cond_tree cond.now) }
+    ensures { known result ≡ bound_value (λ node. cycle_samples (T.samples trace.now) (T.cursor trace.now) node.0) (cond_tree cond.now) }
+{
+    let value = |node: NodeId| -> Sample
+        requires set { IsSet (T.samples trace.now) (T.cursor trace.now) }
+        requires node { node.0 < (T.samples trace.now).nodes }
+        ensures sample { result ≡ cycle_samples (T.samples trace.entry.now) (T.cursor trace.entry.now) node.0 }
+        ensures value { IsValue result }
+    { sample_at(trace, node) };
+    value_of(cond, &value)
+}
+
+/// What an expression that was read comes to at a slot of an instance.
+fn bound<T: Trace>(
+    alloc: Global,
+    table: &Table,
+    trace: &T,
+    slot: u32,
+    instance: u32,
+    text: &CondText,
+) -> Result<Body, NoMemory>
+    requires fits { FitsTable table.now (T.samples trace.now) }
+    requires set { IsSet (T.samples trace.now) (T.cursor trace.now) }
+    requires there { Contains (instances_of table.now slot) instance }
+    requires found { AreFound table.now slot instance text.now }
+    ensures { IfOk result (λ body. body ≡ text_body table.now (cycle_samples (T.samples trace.now) (T.cursor trace.now)) slot instance text.now) }
+{
+    let _parts = table.parts();
+    match bind(
+        alloc,
+        text,
+        &|name: &str| binding_of(table, slot, instance, name),
+    ) {
+        Ok(cond) => Ok(Body::Eval {
+            value: come_to(trace, &cond),
+        }),
+        Err(end) => refusal(end, slot),
+    }
+}
+
+/// What a text comes to as an expression at a slot of an instance, in the cycle at which the trace stands.
+pub(crate) fn eval_in<T: Trace>(
+    alloc: Global,
+    table: &Table,
+    trace: &T,
+    slot: u32,
+    instance: u32,
+    text: &str,
+) -> Result<Body, NoMemory>
+    requires fits { FitsTable table.now (T.samples trace.now) }
+    requires set { IsSet (T.samples trace.now) (T.cursor trace.now) }
+    requires there { Contains (instances_of table.now slot) instance }
+    ensures { (read : Reader) → IsReader read → IfOk result (λ body. body ≡ table_body table.now (cycle_samples (T.samples trace.now) (T.cursor trace.now)) slot instance (read text.now)) }
+{
+    match read_cond(alloc, text.as_bytes()) {
+        Ok(text) => bound(alloc, table, trace, slot, instance, &text),
+        Err(fault) => unread(fault),
+    }
+}

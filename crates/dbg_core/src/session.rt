@@ -1,0 +1,201 @@
+//! A session: a table, a trace, the breakpoints that are armed, and where it stands; and its turns.
+
+ghost use Rattle.std.specs.Prelude.{◌≡◌, ◌<◌, ◌≤◌, ◌+◌, ◌-◌, ℕ, List, Option, Some, IfOk, IsTrue, map, nat_eq, option_map};
+ghost use Rattle.std.specs.List.{list_any};
+ghost use Rattle.trace_world.specs.Fitting.{FitsTable};
+ghost use Rattle.slot_sched.specs.Armed.{AreOf};
+ghost use Rattle.slot_sched.specs.Scan.{total_of};
+
+use crate::listeners::Listeners;
+use crate::notices::notice_of;
+use crate::position::{at_place, note_at, threads_in, total};
+use crate::stops::values_in;
+use machine_core::{At, Motion, Notice, Shown, Turned};
+use slot_sched::{Found, Schedule};
+use std::alloc::Global;
+use symtab::Table;
+use text_core::{NoMemory, Text};
+use trace_core::{Trace, Want, Way};
+
+/// A turn looks at so many positions.
+const REACH: u64 = 64;
+
+/// A session over a table and a trace. It stands at a position, at the start before all of them, or at the end behind them, and runs
+/// or is idle. Its listeners are handed to the calls that tell them.
+#[derive(Drop)]
+pub struct Session<T: Trace> {
+    pub(crate) table: Table,
+    pub(crate) trace: T,
+    pub(crate) schedule: Schedule,
+    pub(crate) place: u64,
+    pub(crate) motion: Motion,
+    pub(crate) ordinal: u64,
+    pub(crate) alloc: Global,
+    pub ghost fits: { FitsTable table (T.samples trace) },
+    pub ghost within: { place ≤ total_of table (T.samples trace) + 1 },
+    pub ghost own: { ∥ AreOf table schedule ∥₁ },
+}
+
+impl<T: Trace> Session<T> {
+    ghost use Rattle.listen.specs.Pairs.{Heard};
+    ghost use Rattle.machine_core.specs.declared.turn.Motion.TheVariants.{Running};
+    ghost use Rattle.machine_core.specs.Machine.{Machine, Turn, opening, stopped_at, edge_turn, moved_turn, turn_of};
+    ghost use Rattle.machine_core.specs.Journal.{notices_of};
+    ghost use Rattle.dbg_core.specs.World.{world_of};
+    ghost use Rattle.dbg_core.specs.Answering.{is_running, left_ahead, threads_of, values_of, told_lines};
+    ghost use Rattle.dbg_core.specs.State.{machine_of};
+
+    /// A session at the start, idle, with no breakpoint, over a table and a trace that fits it. Takes no memory.
+    pub fn new(alloc: Global, table: Table, trace: T) -> Session<T>
+        requires { FitsTable table (T.samples trace) }
+        ensures table { result.table ≡ table }
+        ensures samples { T.samples result.trace ≡ T.samples trace }
+        ensures opening { (heard : List Heard) → machine_of result (map (λ h. Some h) heard) ≡ opening heard }
+    {
+        Session {
+            table,
+            trace,
+            schedule: Schedule::new(alloc),
+            place: 0,
+            motion: Motion::Idle,
+            ordinal: 0,
+            alloc,
+        }
+    }
+
+    /// Its table. Takes no memory.
+    pub fn table(&self) -> &Table
+        ensures { result.now ≡ self.now.table }
+    {
+        &self.table
+    }
+
+    /// Whether it runs. Takes no memory.
+    pub fn running(&self) -> bool
+        ensures { result ≡ is_running self.now.motion }
+    {
+        matches!(&self.motion, Motion::Running(_, _))
+    }
+
+    /// Stops at a position, and tells the listeners.
+    fn stop(&mut self, p: u64, listeners: &mut Listeners) -> Turned
+        requires { p < total_of self.old.table (T.samples self.old.trace) }
+        ensures table { self.new.table ≡ self.old.table }
+        ensures samples { T.samples self.new.trace ≡ T.samples self.old.trace }
+        ensures turn { (let turn : Turn = record { after = machine_of self.new (map (option_map (λ b. heard b)) listeners.new.boxes.items); turned = result } in turn) ≡ stopped_at (world_of self.old.table (T.samples self.old.trace)) (machine_of self.old (map (option_map (λ b. heard b)) listeners.old.boxes.items)) p }
+    {
+        let note = note_at(&self.table, &mut self.trace, p);
+        self.place = p + 1;
+        self.motion = Motion::Idle;
+        listeners.tell(&note);
+        Turned::Stopped(note)
+    }
+
+    /// Stops at the end or the start.
+    fn stop_at_edge(&mut self, way: Way) -> Turned
+        ensures table { self.new.table ≡ self.old.table }
+        ensures samples { T.samples self.new.trace ≡ T.samples self.old.trace }
+        ensures turn { (heard : List (Option Heard)) → (let turn : Turn = record { after = machine_of self.new heard; turned = result } in turn) ≡ edge_turn (world_of self.old.table (T.samples self.old.trace)) way (machine_of self.old heard) }
+    {
+        self.motion = Motion::Idle;
+        match way {
+            Way::Forward => {
+                self.place = total(&self.table, &self.trace) + 1;
+                Turned::AtEnd
+            }
+            Way::Backward => {
+                self.place = 0;
+                Turned::AtStart
+            }
+        }
+    }
+
+    /// Goes on by as many positions as a turn looks at.
+    fn move_on(&mut self, way: Way) -> Turned
+        requires { 64 ≤ left_ahead (total_of self.old.table (T.samples self.old.trace)) way self.old.place }
+        ensures table { self.new.table ≡ self.old.table }
+        ensures samples { T.samples self.new.trace ≡ T.samples self.old.trace }
+        ensures turn { (heard : List (Option Heard)) → (let turn : Turn = record { after = machine_of self.new heard; turned = result } in turn) ≡ moved_turn way (machine_of self.old heard) }
+    {
+        match way {
+            Way::Forward => self.place += REACH,
+            Way::Backward => self.place -= REACH,
+        }
+        Turned::Moved
+    }
+
+    /// A turn of a session that runs.
+    fn run(&mut self, way: Way, want: Want, listeners: &mut Listeners) -> Turned
+        requires { self.old.motion ≡ Running way want }
+        ensures table { self.new.table ≡ self.old.table }
+        ensures samples { T.samples self.new.trace ≡ T.samples self.old.trace }
+        ensures turn { (let turn : Turn = record { after = machine_of self.new (map (option_map (λ b. heard b)) listeners.new.boxes.items); turned = result } in turn) ≡ turn_of (world_of self.old.table (T.samples self.old.trace)) (machine_of self.old (map (option_map (λ b. heard b)) listeners.old.boxes.items)) }
+    {
+        match self
+            .schedule
+            .search(&self.table, &mut self.trace, self.place, way, want)
+        {
+            Found::At(p) => self.stop(p, listeners),
+            Found::Edge => self.stop_at_edge(way),
+            Found::Nowhere => self.move_on(way),
+        }
+    }
+
+    /// One turn. An idle session does nothing. One that runs looks at the next 64 positions: it stops at the nearest that matches, and
+    /// tells each listener that remains; else at the end or the start, if that comes before; else it stands 64 positions further. Takes
+    /// no memory.
+    #[tactic(auto, unfolding(machine_core::specs::Machine::turn_of))]
+    pub fn turn(&mut self, listeners: &mut Listeners) -> Turned
+        ensures table { self.new.table ≡ self.old.table }
+        ensures samples { T.samples self.new.trace ≡ T.samples self.old.trace }
+        ensures turn { (let turn : Turn = record { after = machine_of self.new (map (option_map (λ b. heard b)) listeners.new.boxes.items); turned = result } in turn) ≡ turn_of (world_of self.old.table (T.samples self.old.trace)) (machine_of self.old (map (option_map (λ b. heard b)) listeners.old.boxes.items)) }
+    {
+        match self.motion {
+            Motion::Idle => Turned::Idle,
+            Motion::Running(way, want) => self.run(way, want, listeners),
+        }
+    }
+
+    /// The instances that are threads at the position, in preorder; none at the start or the end.
+    pub fn threads(&mut self) -> Result<Vec<u32>, NoMemory>
+        ensures table { self.new.table ≡ self.old.table }
+        ensures samples { T.samples self.new.trace ≡ T.samples self.old.trace }
+        ensures state { (heard : List (Option Heard)) → machine_of self.new heard ≡ machine_of self.old heard }
+        ensures threads { IfOk result (λ threads. threads.items ≡ threads_of (world_of self.old.table (T.samples self.old.trace)) self.old.place) }
+    {
+        match at_place(&self.table, &self.trace, self.place) {
+            At::Position { cycle, slot } => {
+                threads_in(self.alloc, &self.table, &mut self.trace, cycle, slot)
+            }
+            At::Start | At::End => Ok(Vec::new(self.alloc)),
+        }
+    }
+
+    /// The names in scope at the position, in order, with what is shown of each in an instance that is a thread there.
+    pub fn values(&mut self, instance: u32) -> Result<Vec<(Text, Shown)>, NoMemory>
+        requires { IsTrue (list_any (nat_eq instance) (threads_of (world_of self.old.table (T.samples self.old.trace)) self.old.place)) }
+        ensures table { self.new.table ≡ self.old.table }
+        ensures samples { T.samples self.new.trace ≡ T.samples self.old.trace }
+        ensures state { (heard : List (Option Heard)) → machine_of self.new heard ≡ machine_of self.old heard }
+        ensures values { IfOk result (λ values. values.items ≡ values_of (world_of self.old.table (T.samples self.old.trace)) self.old.place instance) }
+    {
+        match at_place(&self.table, &self.trace, self.place) {
+            At::Position { cycle, slot } => {
+                self.trace.seek(cycle);
+                values_in(self.alloc, &self.table, &self.trace, slot, instance)
+            }
+            At::Start | At::End => Ok(Vec::new(self.alloc)),
+        }
+    }
+
+    /// What is told of a turn that was just made: of a stop the generator variables at its statement and the paths of its threads; nothing
+    /// of a turn that only moved, or did nothing.
+    pub fn notice(&mut self, turned: Turned) -> Result<Option<Notice>, NoMemory>
+        ensures table { self.new.table ≡ self.old.table }
+        ensures samples { T.samples self.new.trace ≡ T.samples self.old.trace }
+        ensures state { (heard : List (Option Heard)) → machine_of self.new heard ≡ machine_of self.old heard }
+        ensures lines { IfOk result (λ notice. told_lines notice ≡ notices_of (world_of self.old.table (T.samples self.old.trace)) turned) }
+    {
+        notice_of(self.alloc, &self.table, &mut self.trace, turned)
+    }
+}
