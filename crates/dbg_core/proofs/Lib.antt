@@ -3,6 +3,7 @@ pub mod Evals
 pub mod Own
 pub mod Positions
 pub mod Runs
+pub mod Settling
 pub mod Standing
 pub mod Threads
 pub mod Told

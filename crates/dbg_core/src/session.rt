@@ -40,7 +40,7 @@ impl<T: Trace> Session<T> {
     ghost use Rattle.listen.specs.Pairs.{Heard};
     ghost use Rattle.machine_core.specs.declared.turn.Motion.TheVariants.{Running};
     ghost use Rattle.machine_core.specs.Machine.{Machine, Turn, opening, stopped_at, edge_turn, moved_turn, turn_of};
-    ghost use Rattle.machine_core.specs.Journal.{notices_of};
+    ghost use Rattle.machine_core.specs.Journal.{Ran, notices_of, until_idle};
     ghost use Rattle.dbg_core.specs.World.{world_of};
     ghost use Rattle.dbg_core.specs.Answering.{is_running, left_ahead, threads_of, values_of, told_lines};
     ghost use Rattle.dbg_core.specs.State.{machine_of};
@@ -153,6 +153,20 @@ impl<T: Trace> Session<T> {
         match self.motion {
             Motion::Idle => Turned::Idle,
             Motion::Running(way, want) => self.run(way, want, listeners),
+        }
+    }
+
+    /// Turns until it is idle. Gives what the last of them did: all before it only moved. `Idle` where it did not run. Takes no memory.
+    pub fn settle(&mut self, listeners: &mut Listeners) -> Turned
+        ensures table { self.new.table ≡ self.old.table }
+        ensures samples { T.samples self.new.trace ≡ T.samples self.old.trace }
+        ensures ran { (let ran : Ran = record { after = machine_of self.new (map (option_map (λ b. heard b)) listeners.new.boxes.items); lines = notices_of (world_of self.old.table (T.samples self.old.trace)) result } in ran) ≡ until_idle (world_of self.old.table (T.samples self.old.trace)) (machine_of self.old (map (option_map (λ b. heard b)) listeners.old.boxes.items)) }
+    {
+        loop {
+            let turned = self.turn(listeners);
+            if turned != Turned::Moved {
+                return turned;
+            }
         }
     }
 
