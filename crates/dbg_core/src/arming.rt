@@ -1,7 +1,7 @@
 //! How a breakpoint is armed for a request, and what is answered. Where its answer finds no memory, the breakpoint is taken back, its
 //! number too.
 
-ghost use Rattle.std.specs.Prelude.{◌≡◌, ◌<◌, ◌+◌, ◌++◌, ℕ, List, [], ◌∷◌, Some, IfOk, OnOk, OnErr, length, map, option_map};
+ghost use Rattle.std.specs.Prelude.{◌≡◌, ◌<◌, ◌+◌, ◌++◌, List, [], ◌∷◌, Some, IfOk, OnOk, OnErr, length, map, option_map};
 ghost use Rattle.symtab.specs.declared.parts.TableParts.{TableParts};
 ghost use Rattle.trace_core.specs.Samples.{Samples};
 ghost use Rattle.machine_core.specs.Arming.{breakpoint_on};

@@ -4,11 +4,10 @@ ghost use Rattle.std.specs.Prelude.{◌≡◌, ◌<◌, ℕ, Contains, IfOk, Res
 ghost use Rattle.std.specs.List.{list_all};
 ghost use Rattle.symtab.specs.Lookups.{instances_of};
 ghost use Rattle.trace_world.specs.Fitting.{FitsTable};
-ghost use Rattle.cond_lang.specs.Bound.{scope_of, bound_by, EachNode, known, bound_value};
+ghost use Rattle.cond_lang.specs.Bound.{EachNode, known, bound_value};
 ghost use Rattle.cond_lang.specs.Faults.{Refuses};
 ghost use Rattle.cond_lang.specs.Judged.{Refusal, judged};
 ghost use Rattle.cond_lang.specs.Shown.{cond_tree};
-ghost use Rattle.cond_lang.specs.TextShown.{text_expr, text_offsets};
 ghost use Rattle.machine_core.specs.Reading.{Reader, IsReader};
 ghost use Rattle.slot_sched.specs.Arm.{is_ascii, ascii_binding};
 ghost use Rattle.slot_sched.specs.Waiting.{cycle_samples, IsSet, IsValue, IsNodeOf};

@@ -1,7 +1,7 @@
 //! The requests of a session, each by a call of its own, and the answer to each. No call here changes anything before it has found all
 //! the memory that its answer takes, or it takes back what it changed.
 
-ghost use Rattle.std.specs.Prelude.{◌≡◌, ◌-◌, ℕ, List, Option, Some, IfOk, OnErr, map, option_map, slice_index_or};
+ghost use Rattle.std.specs.Prelude.{◌≡◌, ℕ, List, Option, IfOk, OnErr, map, option_map};
 ghost use Rattle.machine_core.specs.Machine.{going_of, asked_id};
 ghost use Rattle.dbg_core.specs.Answering.{run_granted, step_granted};
 
@@ -60,7 +60,7 @@ impl<T: Trace> Session<T> {
     ghost use Rattle.machine_core.specs.Reading.{Reader, IsReader};
     ghost use Rattle.machine_core.specs.declared.turn.Motion.TheVariants.{Running};
     ghost use Rattle.trace_core.specs.declared.scan.Want.TheVariants.{Breakpoints};
-    ghost use Rattle.machine_core.specs.Machine.{Machine, Answer, Accepted, if_idle, if_running, at_stop, at_thread, delete, step, threads, values, eval, obey, asked_outcome, answer_by, answer_of};
+    ghost use Rattle.machine_core.specs.Machine.{Answer, Accepted, if_idle, delete, step, obey, asked_outcome, answer_by, answer_of};
     ghost use Rattle.dbg_core.specs.World.{world_of};
     ghost use Rattle.dbg_core.specs.Answering.{answered};
     ghost use Rattle.dbg_core.specs.State.{machine_of, counted_as};

@@ -1,8 +1,7 @@
 //! What a table and a trace show at a slot, in the cycle at which the trace stands: which instances are threads, and what each name
 //! in scope has there.
 
-ghost use Rattle.std.specs.Prelude.{◌≡◌, ◌<◌, ◌≤◌, ◌^◌, true, All, Contains, IfOk, Some, length, option_map, slice_get};
-ghost use Rattle.symtab.specs.Shape.{IsTable};
+ghost use Rattle.std.specs.Prelude.{◌≡◌, ◌<◌, ◌^◌, true, All, Contains, IfOk, Some, length, option_map, slice_get};
 ghost use Rattle.symtab.specs.Lookups.{instances_of, row_of};
 ghost use Rattle.trace_core.specs.Known.{known, is_one};
 ghost use Rattle.trace_world.specs.TraceWorld.{found_by};

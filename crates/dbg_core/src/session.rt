@@ -1,6 +1,6 @@
 //! A session: a table, a trace, the breakpoints that are armed, and where it stands; and its turns.
 
-ghost use Rattle.std.specs.Prelude.{◌≡◌, ◌<◌, ◌≤◌, ◌+◌, ◌-◌, ℕ, List, Option, Some, IfOk, IsTrue, map, nat_eq, option_map};
+ghost use Rattle.std.specs.Prelude.{◌≡◌, ◌<◌, ◌≤◌, ◌+◌, List, Option, IfOk, IsTrue, map, nat_eq, option_map};
 ghost use Rattle.std.specs.List.{list_any};
 ghost use Rattle.trace_world.specs.Fitting.{FitsTable};
 ghost use Rattle.slot_sched.specs.Armed.{AreOf};
@@ -39,7 +39,7 @@ pub struct Session<T: Trace> {
 impl<T: Trace> Session<T> {
     ghost use Rattle.listen.specs.Pairs.{Heard};
     ghost use Rattle.machine_core.specs.declared.turn.Motion.TheVariants.{Running};
-    ghost use Rattle.machine_core.specs.Machine.{Machine, Turn, opening, stopped_at, edge_turn, moved_turn, turn_of};
+    ghost use Rattle.machine_core.specs.Machine.{Turn, opening, stopped_at, edge_turn, moved_turn, turn_of};
     ghost use Rattle.machine_core.specs.Journal.{Ran, notices_of, until_idle};
     ghost use Rattle.dbg_core.specs.World.{world_of};
     ghost use Rattle.dbg_core.specs.Answering.{is_running, left_ahead, threads_of, values_of, told_lines};
