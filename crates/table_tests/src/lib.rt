@@ -1,11 +1,9 @@
-//! Tests of the symbol table, traces, listeners and breakpoints.
+//! Tests of the symbol table, traces and listeners.
 //!
 //! They stand apart from the crates that they test, since a crate with tests is proved twice: with them and without. No
-//! command shows what they ask: a table that is refused, a look-up by line or by path, a trace in memory, a listener, a search.
+//! command shows what they ask: a table that is refused, a look-up by line or by path, a trace in memory, a listener.
 #![tactic(auto)]
 
-#[cfg(test)]
-mod breaks;
 #[cfg(test)]
 mod listeners;
 #[cfg(test)]

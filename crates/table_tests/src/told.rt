@@ -72,21 +72,6 @@ pub static LEAST: Told = Told {
     ],
 };
 
-/// A table of one slot and one instance, which has it in every cycle.
-pub static LONG: Told = Told {
-    top: b"T",
-    nodes: &[(b"n", 8)],
-    variants: &[(b"Top", &[])],
-    instances: &[(b"T", 0)],
-    slots: &[SlotTold {
-        variant: 0,
-        line: 9,
-        gens: &[],
-        names: &[b"x"],
-        rows: &[(None, 1, &[(0, 8)])],
-    }],
-};
-
 /// Tables that break a rule.
 pub static BROKEN: [Told; 23] = [
     // two nodes of one name

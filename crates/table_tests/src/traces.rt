@@ -9,7 +9,7 @@ use text_core::NoMemory;
 use trace_core::{FakeTrace, Seek, Trace};
 
 /// A sample of a width: a number, or none.
-pub fn sample(width: u8, number: Option<u128>) -> Sample {
+fn sample(width: u8, number: Option<u128>) -> Sample {
     match number {
         Some(number) => match Bv::make(width, number) {
             Some(value) => Sample::Known(value),
@@ -26,14 +26,14 @@ type Cycle = (Option<u128>, Option<u128>);
 static SAMPLES: [Cycle; 3] = [(Some(7), Some(0)), (None, Some(1)), (Some(9), None)];
 
 /// The samples of a cycle.
-pub fn row(alloc: Global, cycle: &Cycle) -> Result<Vec<Sample>, AllocError>
+fn row(alloc: Global, cycle: &Cycle) -> Result<Vec<Sample>, AllocError>
     ensures { IfOk result (λ row. length row.items ≡ 2) }
 {
     [sample(8, cycle.0), sample(1, cycle.1)].to_vec(alloc)
 }
 
 /// The trace. It takes three rows of a known length, since a closure that looks at each row costs a minute to prove.
-pub fn trace(alloc: Global) -> Result<FakeTrace, NoMemory> {
+fn trace(alloc: Global) -> Result<FakeTrace, NoMemory> {
     let mut rows = Vec::new(alloc);
     rows.push(row(alloc, &SAMPLES[0])?)?;
     rows.push(row(alloc, &SAMPLES[1])?)?;
