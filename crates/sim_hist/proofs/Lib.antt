@@ -1,3 +1,5 @@
+pub mod Costs
 pub mod Placing
+pub mod Recalling
 pub mod Running
 pub mod Samples

@@ -17,11 +17,11 @@ use Rattle.stim_text.specs.Stimulus.{Stimulus, IsStimulus}
 use Rattle.sim_core.specs.Leaves.{inputs_of, registers_of, starts_of}
 use Rattle.sim_core.specs.Given.{HaveWidths, value_beside, node_value, next_registers}
 use Rattle.sim_core.specs.Steps.{bits_at}
-use Rattle.sim_core.specs.State.{Simulated, after_edge}
+use Rattle.sim_core.specs.State.{Simulated, one_more, after_edge}
 use Rattle.sim_core.proofs.Origins.{beside_width}
 use Rattle.sim_core.proofs.Edges.{start_widths, next_widths}
-use Rattle.sim_hist.specs.Run.{row_inputs, inputs_in, registers_in, port_origins, first_of_rows, first_cycle, Traced}
-use Rattle.sim_hist.specs.Kept.{ArePicked, AreRecorded, IsAt}
+use Rattle.sim_hist.specs.Run.{row_inputs, inputs_in, registers_in, port_origins, first_of_rows, first_settles}
+use Rattle.sim_hist.specs.Kept.{ArePicked, IsAt}
 use Rattle.sim_hist.proofs.Placing.{Port}
 
 -- a row has one value for each port, of its width
@@ -81,11 +81,6 @@ picked_widths net s t row inputs columns p e w is = subst (HaveWidths (inputs_of
 pub picked_within : (net : NetParts) (ports : Ports) (row : List Bits) (columns : List ℕ) → ArePicked net ports columns → IsRow ports row → All (λ column. column < length row) columns
 picked_within net ports row columns p w = subst (λ n. All (λ column. column < n) columns) (sym (row_length ports row w)) p.within
 
--- ---- what is recorded
-
-pub none_recorded : (net : NetParts) (s : Stimulus) (history : List (List Bits)) → history ≡ [] → AreRecorded net s 0 history
-none_recorded net s history e = record { count = ap length e; each = λ t l. absurd (omega arith) }
-
 -- ---- the cursor
 
 pub settled_at : (m : Simulated) (s : Stimulus) (cursor : Option ℕ) → ForSome cursor (IsAt m s) → IsSome cursor → IsSome m.settled
@@ -100,43 +95,31 @@ sample_told m s (Some t) n v placed told =
     let known : v ≡ node_value m.net.nodes (inputs_in m.net s t) m.registers n = subst (λ o. IfSome o (λ inputs. v ≡ node_value m.net.nodes inputs m.registers n)) at.settled_then told in
     ap Known (known ∙ ap (λ registers. node_value m.net.nodes (inputs_in m.net s t) registers n) at.registers_then)
 
--- ---- registers that lie in vectors
-
-pub history_at : (history : List (Vec Bits Global)) (t : ℕ) (x : Vec Bits Global) → x ≡ get_or history t x → t < length history → x.items ≡ slice_index_or (map (λ (v : Vec Bits Global). v.items) history) t []
-history_at history t x is inside = ap (λ (v : Vec Bits Global). v.items) is ∙ sym (get_or-map (λ (v : Vec Bits Global). v.items) history t x [] inside)
-
-one_recorded : (net : NetParts) (s : Stimulus) (t : ℕ) (old : List (List Bits)) (x : List Bits) → x ≡ registers_in net s t → AreRecorded net s t old → AreRecorded net s (t + 1) (old ++ x ∷ [])
-one_recorded net s t old x then r = record {
-  count = length_push old x ∙ ap (λ n. n + 1) r.count;
-  each = λ j l. ⊎_elim
-      (λ (m : j < t). get_or_append_left old (x ∷ []) [] j (let c = r.count in omega arith) ∙ r.each j m)
-      (λ (m : t ≤ j). let same : t ≡ j = omega arith in get_or_push old x [] j (r.count ∙ same) ∙ then ∙ ap (registers_in net s) same)
-      (cases_lt j t);
-}
-
-pub more_recorded : (net : NetParts) (s : Stimulus) (t : ℕ) (history new : List (Vec Bits Global)) (x : Vec Bits Global) → new ≡ history ++ x ∷ [] → x.items ≡ registers_in net s t
-    → AreRecorded net s t (map (λ (v : Vec Bits Global). v.items) history) → AreRecorded net s (t + 1) (map (λ (v : Vec Bits Global). v.items) new)
-more_recorded net s t history new x is then r =
-    subst (AreRecorded net s (t + 1)) (sym (ap (map (λ (v : Vec Bits Global). v.items)) is ∙ map_push (λ (v : Vec Bits Global). v.items) history x))
-    (one_recorded net s t (map (λ (v : Vec Bits Global). v.items) history) x.items then r)
-
--- a cycle and its clock edge
-pub edge_done : (net : NetParts) (s : Stimulus) (t : ℕ) (l m n : Simulated) (k : ℕ) → ◌≡◌ {A = Simulated} m (record { net = l.net; registers = l.registers; settled = Some (inputs_in l.net s t); settles = k })
-    → IfSome m.settled (λ given. n ≡ after_edge given m) → l.net ≡ net → l.registers ≡ registers_in net s t → (n.net ≡ net) × (n.registers ≡ registers_in net s (t + 1))
-edge_done net s t l m n k settled edge same then =
-    let after : n ≡ after_edge (inputs_in l.net s t) m = subst (λ o. IfSome o (λ given. n ≡ after_edge given m)) (ap (λ (x : Simulated). x.settled) settled) edge in
-    let of : m.net ≡ net = ap (λ (x : Simulated). x.net) settled ∙ same in
-    let registers : m.registers ≡ registers_in net s t = ap (λ (x : Simulated). x.registers) settled ∙ then in (
-      ap (λ (x : Simulated). x.net) after ∙ of,
-      ap (λ (x : Simulated). x.registers) after ∙ (λ i. next_registers (of i) (inputs_in (same i) s t) (registers i)) ∙ sym (next_registers_in net s t),
+-- a clock edge: the registers of the next cycle
+pub edge_registers : (s : Stimulus) (t : ℕ) (m n : Simulated) → IsAt m s t → IfSome m.settled (λ given. n ≡ after_edge given m) → (n.net ≡ m.net) × ((n.settles ≡ m.settles) × (n.registers ≡ registers_in m.net s (t + 1)))
+edge_registers s t m n at edge =
+    let after : n ≡ after_edge (inputs_in m.net s t) m = subst (λ o. IfSome o (λ given. n ≡ after_edge given m)) at.settled_then edge in (
+      ap (λ (x : Simulated). x.net) after,
+      (
+        ap (λ (x : Simulated). x.settles) after,
+        ap (λ (x : Simulated). x.registers) after ∙ ap (next_registers m.net (inputs_in m.net s t)) at.registers_then ∙ sym (next_registers_in m.net s t),
+      ),
     )
 
 -- ---- a new trace
 
-first_cursor : (rows : List (List Bits)) (cursor : Option ℕ) → (0 < length rows → cursor ≡ Some 0) → (length rows ≤ 0 → cursor ≡ None) → cursor ≡ first_of_rows rows
-first_cursor [] cursor some none = none (omega arith)
-first_cursor (row ∷ rows) cursor some none = some (omega arith)
+pub no_rows : {X : Type 0} (rows : List X) → length rows ≡ 0 → first_of_rows rows ≡ None
+no_rows [] e = refl
+no_rows (row ∷ rows) e = absurd (omega arith)
 
-pub new_done : (net : NetParts) (s : Stimulus) (n : Traced) → n.net ≡ net → n.stim ≡ s → (0 < length s.rows → n.cursor ≡ Some 0) → (length s.rows ≤ 0 → n.cursor ≡ None)
-    → ◌≡◌ {A = Traced} n (record { net = net; stim = s; cursor = first_cycle s })
-new_done net s n e f some none = λ i. record { net = e i; stim = f i; cursor = first_cursor s.rows n.cursor some none i }
+pub some_rows : {X : Type 0} (rows : List X) → 0 < length rows → first_of_rows rows ≡ Some 0
+some_rows [] l = absurd (omega arith)
+some_rows (row ∷ rows) l = refl
+
+pub no_settles : {X : Type 0} (rows : List X) (n : ℕ) → length rows ≡ 0 → first_settles rows n ≡ n
+no_settles [] n e = refl
+no_settles (row ∷ rows) n e = absurd (omega arith)
+
+pub some_settles : {X : Type 0} (rows : List X) (n : ℕ) → 0 < length rows → first_settles rows n ≡ one_more n
+some_settles [] n l = absurd (omega arith)
+some_settles (row ∷ rows) n l = refl

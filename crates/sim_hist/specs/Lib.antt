@@ -1,4 +1,5 @@
 pub mod Run
+pub mod Recalled
 pub mod Kept
 pub mod Sample
 pub mod Laws

@@ -11,6 +11,7 @@ use Rattle.trace_core.specs.Samples.{Samples}
 use Rattle.stim_text.specs.Stimulus.{Stimulus}
 use Rattle.sim_core.specs.Leaves.{inputs_of, starts_of}
 use Rattle.sim_core.specs.Given.{value_beside, node_value, next_registers}
+use Rattle.sim_core.specs.State.{one_more}
 
 -- each input of a net is an input of the ports, with its name and width
 abbrev pub InputsArePorts : List Shape → Ports → Type 0
@@ -41,16 +42,24 @@ run_samples net s = record {
   sample = λ t n. Known (node_value net.nodes (inputs_in net s t) (registers_in net s t) n);
 }
 
--- a simulated trace as contracts see it: the net, the stimulus, and the cycle at which the cursor stands
+-- a simulated trace as contracts see it: the net, the stimulus, the cycle at which the cursor stands, and how often the net was settled
 pub record Traced : Type 0 where
   pub net : NetParts
   pub stim : Stimulus
   pub cursor : Option ℕ
+  pub settles : ℕ
 
--- the first cycle, where there is one
+-- a new trace stands at the first cycle, where there is one, and is settled there
 abbrev pub first_of_rows : {X : Type 0} → List X → Option ℕ
 first_of_rows [] = None
 first_of_rows (row ∷ rows) = Some 0
 
 abbrev pub first_cycle : Stimulus → Option ℕ
 first_cycle s = first_of_rows s.rows
+
+abbrev pub first_settles : {X : Type 0} → List X → ℕ → ℕ
+first_settles [] settles = settles
+first_settles (row ∷ rows) settles = one_more settles
+
+abbrev pub new_trace : NetParts → Stimulus → ℕ → Traced
+new_trace net s settles = record { net = net; stim = s; cursor = first_cycle s; settles = first_settles s.rows settles }

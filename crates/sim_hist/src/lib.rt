@@ -4,9 +4,12 @@
 #![tactic(auto)]
 
 mod columns;
+mod history;
 mod laws;
-mod record;
+mod settle;
+mod steps;
 mod trace;
 
 pub use laws::{samples_have_widths, traces_by_hand};
+pub use steps::Steps;
 pub use trace::SimTrace;

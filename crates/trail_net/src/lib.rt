@@ -4,4 +4,4 @@
 mod write;
 
 pub use trail_out::SinkEnd;
-pub use write::write_trail;
+pub use write::{trace_of, write_trail};

@@ -5,7 +5,7 @@ ghost use Rattle.io_edge.specs.Faults.{Rose};
 ghost use Rattle.design_core.specs.DesignView.{design_of};
 ghost use Rattle.check_core.specs.Verdict.{verdict};
 ghost use Rattle.place_core.specs.Orders.{TellsOrder};
-ghost use Rattle.sim_hist.specs.Run.{InputsArePorts, first_cycle};
+ghost use Rattle.sim_hist.specs.Run.{InputsArePorts, new_trace};
 ghost use Rattle.trim_laws.specs.Runs.{HasInputs};
 ghost use Rattle.trail_net.specs.Taken.{TakesTrail, TakesTrailFront};
 
@@ -22,10 +22,10 @@ use std::alloc::Global;
 use stim_text::Stim;
 use text_core::NoMemory;
 
-/// The trace of a net's run over the rows of a stimulus.
-fn trace_of(alloc: Global, net: Net, stim: Stim) -> Result<SimTrace, NoMemory>
+/// The trace of a net's run over the rows of a stimulus, with its cursor at the first cycle, if there is one.
+pub fn trace_of(alloc: Global, net: Net, stim: Stim) -> Result<SimTrace, NoMemory>
     requires inputs { InputsArePorts net.nodes stim.ports }
-    ensures ok { IfOk result (λ trace. trace ≡ record { net = net; stim = stim; cursor = first_cycle stim }) }
+    ensures ok { IfOk result (λ trace. trace ≡ new_trace net stim 0) }
 {
     let simulator = Simulator::new(alloc, net)?;
     SimTrace::new(alloc, simulator, stim)

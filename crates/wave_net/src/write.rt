@@ -1,12 +1,11 @@
 //! The waves of an accepted design: compiled, simulated, written.
 
-ghost use Rattle.std.specs.Prelude.{◌≡◌, ◌≤◌, None, IfOk, OnOk, OnErr, IsErrOf, length};
+ghost use Rattle.std.specs.Prelude.{◌≡◌, ◌≤◌, None, OnOk, OnErr, IsErrOf, length};
 ghost use Rattle.io_edge.specs.Faults.{Rose};
 ghost use Rattle.io_edge.specs.Taken.{Appends, AppendsFront};
 ghost use Rattle.design_core.specs.DesignView.{design_of};
 ghost use Rattle.check_core.specs.Verdict.{verdict};
 ghost use Rattle.place_core.specs.Orders.{TellsOrder};
-ghost use Rattle.sim_hist.specs.Run.{InputsArePorts, first_cycle};
 ghost use Rattle.trim_core.specs.KeptNet.{kept_net};
 ghost use Rattle.verilog_net.specs.Printing.{HasPorts};
 ghost use Rattle.vcd_write.specs.Run.{waves_text};
@@ -16,23 +15,11 @@ use design_core::Design;
 use design_net::{Compiled, compile};
 use io_edge::Sink;
 use lower_core::Mode;
-use net_core::Net;
 use place_core::Order;
-use sim_core::Simulator;
-use sim_hist::SimTrace;
 use std::alloc::Global;
 use stim_text::Stim;
-use text_core::NoMemory;
+use trail_net::trace_of;
 use vcd_write::write_vcd;
-
-/// The trace of a net's run over the rows of a stimulus.
-fn trace_of(alloc: Global, net: Net, stim: Stim) -> Result<SimTrace, NoMemory>
-    requires inputs { InputsArePorts net.nodes stim.ports }
-    ensures ok { IfOk result (λ trace. trace ≡ record { net = net; stim = stim; cursor = first_cycle stim }) }
-{
-    let simulator = Simulator::new(alloc, net)?;
-    SimTrace::new(alloc, simulator, stim)
-}
 
 /// Writes the waves of an accepted design's run over the rows of a stimulus for its ports, as a value change dump file: the net of
 /// exactly the trees that this mode keeps, with a clock and the outputs. Where it fails, the sink took a front of the text.

@@ -1,8 +1,9 @@
-use Rattle.std.proofs.Common.{◌∙◌}
-use Rattle.sim_hist.proofs.Running.{new_done}
+use Rattle.std.proofs.Common.{length, subst, sym, ap, ◌∙◌}
+use Rattle.sim_hist.specs.Recalled.{AreRecalled}
+use Rattle.sim_hist.proofs.Recalling.{none_recalled, have_length}
 use Rattle.sim_hist.proofs.trace.SimTrace.new.Goals as goal
 
-pub returns : goal.returns
-returns c =
-    new_done c.args.simulator.net c.args.stim c.seek.new.self (c.seek.ensures.net ∙ c.in_ok-history.ensures.net) c.seek.ensures.stim
-    (λ l. (c.seek.ensures.within l).1) (λ l. (c.seek.ensures.beyond l).1)
+pub settle_first-cursor-requires-clause-recalled : goal.settle_first-cursor-requires-clause-recalled
+settle_first-cursor-requires-clause-recalled c =
+    subst (AreRecalled c.args.simulator.net c.args.stim) (sym c.in_ok-history.ensures)
+    (none_recalled c.args.simulator.net c.args.stim _ _ (ap length c.registers.ensures.values ∙ have_length _ _ c.registers.ensures.widths) c.rows.ensures.rows)

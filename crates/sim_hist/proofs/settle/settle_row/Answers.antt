@@ -1,7 +1,7 @@
 use Rattle.std.proofs.Common.{Some, ap, ◌∙◌}
 use Rattle.sim_core.specs.State.{Simulated, one_more}
 use Rattle.sim_hist.proofs.Running.{picked_widths, row_picked}
-use Rattle.sim_hist.proofs.record.settle_row.Goals as goal
+use Rattle.sim_hist.proofs.settle.settle_row.Goals as goal
 
 pub settle-requires : goal.settle-requires
 settle-requires c =
