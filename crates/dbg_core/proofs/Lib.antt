@@ -1,3 +1,4 @@
+pub mod Batches
 pub mod Cells
 pub mod Evals
 pub mod Own

@@ -19,7 +19,8 @@ use Rattle.machine_core.specs.Reading.{Reading, Condition, NoCondition}
 use Rattle.machine_core.specs.Matching.{Breakpoint, value_there}
 use Rattle.machine_core.specs.Arming.{instance_named, scope_at, refusal_at}
 use Rattle.machine_core.specs.Machine.{Machine, Answer, way_going, position_of, line_at, threads_at, gens_at, names_at, thread_paths, shown_there, sample_of}
-use Rattle.machine_core.specs.Journal.{Line, Noticed}
+use Rattle.machine_core.specs.declared.reply.Reply.{Reply}
+use Rattle.machine_core.specs.Journal.{Line, Replied, Noticed}
 
 -- a machine that answers with this
 abbrev pub answered : Machine → Option ℕ → Body → Answer
@@ -50,6 +51,10 @@ values_of w (suc p) i = map (shown_there w p i) (names_at w (slot_at w p))
 abbrev pub told_lines : Option Notice → List Line
 told_lines None = []
 told_lines (Some notice) = Noticed notice ∷ []
+
+-- a reply, and what is told behind it
+abbrev pub answered_lines : Reply → Option Notice → List Line
+answered_lines reply notice = Replied reply ∷ told_lines notice
 
 -- ---- where it stands
 

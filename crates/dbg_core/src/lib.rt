@@ -20,6 +20,7 @@
 //! state as it was, and so does each call that only tells. A turn takes no memory.
 #![tactic(auto)]
 
+mod answering;
 mod arming;
 mod eval;
 mod listeners;
@@ -31,6 +32,7 @@ mod session;
 mod stops;
 mod texts;
 
+pub use answering::Answered;
 pub use listeners::Listeners;
 pub use machine_core::{
     Asked, At, BadText, Body, Cmd, Going, Motion, Notice, Reply, Request, Shown, Turned, Utf8,

@@ -1,0 +1,14 @@
+//! A batch of requests, answered by a session one after another, each of them waited for.
+//!
+//! What is put out is defined of the session's world and of the state that it begins with: `specs/Texts.antt` has the requests that
+//! a text holds and the text of the lines, and `specs/Batch.antt` the whole of it.
+#![tactic(auto)]
+
+mod batch;
+mod lines;
+mod put;
+mod session;
+
+pub use batch::run_batch;
+pub use session::write_batch;
+pub use sink_text::SinkEnd;

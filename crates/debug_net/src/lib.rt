@@ -1,0 +1,7 @@
+//! The debugger over an accepted design: compiled, simulated, and walked by a session.
+#![tactic(auto)]
+
+mod write;
+
+pub use sink_text::SinkEnd;
+pub use write::{Script, write_session};
