@@ -1,0 +1,29 @@
+use Rattle.std.proofs.Common.{◌<◌, lit<}
+use Rattle.replay_run.proofs.Ending.{file_line_taken, requests_line_taken, front_taken, done_taken, written_completes}
+use Rattle.replay_run.proofs.run.run_replay.Goals as goal
+
+pub returns-in-Ok-clause-file_line : goal.returns-in-Ok-clause-file_line
+returns-in-Ok-clause-file_line g c = λ five.
+    let e = c.end.ensures in
+    let early : c.end.result < 7 = rw five (lit< tt) in
+    file_line_taken _ c.end.result c.in-Ok.judged _ _ five (e.status early) (e.done early)
+
+pub returns-in-Ok-clause-requests_line : goal.returns-in-Ok-clause-requests_line
+returns-in-Ok-clause-requests_line g c = λ six.
+    let e = c.end.ensures in
+    let early : c.end.result < 7 = rw six (lit< tt) in
+    requests_line_taken _ c.end.result c.in-Ok.judged _ _ six (e.status early) (e.done early)
+
+pub returns-in-Ok-clause-front : goal.returns-in-Ok-clause-front
+returns-in-Ok-clause-front g c = λ late.
+    front_taken _ (g.F.Files.told c.args.files.now) _ c.in-Ok.judged _ _ c.in-Ok.ensures.judged (c.end.ensures.front late)
+
+pub returns-in-Ok-clause-done : goal.returns-in-Ok-clause-done
+returns-in-Ok-clause-done g c = λ early.
+    let e = c.end.ensures in
+    done_taken _ (g.F.Files.told c.args.files.now) _ c.in-Ok.judged _ _ _ c.in-Ok.ensures.judged (e.status early) (e.done early)
+
+pub returns-in-Ok-clause-complete : goal.returns-in-Ok-clause-complete
+returns-in-Ok-clause-complete g c =
+    let e = c.end.ensures in
+    written_completes _ (g.F.Files.told c.args.files.now) _ c.in-Ok.judged c.end.result _ _ _ _ e.statuses c.in-Ok.ensures.judged e.status e.done e.no_read e.write

@@ -1,0 +1,3 @@
+pub mod Refusals
+pub mod Judgement
+pub mod Laws
