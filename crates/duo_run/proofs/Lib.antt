@@ -1,0 +1,7 @@
+mod Doing
+mod Giving
+mod Noting
+mod Sending
+mod Keeping
+mod Serving
+mod Sampled

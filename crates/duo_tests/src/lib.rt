@@ -1,0 +1,11 @@
+//! Tests of links and doors in memory, and of connections that are served over them.
+//!
+//! They stand apart from the crates that they test, since a crate with tests is proved twice: with them and without.
+#![tactic(auto)]
+
+#[cfg(test)]
+mod connections;
+#[cfg(test)]
+mod links;
+#[cfg(test)]
+mod steady;
