@@ -5,8 +5,9 @@ use io_edge::{MemFiles, MemSink, Words};
 use std::alloc::Global;
 use text_core::NoMemory;
 
-/// The files: a design of two statements, one whose trail is longer than a sink is handed at once, and a stimulus of one cycle.
-static FILES: [(&str, &str); 3] = [
+/// The files: a design of two statements, one whose trail is longer than a sink is handed at once, a stimulus of one cycle, and requests;
+/// symbols without statements, a trace of one cycle, and a request.
+static FILES: [(&str, &str); 7] = [
     (
         "P.hg",
         "module P { input a : 4; output y : 4; wire t : 4; comb { t = (a + 4'h1); y = (t ^ a); } }",
@@ -16,6 +17,19 @@ static FILES: [(&str, &str); 3] = [
         "module L { input a : 4; for i in 0..64 { wire w#i : 128; } comb { for i in 0..64 { w#i = 128'h0; } } }",
     ),
     ("P.stim", "a\n15\n"),
+    (
+        "P.req",
+        "{\"cmd\":\"break\",\"line\":1}\n{\"cmd\":\"continue\"}\n",
+    ),
+    (
+        "T.json",
+        "{\"instances\":[[\"T\",0]],\"nodes\":[],\"slots\":[],\"top\":\"T\",\"variants\":[[\"T\",[]]],\"version\":1}\n",
+    ),
+    (
+        "T.vcd",
+        "$scope module T $end $var wire 1 ! clk $end $upscope $end $enddefinitions $end #0 0! #5 1!",
+    ),
+    ("T.req", "{\"cmd\":\"continue\"}\n"),
 ];
 
 /// Room for every text of these tests.
@@ -35,7 +49,7 @@ struct Case {
     asked: &'static [&'static str],
 }
 
-static CASES: [Case; 15] = [
+static CASES: [Case; 24] = [
     Case {
         words: &["trail", "keep", "P.hg", "P.stim", "P"],
         reads: &[],
@@ -179,6 +193,97 @@ static CASES: [Case; 15] = [
         front: "module \\P (clk, \\a , \\y );\n",
         asked: &["P.hg"],
     },
+    // A session over a design, and one over a trace.
+    Case {
+        words: &["debug", "keep", "P.hg", "P.stim", "P.req", "P"],
+        reads: &[],
+        puts: &[],
+        room: AMPLE,
+        status: 0,
+        least: 136,
+        front: "{\"bp\":1,\"ok\":true,\"seq\":1,\"slots\":[0,1]}\n{\"ok\":true,\"seq\":2}\n{\"cycle\":0,\"gens\":[],\"line\":1,",
+        asked: &["P.hg", "P.stim", "P.req"],
+    },
+    Case {
+        words: &["replay", "T.json", "T.vcd", "T", "T.req"],
+        reads: &[],
+        puts: &[],
+        room: AMPLE,
+        status: 0,
+        least: 39,
+        front: "{\"ok\":true,\"seq\":1}\n{\"notice\":\"ended\"}\n",
+        asked: &["T.json", "T.vcd", "T.req"],
+    },
+    Case {
+        words: &["replay", "T.json", "T.vcd", "Z", "T.req"],
+        reads: &[],
+        puts: &[],
+        room: AMPLE,
+        status: 5,
+        least: 21,
+        front: "bind fault 1 NoScope\n",
+        asked: &["T.json", "T.vcd"],
+    },
+    Case {
+        words: &["replay", "T.vcd", "T.vcd", "T", "T.req"],
+        reads: &[],
+        puts: &[],
+        room: AMPLE,
+        status: 5,
+        least: 22,
+        front: "table fault 1 NotJson\n",
+        asked: &["T.vcd"],
+    },
+    Case {
+        words: &["debug", "keep", "P.hg", "P.stim", "P.req", "P"],
+        reads: &[2],
+        puts: &[],
+        room: AMPLE,
+        status: 7,
+        least: 0,
+        front: "",
+        asked: &["P.hg", "P.stim", "P.req"],
+    },
+    Case {
+        words: &["replay", "T.json", "T.vcd", "T", "T.req"],
+        reads: &[0],
+        puts: &[],
+        room: AMPLE,
+        status: 7,
+        least: 0,
+        front: "",
+        asked: &["T.json"],
+    },
+    Case {
+        words: &["replay", "T.json", "T.vcd", "T", "T.req"],
+        reads: &[1],
+        puts: &[],
+        room: AMPLE,
+        status: 7,
+        least: 0,
+        front: "",
+        asked: &["T.json", "T.vcd"],
+    },
+    Case {
+        words: &["replay", "T.json", "T.vcd", "T", "T.req"],
+        reads: &[2],
+        puts: &[],
+        room: AMPLE,
+        status: 7,
+        least: 0,
+        front: "",
+        asked: &["T.json", "T.vcd", "T.req"],
+    },
+    Case {
+        words: &["replay", "T.json", "T.vcd", "T", "T.req"],
+        reads: &[],
+        puts: &[0],
+        room: AMPLE,
+        status: 8,
+        least: 19,
+        front: "{\"ok\":true,\"seq\":1",
+        asked: &["T.json", "T.vcd", "T.req"],
+    },
     // A sink that fails late has taken the lines before.
     Case {
         words: &["trail", "keep", "L.hg", "P.stim", "L"],
@@ -224,7 +329,7 @@ fn outcome_of(
     }
     let mut files = files_of(alloc, reads)?;
     let mut out = MemSink::new(alloc, room, puts.to_vec(alloc)?)?;
-    let ended = run(alloc, &all, &mut files, &mut out);
+    let ended = run(alloc, &all, &mut files, &mut out, Vec::new(alloc));
     Ok(Outcome {
         status: ended.status,
         files,

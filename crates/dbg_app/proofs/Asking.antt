@@ -1,5 +1,5 @@
 -- A command asks for one answer, or for the loops of one design; and the text that goes with what was judged is that of each answer.
-use Rattle.std.proofs.Common.{◌≡◌, ℕ, List, Option, Some, None, Result, Ok, Err, length, refl, sym, ◌∙◌, ap, subst, inl, inr}
+use Rattle.std.proofs.Common.{◌≡◌, ℕ, ◌<◌, arith, List, Option, Some, None, Result, Ok, Err, length, refl, sym, ◌∙◌, ap, subst, inl, inr}
 use Rattle.io_edge.specs.Taken.{Appends}
 use Rattle.bv_core.specs.Value.{Bits}
 use Rattle.design_core.specs.declared.Ports.{Ports}
@@ -8,6 +8,7 @@ use Rattle.place_core.specs.Orders.{TellsOrder}
 use Rattle.stim_text.specs.Rows.{rows_of}
 use Rattle.stim_text.specs.declared.StimFault.{StimFault}
 use Rattle.trim_laws.specs.Runs.{RunsOver}
+use Rattle.listen.specs.Pairs.{Heard}
 use Rattle.trim_laws.proofs.Orders.{one_length}
 use Rattle.design_judge.specs.declared.DesignFault.{DesignFault}
 use Rattle.design_judge.specs.declared.DesignFault.TheVariants.{CombLoop}
@@ -18,8 +19,9 @@ use Rattle.design_judge.proofs.OnePorts.{one_ports}
 use Rattle.dbg_app.specs.Command.{Task, Command}
 use Rattle.dbg_app.specs.declared.judge.Judged.{Judged}
 use Rattle.dbg_app.specs.declared.judge.Judged.TheVariants as judged
-use Rattle.dbg_app.specs.Answers.{Answer, Contents, Held, Holds, HoldsDesign, HoldsRows, Asks, NoDesign, NoStimulus, Accepted, RefusesDesign, RefusesStimulus, ShowsText, text_of}
-use Rattle.dbg_app.specs.Judged.{Judges, Work, HoldsWork, IsWorkText, TakesText, alone, over, held_by, judged_status}
+use Rattle.batch_run.specs.Texts.{requests_fault, most_requests}
+use Rattle.dbg_app.specs.Answers.{Answer, Contents, Held, Holds, HoldsDesign, HoldsRows, HoldsRequests, Asks, NoDesign, NoStimulus, NoRequests, Accepted, RefusesDesign, RefusesStimulus, RefusesRequests, ShowsText, text_of}
+use Rattle.dbg_app.specs.Judged.{Judges, Work, HoldsWork, IsWorkText, TakesText, alone, over, session, held_by, judged_status}
 use Rattle.dbg_app.specs.Outcome.{TakesAnswer}
 
 some_one : {A : Type 0} (o : Option A) (x y : A) → o ≡ Some x → o ≡ Some y → x ≡ y
@@ -52,6 +54,21 @@ same_rows files p q (Some name) x y e a b =
     let text : a.0 ≡ b.0 = some_one (files name) a.0 b.0 a.1 b.1 in
     sym a.2 ∙ ap (λ (r : Ports). rows_of r a.0) e ∙ ap (rows_of q) text ∙ b.2
 
+-- requests are one thing
+same_requests : (files : Contents) (name x y : Option (List ℕ)) → HoldsRequests files name x → HoldsRequests files name y → x ≡ y
+same_requests files None x y a b = a ∙ sym b
+same_requests files (Some name) (Some x) (Some y) a b = ap Some (some_one (files name) x y a.0 b.0)
+same_requests files (Some name) (Some x) None a b =
+    let long : most_requests < length x = subst (λ (t : List ℕ). most_requests < length t) (some_one (files name) b.0 x b.1 a.0) b.2 in
+    absurd (omega (arith, a.1, long))
+same_requests files (Some name) None (Some y) a b =
+    let long : most_requests < length y = subst (λ (t : List ℕ). most_requests < length t) (some_one (files name) a.0 y a.1 b.0) a.2 in
+    absurd (omega (arith, b.1, long))
+same_requests files (Some name) None None a b = refl
+
+taken_refused : (files : Contents) (name : Option (List ℕ)) (x : List ℕ) → HoldsRequests files name (Some x) → HoldsRequests files name None → ⊥
+taken_refused files name x a b = let both : Some x ≡ None = same_requests files name (Some x) None a b in cc
+
 -- what is said of the stimulus of a command is said once, for one design
 record Said (files : Contents) (command : Command) (d : Design) (said : Rows) : Type 0 where
   design : HoldsDesign files command d
@@ -67,15 +84,18 @@ one_saying files command d e x y a b =
 abbrev refusal_said : (files : Contents) (command : Command) (a : Answer) → (r : RefusesStimulus files command a) → Said files command r.design (Err r.fault)
 refusal_said files command a r = record { design = r.holds; ports = r.ports; are = r.are; is = r.refused }
 
+abbrev requests_said : (files : Contents) (command : Command) (a : Answer) → (r : RefusesRequests files command a) → Said files command r.design (Ok r.rows)
+requests_said files command a r = record { design = r.holds; ports = r.ports; are = r.are; is = r.stimulus }
+
 abbrev held_said : (files : Contents) (command : Command) (held : Held) → Holds files command held → Said files command held.design (Ok held.rows)
 held_said files command held h = record { design = h.design; ports = held.ports; are = h.ports; is = h.rows }
 
 abbrev work_said : (files : Contents) (command : Command) (work : Work) → HoldsWork files command work → Said files command work.accepting.design (Ok work.rows)
 work_said files command work h = record { design = h.design; ports = work.accepting.ports; are = h.kept.ports; is = h.rows }
 
--- ---- what is held is what was judged, but for the run
+-- ---- what is held is what was judged, but for the run and the way to read conditions
 
-module _ (files : Contents) (command : Command) (work : Work) (held : Held) (w : HoldsWork files command work) (h : Holds files command held) where
+module _ (heard : List Heard) (files : Contents) (command : Command) (work : Work) (held : Held) (w : HoldsWork files command work) (h : Holds files command held) where
   the_design : held.design ≡ work.accepting.design
   the_design = same_design files command held.design work.accepting.design h.design w.design
 
@@ -96,14 +116,18 @@ module _ (files : Contents) (command : Command) (work : Work) (held : Held) (w :
   the_mode : held.mode ≡ work.mode
   the_mode = h.mode ∙ sym w.mode
 
-  the_same : held ≡ held_by work held.run
-  the_same = λ k. record { design = the_design k; driven = the_driven k; ports = the_ports k; rows = the_rows k; run = held.run; mode = the_mode k }
+  the_requests : held.requests ≡ work.requests
+  the_requests = let both : Some held.requests ≡ Some work.requests = same_requests files command.requests (Some held.requests) (Some work.requests) h.requests w.requests in cc
+
+  the_same : held ≡ held_by work held.run held.reader
+  the_same =
+      λ k. record { design = the_design k; driven = the_driven k; ports = the_ports k; rows = the_rows k; run = held.run; requests = the_requests k; mode = the_mode k; reader = held.reader }
 
   runs_over : RunsOver work.accepting.design work.rows held.run
   runs_over = subst (λ (l : List (List Bits)). RunsOver work.accepting.design l held.run) the_rows (subst (λ (d : Design). RunsOver d held.rows held.run) the_design h.runs)
 
-  pub the_text : text_of command.task held ≡ text_of work.task (held_by work held.run)
-  the_text = ap (text_of command.task) the_same ∙ ap (λ (t : Task). text_of t (held_by work held.run)) (sym w.task)
+  pub the_text : text_of heard command.task held ≡ text_of heard work.task (held_by work held.run held.reader)
+  the_text = ap (text_of heard command.task) the_same ∙ ap (λ (t : Task). text_of heard t (held_by work held.run held.reader)) (sym w.task)
 
 -- ---- what was taken
 
@@ -113,12 +137,12 @@ answer_text a b e = ap (λ (x : Answer). x.text) e
 abbrev answer_status : (a b : Answer) → a ≡ b → a.status ≡ b.status
 answer_status a b e = ap (λ (x : Answer). x.status) e
 
--- a text that is asked for is that of what was judged, with some run
-work_taken : (files : Contents) (command : Command) (work : Work) (asked : Answer) (old new : Option (List ℕ)) → HoldsWork files command work → (s : ShowsText files command asked)
-    → ((text : List ℕ) → IsWorkText work text → Appends old new text) → Appends old new asked.text
-work_taken files command work asked old new w s taken =
-    subst (λ (l : List ℕ). Appends old new l) (sym (answer_text asked _ s.is ∙ the_text files command work s.held w s.holds))
-    (taken (text_of work.task (held_by work s.held.run)) (s.held.run, runs_over files command work s.held w s.holds, refl))
+-- a text that is asked for is that of what was judged, with some run and some way to read conditions
+work_taken : (heard : List Heard) (files : Contents) (command : Command) (work : Work) (asked : Answer) (old new : Option (List ℕ)) → HoldsWork files command work → (s : ShowsText heard files command asked)
+    → ((text : List ℕ) → IsWorkText heard work text → Appends old new text) → Appends old new asked.text
+work_taken heard files command work asked old new w s taken =
+    subst (λ (l : List ℕ). Appends old new l) (sym (answer_text asked _ s.is ∙ the_text heard files command work s.held w s.holds))
+    (taken (text_of heard work.task (held_by work s.held.run s.held.reader)) (s.held.run, runs_over heard files command work s.held w s.holds, s.held.reader, s.holds.reads, refl))
 
 -- the line of a refusal, where another is asked for, is of the same cause, or of another loop
 refusal_taken : (files : Contents) (command : Command) (given asked : Answer) (old new : Option (List ℕ)) → (r : RefusesDesign files command given) → (s : RefusesDesign files command asked) → Appends old new given.text → TakesAnswer files command asked old new
@@ -152,25 +176,41 @@ no_refusal : (files : Contents) (command : Command) (work : Work) (asked : Answe
 no_refusal files command work asked w s = ok_err work.rows s.fault (one_saying files command _ _ _ _ (work_said files command work w) (refusal_said files command asked s))
 
 -- what was accepted was asked for
-accepted_taken : (files : Contents) (command : Command) (work : Work) (old new : Option (List ℕ)) → HoldsWork files command work → ((text : List ℕ) → IsWorkText work text → Appends old new text)
-    → (asked : Answer) → Asks files command asked → (0 ≡ asked.status) × TakesAnswer files command asked old new
-accepted_taken files command work old new w t asked (NoDesign s) = absurd (no_design files command _ s work.accepting.design w.design)
-accepted_taken files command work old new w t asked (NoStimulus s) = absurd (no_refusal files command work asked w s)
-accepted_taken files command work old new w t asked (Accepted s) = (sym (answer_status asked _ s.is), inl (work_taken files command work asked old new w s t))
+accepted_taken : (heard : List Heard) (files : Contents) (command : Command) (work : Work) (old new : Option (List ℕ)) → HoldsWork files command work → ((text : List ℕ) → IsWorkText heard work text → Appends old new text)
+    → (asked : Answer) → Asks heard files command asked → (0 ≡ asked.status) × TakesAnswer files command asked old new
+accepted_taken heard files command work old new w t asked (NoDesign s) = absurd (no_design files command _ s work.accepting.design w.design)
+accepted_taken heard files command work old new w t asked (NoStimulus s) = absurd (no_refusal files command work asked w s)
+accepted_taken heard files command work old new w t asked (NoRequests s) = absurd (taken_refused files command.requests work.requests w.requests s.refused)
+accepted_taken heard files command work old new w t asked (Accepted s) = (sym (answer_status asked _ s.is), inl (work_taken heard files command work asked old new w s t))
+
+-- the requests are refused
+requests_taken : (heard : List Heard) (files : Contents) (command : Command) (old new : Option (List ℕ)) → RefusesRequests files command (record { status = 6; text = requests_fault }) → Appends old new requests_fault
+    → (asked : Answer) → Asks heard files command asked → (6 ≡ asked.status) × TakesAnswer files command asked old new
+requests_taken heard files command old new j t asked (NoDesign s) = absurd (no_design files command _ s j.design j.holds)
+requests_taken heard files command old new j t asked (NoStimulus s) =
+    absurd (ok_err j.rows s.fault (one_saying files command _ _ _ _ (requests_said files command _ j) (refusal_said files command asked s)))
+requests_taken heard files command old new j t asked (NoRequests s) =
+    (sym (answer_status asked _ s.is), inl (subst (λ (l : List ℕ). Appends old new l) (sym (answer_text asked _ s.is)) t))
+requests_taken heard files command old new j t asked (Accepted s) = absurd (taken_refused files command.requests s.held.requests s.holds.requests j.refused)
 
 -- the text that goes with what was judged is that of every answer that is asked for
-pub answer_taken : (files : Contents) (command : Command) (found : Judged) (old new : Option (List ℕ)) → Judges files command found → TakesText found old new → (asked : Answer) → Asks files command asked
+pub answer_taken : (heard : List Heard) (files : Contents) (command : Command) (found : Judged) (old new : Option (List ℕ)) → Judges files command found → TakesText heard found old new → (asked : Answer) → Asks heard files command asked
     → (judged_status found ≡ asked.status) × TakesAnswer files command asked old new
-answer_taken files command judged.NoCommand old new j t asked asks = absurd j
-answer_taken files command (judged.NoDesign fault) old new j t asked (NoDesign s) =
+answer_taken heard files command judged.NoCommand old new j t asked asks = absurd j
+answer_taken heard files command (judged.NoDesign fault) old new j t asked (NoDesign s) =
     (sym (answer_status asked _ s.is), refusal_taken files command (record { status = 3; text = design_line fault }) asked old new j s (t.taken (design_line fault) refl))
-answer_taken files command (judged.NoDesign fault) old new j t asked (NoStimulus s) = absurd (no_design files command _ j s.design s.holds)
-answer_taken files command (judged.NoDesign fault) old new j t asked (Accepted s) = absurd (no_design files command _ j s.held.design s.holds.design)
-answer_taken files command (judged.NoStimulus fault) old new j t asked (NoDesign s) = absurd (no_design files command _ s j.design j.holds)
-answer_taken files command (judged.NoStimulus fault) old new j t asked (NoStimulus s) =
+answer_taken heard files command (judged.NoDesign fault) old new j t asked (NoStimulus s) = absurd (no_design files command _ j s.design s.holds)
+answer_taken heard files command (judged.NoDesign fault) old new j t asked (NoRequests s) = absurd (no_design files command _ j s.design s.holds)
+answer_taken heard files command (judged.NoDesign fault) old new j t asked (Accepted s) = absurd (no_design files command _ j s.held.design s.holds.design)
+answer_taken heard files command (judged.NoStimulus fault) old new j t asked (NoDesign s) = absurd (no_design files command _ s j.design j.holds)
+answer_taken heard files command (judged.NoStimulus fault) old new j t asked (NoStimulus s) =
     let same : record { status = 4; text = stimulus_line fault } ≡ asked = stimulus_taken files command (record { status = 4; text = stimulus_line fault }) asked j s in
     (answer_status _ asked same, inl (subst (λ (l : List ℕ). Appends old new l) (answer_text _ asked same) (t.taken (stimulus_line fault) refl)))
-answer_taken files command (judged.NoStimulus fault) old new j t asked (Accepted s) =
+answer_taken heard files command (judged.NoStimulus fault) old new j t asked (NoRequests s) =
+    absurd (ok_err s.rows j.fault (one_saying files command _ _ _ _ (requests_said files command asked s) (refusal_said files command _ j)))
+answer_taken heard files command (judged.NoStimulus fault) old new j t asked (Accepted s) =
     absurd (ok_err s.held.rows j.fault (one_saying files command _ _ _ _ (held_said files command s.held s.holds) (refusal_said files command _ j)))
-answer_taken files command (judged.Alone task mode a) old new j t asked asks = accepted_taken files command (alone task mode a) old new j t.taken asked asks
-answer_taken files command (judged.Over task mode a stim) old new j t asked asks = accepted_taken files command (over task mode a stim) old new j t.taken asked asks
+answer_taken heard files command judged.NoRequests old new j t asked asks = requests_taken heard files command old new j (t.taken requests_fault refl) asked asks
+answer_taken heard files command (judged.Alone task mode a) old new j t asked asks = accepted_taken heard files command (alone task mode a) old new j t.taken asked asks
+answer_taken heard files command (judged.Over task mode a stim) old new j t asked asks = accepted_taken heard files command (over task mode a stim) old new j t.taken asked asks
+answer_taken heard files command (judged.Session mode a stim requests) old new j t asked asks = accepted_taken heard files command (session mode a stim requests.items) old new j t.taken asked asks

@@ -1,3 +1,4 @@
+pub mod Calling
 mod Ending
 mod Writing
 mod Asking

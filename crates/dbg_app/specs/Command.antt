@@ -1,5 +1,5 @@
 -- The words of the program.
-use Rattle.std.specs.Prelude.{ℕ, ◌+◌, ◌==◌, ℤ, pos, ◌-ℤ◌, Bool, true, false, not, List, [], ◌∷◌, length, take, drop, Option, Some, None, option_map, option_and_then, is_some, codes, if◌then◌else◌, ◌&&◌, nat_le, nat_lt}
+use Rattle.std.specs.Prelude.{ℕ, ◌+◌, ◌==◌, ℤ, pos, ◌-ℤ◌, Bool, true, false, not, List, [], ◌∷◌, ◌++◌, length, take, drop, Option, Some, None, option_map, option_and_then, is_some, codes, if◌then◌else◌, ◌&&◌, nat_le, nat_lt}
 use Rattle.std.specs.List.{list_all, prefix_len, filter_map}
 use Rattle.std.specs.Str.{bytes_eq}
 use Rattle.text_core.specs.Digits.{is_digit_of, number_of}
@@ -49,46 +49,58 @@ is_argument word = is_some (argument_of word)
 abbrev pub mode_of : List ℕ → Option Mode
 mode_of word = if bytes_eq word (codes "opt") then Some Opt else if bytes_eq word (codes "keep") then Some Keep else None
 
--- what is asked of a design: the trail of its run, its Verilog, its symbol file, or the waves of its run
+-- what is asked of a design: the trail of its run, its Verilog, its symbol file, the waves of its run, or what a session over its run
+-- puts out
 pub data Task : Type 0 where
   Trail : Task
   Verilog : Task
   Symbols : Task
   Waves : Task
+  Session : Task
 
--- a command: what it asks, in which mode, of which source file, over which stimulus file where it names one, and of which top
+-- a command: what it asks, in which mode, of which source file, over which stimulus file and by which file of requests where it names
+-- them, and of which top
 pub record Command : Type 0 where
   pub task : Task
   pub mode : Mode
   pub source : List ℕ
   pub stimulus : Option (List ℕ)
+  pub requests : Option (List ℕ)
   pub top : Top
 
 -- a file is any word that is not empty
-abbrev pub has_stimulus : Option (List ℕ) → Bool
-has_stimulus None = true
-has_stimulus (Some stimulus) = not (bytes_eq stimulus [])
+abbrev pub has_file : Option (List ℕ) → Bool
+has_file None = true
+has_file (Some name) = not (bytes_eq name [])
 
 -- TOP is a name of the language, and the rest are at most 64 arguments
-abbrev pub command_with : Task → List ℕ → Option (List ℕ) → List ℕ → List (List ℕ) → Mode → Option Command
-command_with task source stimulus top rest mode =
-    if not (bytes_eq source []) && has_stimulus stimulus && is_name top && nat_le (length rest) 64 && list_all is_argument rest then
-    Some (record { task = task; mode = mode; source = source; stimulus = stimulus; top = record { name = top; given = filter_map argument_of rest } }) else None
+abbrev pub command_with : Task → List ℕ → Option (List ℕ) → Option (List ℕ) → List ℕ → List (List ℕ) → Mode → Option Command
+command_with task source stimulus requests top rest mode =
+    if not (bytes_eq source []) && (has_file stimulus && has_file requests) && is_name top && nat_le (length rest) 64 && list_all is_argument rest then
+    Some (record { task = task; mode = mode; source = source; stimulus = stimulus; requests = requests; top = record { name = top; given = filter_map argument_of rest } }) else None
 
 -- the words `.. MODE SRC STIM TOP [NAME=N]..`
 abbrev pub over_rows : Task → List (List ℕ) → Option Command
-over_rows task (word ∷ mode ∷ source ∷ stimulus ∷ top ∷ rest) = option_and_then (command_with task source (Some stimulus) top rest) (mode_of mode)
+over_rows task (word ∷ mode ∷ source ∷ stimulus ∷ top ∷ rest) = option_and_then (command_with task source (Some stimulus) None top rest) (mode_of mode)
 over_rows task words = None
 
 -- the words `.. MODE SRC TOP [NAME=N]..`
 abbrev pub of_design : Task → List (List ℕ) → Option Command
-of_design task (word ∷ mode ∷ source ∷ top ∷ rest) = option_and_then (command_with task source None top rest) (mode_of mode)
+of_design task (word ∷ mode ∷ source ∷ top ∷ rest) = option_and_then (command_with task source None None top rest) (mode_of mode)
 of_design task words = None
 
--- what a first word asks: of a design over the rows of a stimulus, which is then named; or of the design alone
+-- the words `.. MODE SRC STIM REQ TOP [NAME=N]..`
+abbrev pub by_requests : List (List ℕ) → Option Command
+by_requests (word ∷ mode ∷ source ∷ stimulus ∷ requests ∷ top ∷ rest) =
+    option_and_then (command_with Session source (Some stimulus) (Some requests) top rest) (mode_of mode)
+by_requests words = None
+
+-- what a first word asks: of a design over the rows of a stimulus, which is then named; of the design alone; or of a session over the
+-- rows by requests, both of which are then named
 pub data Form : Type 0 where
   Over : Task → Form
   Alone : Task → Form
+  ByRequests : Form
 
 -- the commands by their first words
 abbrev pub form_of : List ℕ → Option Form
@@ -96,22 +108,24 @@ form_of word =
     if bytes_eq word (codes "trail") then Some (Over Trail) else
     if bytes_eq word (codes "compile") then Some (Alone Verilog) else
     if bytes_eq word (codes "symbols") then Some (Alone Symbols) else
-    if bytes_eq word (codes "sim") then Some (Over Waves) else None
+    if bytes_eq word (codes "sim") then Some (Over Waves) else
+    if bytes_eq word (codes "debug") then Some ByRequests else None
 
 -- and by those behind it
 abbrev pub command_by : List (List ℕ) → Form → Option Command
 command_by words (Over task) = over_rows task words
 command_by words (Alone task) = of_design task words
+command_by words ByRequests = by_requests words
 
 abbrev pub command_of : List (List ℕ) → Option Command
 command_of [] = None
 command_of (word ∷ words) = option_and_then (command_by (word ∷ words)) (form_of word)
 
 -- the names of the files, in the order of the words
-abbrev pub stimulus_names : Option (List ℕ) → List (List ℕ)
-stimulus_names None = []
-stimulus_names (Some stimulus) = stimulus ∷ []
+abbrev pub file_names : Option (List ℕ) → List (List ℕ)
+file_names None = []
+file_names (Some name) = name ∷ []
 
 abbrev pub names_of : Option Command → List (List ℕ)
 names_of None = []
-names_of (Some command) = command.source ∷ stimulus_names command.stimulus
+names_of (Some command) = command.source ∷ file_names command.stimulus ++ file_names command.requests

@@ -3,4 +3,5 @@ pub mod Asked
 pub mod Answers
 pub mod Judged
 pub mod Outcome
+pub mod Call
 pub mod Ends

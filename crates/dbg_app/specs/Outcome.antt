@@ -6,6 +6,7 @@ use Rattle.stim_text.specs.declared.StimFault.TheVariants as stim_faults
 use Rattle.design_core.specs.Design.{Design}
 use Rattle.design_judge.specs.declared.DesignFault.{DesignFault}
 use Rattle.design_judge.specs.Refusals.{is_no_memory, design_line, stimulus_line}
+use Rattle.listen.specs.Pairs.{Heard}
 use Rattle.dbg_app.specs.Command.{Command}
 use Rattle.dbg_app.specs.Answers.{Answer, Contents, Asks, RefusesLoop}
 use Rattle.dbg_app.specs.declared.halt.Halt.{Halt}
@@ -13,14 +14,15 @@ use Rattle.dbg_app.specs.declared.halt.Halt.TheVariants.{ReadFault, WriteFault, 
 
 -- ---- the statuses
 
--- The ways in which a run ends. The words are judged before the source, the source before the stimulus, and all of them before a byte
--- is written. A file that is not read ends the run where it stands in that order. An output that fails, or want of memory, takes the
--- place of what else would have come.
+-- The ways in which a run ends. The words are judged before the source, the source before the stimulus, the stimulus before the
+-- requests, and all of them before a byte is written. A file that is not read ends the run where it stands in that order. An output
+-- that fails, or want of memory, takes the place of what else would have come.
 pub data Ending : Type 0 where
   Written : Ending
   NoCommand : Ending
   NoDesign : Ending
   NoStimulus : Ending
+  NoRequests : Ending
   NotRead : Ending
   NotTaken : Ending
   OutOfMemory : Ending
@@ -30,6 +32,7 @@ status_of Written = 0
 status_of NoCommand = 2
 status_of NoDesign = 3
 status_of NoStimulus = 4
+status_of NoRequests = 6
 status_of NotRead = 7
 status_of NotTaken = 8
 status_of OutOfMemory = 9
@@ -38,7 +41,7 @@ status_of OutOfMemory = 9
 abbrev pub is_status : ℕ → Bool
 is_status status =
     status == status_of Written || status == status_of NoCommand || status == status_of NoDesign || status == status_of NoStimulus
-    || status == status_of NotRead || status == status_of NotTaken || status == status_of OutOfMemory
+    || status == status_of NoRequests || status == status_of NotRead || status == status_of NotTaken || status == status_of OutOfMemory
 
 -- the statuses of a run whose words are no command
 abbrev pub is_usage_status : ℕ → Bool
@@ -64,21 +67,21 @@ pub record TakesStimulusLine (old new : Option (List ℕ)) : Type 0 where
   pub taken : Appends old new (stimulus_line fault)
 
 -- the run ended with the answer that is asked for, and the sink took its whole text
-pub record EndsAsAsked (files : Contents) (command : Command) (status : ℕ) (old new : Option (List ℕ)) : Type 0 where
+pub record EndsAsAsked (heard : List Heard) (files : Contents) (command : Command) (status : ℕ) (old new : Option (List ℕ)) : Type 0 where
   pub text : List ℕ
-  pub asked : Asks files command (record { status = status; text = text })
+  pub asked : Asks heard files command (record { status = status; text = text })
   pub taken : Appends old new text
 
 -- the sink took a front of the text that is asked for
-pub record TakesFront (files : Contents) (command : Command) (old new : Option (List ℕ)) : Type 0 where
+pub record TakesFront (heard : List Heard) (files : Contents) (command : Command) (old new : Option (List ℕ)) : Type 0 where
   pub status : ℕ
   pub text : List ℕ
-  pub asked : Asks files command (record { status = status; text = text })
+  pub asked : Asks heard files command (record { status = status; text = text })
   pub taken : AppendsFront old new text
 
 -- nothing was taken, or a front of the text that is asked for
-abbrev pub TakesSome : Contents → Command → Option (List ℕ) → Option (List ℕ) → Type 0
-TakesSome files command old new = (new ≡ old) ⊎ TakesFront files command old new
+abbrev pub TakesSome : List Heard → Contents → Command → Option (List ℕ) → Option (List ℕ) → Type 0
+TakesSome heard files command old new = (new ≡ old) ⊎ TakesFront heard files command old new
 
 -- the answer tells a loop of a design, and the sink took the whole text of an answer that tells a loop of the same design
 pub record TakesOtherLoop (files : Contents) (command : Command) (answer : Answer) (old new : Option (List ℕ)) : Type 0 where
@@ -94,6 +97,6 @@ TakesAnswer files command answer old new = Appends old new answer.text ⊎ Takes
 
 -- where the files ask for an answer, and neither count has risen, the run ended with its status and its whole text was taken, or
 -- memory ran out
-abbrev pub Completes : Contents → Command → ℕ → Option (List ℕ) → Option (List ℕ) → Type 0 → Type 0 → Type 0
-Completes files command status old new read_rose write_rose =
-    (answer : Answer) → Asks files command answer → (read_rose → ⊥) → (write_rose → ⊥) → ((status ≡ answer.status) × TakesAnswer files command answer old new) ⊎ (status ≡ 9)
+abbrev pub Completes : List Heard → Contents → Command → ℕ → Option (List ℕ) → Option (List ℕ) → Type 0 → Type 0 → Type 0
+Completes heard files command status old new read_rose write_rose =
+    (answer : Answer) → Asks heard files command answer → (read_rose → ⊥) → (write_rose → ⊥) → ((status ≡ answer.status) × TakesAnswer files command answer old new) ⊎ (status ≡ 9)

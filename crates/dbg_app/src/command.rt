@@ -1,10 +1,10 @@
 //! The commands, by their words.
 
-ghost use Rattle.std.specs.Prelude.{◌≡◌, ◌<◌, ◌≤◌, length, drop};
+ghost use Rattle.std.specs.Prelude.{◌≡◌, ◌<◌, ◌≤◌, ◌&&◌, length, drop};
 ghost use Rattle.std.specs.Option.{option_map};
 ghost use Rattle.std.specs.List.{list_all};
-ghost use Rattle.dbg_app.specs.Command.{command_of, command_with as the_command_with, form_of as the_form_of, has_stimulus as the_has_stimulus, is_argument, mode_of, of_design as the_of_design, over_rows as the_over_rows};
-ghost use Rattle.dbg_app.specs.Asked.{alone_as, command_as, form_as, over_as, stimulus_as, task_as};
+ghost use Rattle.dbg_app.specs.Command.{command_of, command_with as the_command_with, form_of as the_form_of, has_file, is_argument, mode_of, by_requests as the_by_requests, of_design as the_of_design, over_rows as the_over_rows};
+ghost use Rattle.dbg_app.specs.Asked.{alone_as, command_as, form_as, over_as, requests_as, stimulus_as, task_as};
 
 use crate::arguments::argument_of;
 use gen_token::is_name;
@@ -29,18 +29,21 @@ pub(crate) enum OverRows {
     Waves,
 }
 
-/// What a first word asks: of a design alone, or over the rows of a stimulus, which is then named.
+/// What a first word asks: of a design alone; over the rows of a stimulus, which is then named; or of a session over the rows by
+/// requests, both of which are then named.
 #[derive(Clone, Copy)]
 enum Form {
     Alone(OfDesign),
     Over(OverRows),
+    ByRequests,
 }
 
-/// What is asked, and the file of the stimulus where one is named.
+/// What is asked, and the files of the stimulus and of the requests where they are named.
 #[derive(Clone, Copy)]
 pub(crate) enum Task<'a> {
     Alone(OfDesign),
     Over(OverRows, &'a str),
+    Session(&'a str, &'a str),
 }
 
 /// What a command asks: in which mode, of which source file and top module; and its words, of which those from the place `first`
@@ -67,13 +70,14 @@ fn are_arguments(words: &Words, first: usize) -> bool
     true
 }
 
-/// Whether the name of the stimulus, where there is one, may stand in a command.
-fn has_stimulus(task: Task<'_>) -> bool
-    ensures { result ≡ the_has_stimulus (stimulus_as task.entry) }
+/// Whether the names of the stimulus and of the requests, where there are some, may stand in a command.
+fn has_files(task: Task<'_>) -> bool
+    ensures { result ≡ (has_file (stimulus_as task.entry) && has_file (requests_as task.entry)) }
 {
     match task {
         Task::Alone(_) => true,
         Task::Over(_, stimulus) => !stimulus.is_empty(),
+        Task::Session(stimulus, requests) => !stimulus.is_empty() && !requests.is_empty(),
     }
 }
 
@@ -87,9 +91,9 @@ fn command_with<'a>(
     first: usize,
 ) -> Option<Command<'a>>
     requires { first ≤ length words.now }
-    ensures { option_map command_as result ≡ the_command_with (task_as task.entry) source.now (stimulus_as task.entry) top.now (drop first words.now) mode }
+    ensures { option_map command_as result ≡ the_command_with (task_as task.entry) source.now (stimulus_as task.entry) (requests_as task.entry) top.now (drop first words.now) mode }
 {
-    if source.is_empty() || !has_stimulus(task) || !is_name(top.as_bytes()) {
+    if source.is_empty() || !has_files(task) || !is_name(top.as_bytes()) {
         return None;
     }
     if words.count() - first > 64 || !are_arguments(words, first) {
@@ -140,6 +144,18 @@ fn of_design<'a>(task: OfDesign, words: &'a Words) -> Option<Command<'a>>
     command_with(task, mode, words.word(2), words.word(3), words, 4)
 }
 
+/// The command `.. MODE SRC STIM REQ TOP [NAME=N]..` that the words are, whatever the first is.
+fn by_requests<'a>(words: &'a Words) -> Option<Command<'a>>
+    ensures { option_map command_as result ≡ the_by_requests words.now }
+{
+    if words.count() < 6 {
+        return None;
+    }
+    let mode = mode_of(words.word(1))?;
+    let task = Task::Session(words.word(3), words.word(4));
+    command_with(task, mode, words.word(2), words.word(5), words, 6)
+}
+
 /// What a first word asks, if a command has it.
 fn form_of(word: &str) -> Option<Form>
     ensures { option_map form_as result ≡ the_form_of word.now }
@@ -149,6 +165,7 @@ fn form_of(word: &str) -> Option<Form>
         "compile" => Some(Form::Alone(OfDesign::Verilog)),
         "symbols" => Some(Form::Alone(OfDesign::Symbols)),
         "sim" => Some(Form::Over(OverRows::Waves)),
+        "debug" => Some(Form::ByRequests),
         _ => None,
     }
 }
@@ -163,5 +180,6 @@ pub(crate) fn read_command<'a>(words: &'a Words) -> Option<Command<'a>>
     match form_of(words.word(0))? {
         Form::Over(task) => over_rows(task, words),
         Form::Alone(task) => of_design(task, words),
+        Form::ByRequests => by_requests(words),
     }
 }

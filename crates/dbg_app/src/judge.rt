@@ -1,34 +1,42 @@
 //! Reads the files of a command in the order of its words, and judges each.
 
-ghost use Rattle.std.specs.Prelude.{◌≡◌, ◌<◌, ◌≤◌, ◌↔◌, IsTrue, [], ◌∷◌, None, IfOk, IfSome, OnOk, OnErr, IsErrOf};
+ghost use Rattle.std.specs.Prelude.{◌≡◌, ◌<◌, ◌≤◌, ◌↔◌, IsTrue, [], ◌∷◌, ◌++◌, Some, None, IfOk, IfSome, OnOk, OnErr, IsErrOf};
 ghost use Rattle.io_edge.specs.Faults.{Rose};
 ghost use Rattle.io_edge.specs.Taken.{Appends, AppendsFront};
+ghost use Rattle.design_core.specs.DesignView.{design_of};
+ghost use Rattle.design_judge.specs.Accepting.{IsKept, accepting_of};
 ghost use Rattle.design_judge.specs.Judging.{IsFit, JudgesSource};
-ghost use Rattle.dbg_app.specs.Command.{command_of, stimulus_names, names_of};
-ghost use Rattle.dbg_app.specs.Answers.{IfAsked};
-ghost use Rattle.dbg_app.specs.Asked.{command_as, stimulus_as};
+ghost use Rattle.dbg_app.specs.Command.{command_of, file_names, names_of};
+ghost use Rattle.dbg_app.specs.Answers.{IfAsked, HoldsDesign};
+ghost use Rattle.dbg_app.specs.Asked.{command_as, requests_as, stimulus_as};
+ghost use Rattle.dbg_app.specs.declared.command.Task.TheVariants.{Session};
 ghost use Rattle.dbg_app.specs.Judged.{HasText, Judges, judged_status};
 ghost use Rattle.dbg_app.specs.Outcome.{is_status};
 
 use crate::Halt;
 use crate::arguments::given_in;
 use crate::command::{Command, OfDesign, OverRows, Task, read_command};
+use crate::requests::read_requests;
 use design_judge::{Accepted, DesignFault, judge_design, judge_stimulus};
 use io_edge::{Files, Words};
 use std::alloc::Global;
 use stim_text::{Stim, StimFault};
 use world_core::Mode;
 
-/// A command, judged: the words are none, the source or the stimulus is refused, or what it asks can be written.
+/// A command, judged: the words are none, the source, the stimulus or the requests are refused, or what it asks can be written.
 #[derive(Drop)]
 pub(crate) enum Judged {
     NoCommand,
     NoDesign(DesignFault),
     NoStimulus(StimFault),
+    /// The requests are too long.
+    NoRequests,
     /// What is asked of this design alone, in this mode.
     Alone(OfDesign, Mode, Accepted),
     /// What is asked of this design over this stimulus, in this mode.
     Over(OverRows, Mode, Accepted, Stim),
+    /// What a session over this design's run over this stimulus puts out for these requests, in this mode.
+    Session(Mode, Accepted, Stim, Vec<u8>),
 }
 
 impl Judged {
@@ -42,8 +50,10 @@ impl Judged {
             Judged::NoCommand => 2,
             Judged::NoDesign(_) => 3,
             Judged::NoStimulus(_) => 4,
+            Judged::NoRequests => 6,
             Judged::Alone(_, _, _) => 0,
             Judged::Over(_, _, _, _) => 0,
+            Judged::Session(_, _, _, _) => 0,
         }
     }
 }
@@ -68,6 +78,35 @@ fn judge_source<F: Files>(
     Ok(judge_design(alloc, files, command.source, top, &given)?)
 }
 
+/// Reads the stimulus and the requests of a session over an accepted design, in this order, and judges each.
+fn judge_session<F: Files>(
+    alloc: Global,
+    command: &Command<'_>,
+    accepted: Accepted,
+    stimulus: &str,
+    requests: &str,
+    files: &mut F,
+) -> Result<Judged, Halt>
+    requires task { command.now.task ≡ Session stimulus requests }
+    requires kept { IsKept (accepting_of accepted) }
+    ensures judged { IfOk result (λ judged. IfSome (F.told files.old) (λ told. HoldsDesign told (command_as command.now) (design_of accepted.design) → Judges told (command_as command.now) judged)) }
+    ensures text { IfOk result HasText }
+    ensures command { IfOk result (λ judged. judged ≡ Judged.NoCommand → ⊥) }
+    ensures front { AppendsFront (F.asked files.old) (F.asked files.new) (stimulus.now ∷ requests.now ∷ []) }
+    ensures read { IsErrOf result Halt.ReadFault → Rose (F.fault_count files.old) (F.fault_count files.new) }
+    ensures no_write { IsErrOf result Halt.WriteFault → ⊥ }
+    ensures later { F.fault_count files.old ≤ F.fault_count files.new }
+{
+    let stim = match judge_stimulus(alloc, files, stimulus, &accepted.ports)? {
+        Ok(stim) => stim,
+        Err(fault) => return Ok(Judged::NoStimulus(fault)),
+    };
+    match read_requests(alloc, files, requests)? {
+        Some(requests) => Ok(Judged::Session(command.mode, accepted, stim, requests)),
+        None => Ok(Judged::NoRequests),
+    }
+}
+
 /// Reads the files of a command in the order of its words, and judges each.
 fn judge_command<F: Files>(
     alloc: Global,
@@ -77,7 +116,7 @@ fn judge_command<F: Files>(
     ensures judged { IfOk result (λ judged. IfSome (F.told files.old) (λ told. Judges told (command_as command.now) judged)) }
     ensures text { IfOk result HasText }
     ensures command { IfOk result (λ judged. judged ≡ Judged.NoCommand → ⊥) }
-    ensures front { AppendsFront (F.asked files.old) (F.asked files.new) (command.now.source.now ∷ stimulus_names (stimulus_as command.now.task)) }
+    ensures front { AppendsFront (F.asked files.old) (F.asked files.new) (command.now.source.now ∷ file_names (stimulus_as command.now.task) ++ file_names (requests_as command.now.task)) }
     ensures read { IsErrOf result Halt.ReadFault → Rose (F.fault_count files.old) (F.fault_count files.new) }
     ensures no_write { IsErrOf result Halt.WriteFault → ⊥ }
     ensures later { F.fault_count files.old ≤ F.fault_count files.new }
@@ -93,6 +132,9 @@ fn judge_command<F: Files>(
                 Ok(stim) => Ok(Judged::Over(task, command.mode, accepted, stim)),
                 Err(fault) => Ok(Judged::NoStimulus(fault)),
             }
+        }
+        Task::Session(stimulus, requests) => {
+            judge_session(alloc, command, accepted, stimulus, requests, files)
         }
     }
 }

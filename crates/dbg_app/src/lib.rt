@@ -6,6 +6,8 @@ mod command;
 mod halt;
 mod judge;
 mod program;
+mod replay;
+mod requests;
 mod write;
 
 use halt::Halt;

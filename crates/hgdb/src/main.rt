@@ -1,14 +1,16 @@
 //! The program `hgdb`.
 //!
-//! It makes the words of the command line and the adapters of the system, calls `dbg_app::run`, and ends with its status.
+//! It makes the words of the command line, the adapters of the system and the listeners of a session, calls `dbg_app::run`, and ends
+//! with its status.
 //! Standard output has what `run` writes; a hint after a usage fault goes to standard error.
 #![tactic(auto)]
 
-use dbg_app::run;
+use dbg_app::{Ended, run};
 use io_edge::{Sink, StdFiles, StdSink, Words};
+use listen::{CycleHits, LineHits, Listener};
 use std::io::ErrorKind;
 use std::process::ExitCode;
-use std::rt::Env;
+use std::rt::{Env, Files};
 use std::{env, io};
 use text_core::NoMemory;
 
@@ -26,14 +28,20 @@ Usage:
                     print where each variable of the source is found
   hgdb sim MODE SRC STIM TOP [NAME=N]..
                     print the values of the design's net as a value change dump
+  hgdb debug MODE SRC STIM REQ TOP [NAME=N]..
+                    print what a session over the design's run answers to requests
+  hgdb replay SYM VCD SCOPE REQ
+                    print what a session over the trace of a simulator answers to requests
   hgdb --help       print this text
   hgdb --version    print the version
 
 MODE is keep, where every name is kept, or opt, where a name that neither the outputs nor the conditions need is removed.
-SRC is a source file, STIM a stimulus file, TOP the module to run. NAME=N gives its parameter NAME the number N.
+SRC is a source file, STIM a stimulus file, REQ a file with a request of the debugger in each line, TOP the module to run.
+NAME=N gives its parameter NAME the number N. SYM is a symbol file, VCD a value change dump of the same design, SCOPE the names of the
+scopes around its module there and its own, joined by dots.
 
 Exit status: 0 all was printed; 2 the words are no command; 3 the source is refused; 4 the stimulus is refused;
-7 a file was not read; 8 the output failed; 9 memory ran out.
+5 the symbol file or the dump is refused; 6 the requests are too long; 7 a file was not read; 8 the output failed; 9 memory ran out.
 ";
 
 /// The words of the command line without the program's name. Where a word is not UTF-8 there are none.
@@ -72,6 +80,18 @@ fn print_text(rt: &impl Print, text: &str) -> u8 {
     }
 }
 
+/// Does what the words say over the system's files and its output. A session has two listeners of its stops: the first counts them by
+/// line, the second by cycle. Fails only where there is no memory for these.
+fn run_over<R: Files + Print + AllocGlobal>(rt: &R, words: &Words) -> Result<Ended, NoMemory> {
+    let alloc = rt.alloc();
+    let mut listeners: Vec<Box<dyn Listener>> = Vec::new(alloc);
+    listeners.push(Box::new(alloc, LineHits::new(alloc)?)?)?;
+    listeners.push(Box::new(alloc, CycleHits::new(alloc)?)?)?;
+    let mut files = StdFiles::new(rt);
+    let mut out = StdSink::new(rt);
+    Ok(run(alloc, words, &mut files, &mut out, listeners))
+}
+
 fn main(rt: HostRuntime) -> io::Result<ExitCode> {
     let Ok(words) = words(&rt) else {
         return Ok(ExitCode::from(9));
@@ -79,9 +99,9 @@ fn main(rt: HostRuntime) -> io::Result<ExitCode> {
     if let Some(text) = text_asked_for(&words) {
         return Ok(ExitCode::from(print_text(&rt, text)));
     }
-    let mut files = StdFiles::new(&rt);
-    let mut out = StdSink::new(&rt);
-    let ended = run(rt.alloc(), &words, &mut files, &mut out);
+    let Ok(ended) = run_over(&rt, &words) else {
+        return Ok(ExitCode::from(9));
+    };
     if ended.status == 2 {
         // A standard error that fails changes nothing.
         let _ = eprintln!(rt; "hgdb: `hgdb --help` tells the commands");

@@ -1,17 +1,18 @@
-use Rattle.std.proofs.Common.{refl, [], ◌∷◌, sym, ap}
+use Rattle.std.proofs.Common.{refl, [], ◌∷◌, ◌++◌, sym, ap}
 use Rattle.io_edge.proofs.Growth.{front_after, front_of_front}
-use Rattle.dbg_app.specs.Command.{stimulus_names}
-use Rattle.dbg_app.specs.Asked.{task_as, stimulus_as, command_as}
-use Rattle.dbg_app.proofs.Judging.{over_runs, alone_runs, alone_held, over_held, over_refused}
+use Rattle.design_core.specs.DesignView.{design_of}
+use Rattle.dbg_app.specs.Command.{file_names}
+use Rattle.dbg_app.specs.Asked.{task_as, stimulus_as, requests_as, command_as}
+use Rattle.dbg_app.proofs.Judging.{over_runs, alone_runs, alone_held, over_held, over_refused, source_held, session_judged}
 use Rattle.dbg_app.proofs.judge.judge_command.Goals as goal
 
 pub returns-in_err-accepted-clause-front : goal.returns-in_err-accepted-clause-front
 returns-in_err-accepted-clause-front g c =
-    front_of_front _ _ (c.args.command.now.source.now ∷ []) (stimulus_names (stimulus_as c.args.command.now.task)) _ refl c.judge_source.ensures.front
+    front_of_front _ _ (c.args.command.now.source.now ∷ []) (file_names (stimulus_as c.args.command.now.task) ++ file_names (requests_as c.args.command.now.task)) _ refl c.judge_source.ensures.front
 
 pub returns-in-Alone-clause-judged : goal.returns-in-Alone-clause-judged
 returns-in-Alone-clause-judged g c =
-    alone_held (g.F.Files.told c.args.files.now) (command_as c.args.command.now) c.in-Alone.task c.args.command.now.mode c.in-Ok.accepted (sym (ap task_as c.in-Alone.is)) refl (ap stimulus_as c.in-Alone.is)
+    alone_held (g.F.Files.told c.args.files.now) (command_as c.args.command.now) c.in-Alone.task c.args.command.now.mode c.in-Ok.accepted (sym (ap task_as c.in-Alone.is)) refl (ap stimulus_as c.in-Alone.is) (ap requests_as c.in-Alone.is)
     (rw c.in-Ok.is at c.in_ok-accepted.ensures.fit) (rw c.in-Ok.is at c.in_ok-accepted.ensures.judged)
 
 pub returns-in-Alone-clause-text : goal.returns-in-Alone-clause-text
@@ -19,11 +20,11 @@ returns-in-Alone-clause-text g c = alone_runs c.in-Alone.task c.args.command.now
 
 pub returns-in_err-stim-in-Over-clause-front : goal.returns-in_err-stim-in-Over-clause-front
 returns-in_err-stim-in-Over-clause-front g c =
-    front_after _ _ _ (c.args.command.now.source.now ∷ []) (c.in-Over.stimulus.now ∷ []) [] _ (ap (λ t. c.args.command.now.source.now ∷ stimulus_names (stimulus_as t)) c.in-Over.is) c.in_ok-accepted.ensures.asked c.judge_stimulus.ensures.front
+    front_after _ _ _ (c.args.command.now.source.now ∷ []) (c.in-Over.stimulus.now ∷ []) [] _ (ap (λ t. c.args.command.now.source.now ∷ file_names (stimulus_as t) ++ file_names (requests_as t)) c.in-Over.is) c.in_ok-accepted.ensures.asked c.judge_stimulus.ensures.front
 
 pub returns-in-Ok-2-clause-judged : goal.returns-in-Ok-2-clause-judged
 returns-in-Ok-2-clause-judged g c =
-    over_held (g.F.Files.told c.args.files.now) (command_as c.args.command.now) c.in-Over.stimulus.now c.in-Over.task c.args.command.now.mode c.in-Ok.accepted c.in-Ok-2.stim (sym (ap task_as c.in-Over.is)) refl (ap stimulus_as c.in-Over.is)
+    over_held (g.F.Files.told c.args.files.now) (command_as c.args.command.now) c.in-Over.stimulus.now c.in-Over.task c.args.command.now.mode c.in-Ok.accepted c.in-Ok-2.stim (sym (ap task_as c.in-Over.is)) refl (ap stimulus_as c.in-Over.is) (ap requests_as c.in-Over.is)
     (rw c.in-Ok.is at c.in_ok-accepted.ensures.fit) (rw c.in-Ok.is at c.in_ok-accepted.ensures.judged) (rw (c.judge_source.ensures.same, c.in-Ok-2.is) at c.in_ok-stim-in-Over.ensures.judged)
 
 pub returns-in-Ok-2-clause-text : goal.returns-in-Ok-2-clause-text
@@ -33,7 +34,7 @@ returns-in-Ok-2-clause-text g c =
 
 pub returns-in-Ok-2-clause-front : goal.returns-in-Ok-2-clause-front
 returns-in-Ok-2-clause-front g c =
-    front_after _ _ _ (c.args.command.now.source.now ∷ []) (c.in-Over.stimulus.now ∷ []) [] _ (ap (λ t. c.args.command.now.source.now ∷ stimulus_names (stimulus_as t)) c.in-Over.is) c.in_ok-accepted.ensures.asked c.judge_stimulus.ensures.front
+    front_after _ _ _ (c.args.command.now.source.now ∷ []) (c.in-Over.stimulus.now ∷ []) [] _ (ap (λ t. c.args.command.now.source.now ∷ file_names (stimulus_as t) ++ file_names (requests_as t)) c.in-Over.is) c.in_ok-accepted.ensures.asked c.judge_stimulus.ensures.front
 
 pub returns-in-Err-2-clause-judged : goal.returns-in-Err-2-clause-judged
 returns-in-Err-2-clause-judged g c =
@@ -42,4 +43,14 @@ returns-in-Err-2-clause-judged g c =
 
 pub returns-in-Err-2-clause-front : goal.returns-in-Err-2-clause-front
 returns-in-Err-2-clause-front g c =
-    front_after _ _ _ (c.args.command.now.source.now ∷ []) (c.in-Over.stimulus.now ∷ []) [] _ (ap (λ t. c.args.command.now.source.now ∷ stimulus_names (stimulus_as t)) c.in-Over.is) c.in_ok-accepted.ensures.asked c.judge_stimulus.ensures.front
+    front_after _ _ _ (c.args.command.now.source.now ∷ []) (c.in-Over.stimulus.now ∷ []) [] _ (ap (λ t. c.args.command.now.source.now ∷ file_names (stimulus_as t) ++ file_names (requests_as t)) c.in-Over.is) c.in_ok-accepted.ensures.asked c.judge_stimulus.ensures.front
+
+pub returns-in-Session-clause-judged : goal.returns-in-Session-clause-judged
+returns-in-Session-clause-judged g c =
+    session_judged (g.F.Files.told c.args.files.now) (command_as c.args.command.now) (design_of c.in-Ok.accepted.design) c.judge_session.result
+    (source_held _ _ c.in-Ok.accepted (rw c.in-Ok.is at c.in_ok-accepted.ensures.judged)) (rw c.judge_source.ensures.same at c.judge_session.ensures.judged)
+
+pub returns-in-Session-clause-front : goal.returns-in-Session-clause-front
+returns-in-Session-clause-front g c =
+    front_after _ _ _ (c.args.command.now.source.now ∷ []) (c.in-Session.stimulus.now ∷ c.in-Session.requests.now ∷ []) [] _
+    (ap (λ t. c.args.command.now.source.now ∷ file_names (stimulus_as t) ++ file_names (requests_as t)) c.in-Session.is) c.in_ok-accepted.ensures.asked c.judge_session.ensures.front

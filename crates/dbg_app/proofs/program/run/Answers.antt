@@ -1,34 +1,68 @@
-use Rattle.std.proofs.Common.{◌<◌, lit<}
-use Rattle.dbg_app.proofs.Ending.{usage_taken, design_line_taken, stimulus_line_taken, front_taken, done_taken, written_completes}
+use Rattle.replay_run.specs.Judged.{names_as}
+use Rattle.std.proofs.Common.{refl}
+use Rattle.dbg_app.proofs.Calling.{trace_status, design_status, no_trace_status, no_file_status, trace_is_call, trace_called, trace_files, no_command_called, none_called, design_called, design_files}
 use Rattle.dbg_app.proofs.program.run.Goals as goal
 
-pub returns-in-Ok-clause-usage_front : goal.returns-in-Ok-clause-usage_front
-returns-in-Ok-clause-usage_front g c = λ none.
-    let e = c.end.ensures in
-    usage_taken c.end.result.status c.in-Ok.judged _ _ e.statuses (c.in-Ok.ensures.command.1 none) e.done e.no_read e.front
+-- ---- a replay
 
-pub returns-in-Ok-clause-design_line : goal.returns-in-Ok-clause-design_line
-returns-in-Ok-clause-design_line g c = λ three.
-    let e = c.end.ensures in
-    let early : c.end.result.status < 7 = rw three (lit< tt) in
-    design_line_taken c.end.result.status c.in-Ok.judged _ _ three (e.status early) c.in-Ok.ensures.text (e.done early)
+pub returns-in-Some-clause-statuses : goal.returns-in-Some-clause-statuses
+returns-in-Some-clause-statuses g c = trace_status c.run_replay.result c.run_replay.ensures.statuses
 
-pub returns-in-Ok-clause-stimulus_line : goal.returns-in-Ok-clause-stimulus_line
-returns-in-Ok-clause-stimulus_line g c = λ four.
-    let e = c.end.ensures in
-    let early : c.end.result.status < 7 = rw four (lit< tt) in
-    stimulus_line_taken c.end.result.status c.in-Ok.judged _ _ four (e.status early) c.in-Ok.ensures.text (e.done early)
+pub returns-in-Some-clause-usage : goal.returns-in-Some-clause-usage
+returns-in-Some-clause-usage g c = λ is. absurd (no_trace_status c.run_replay.result 2 refl c.run_replay.ensures.statuses is)
 
-pub returns-in-Ok-clause-front : goal.returns-in-Ok-clause-front
-returns-in-Ok-clause-front g c = λ late.
-    front_taken (g.F.Files.told c.args.files.now) _ c.in-Ok.judged _ _ c.in-Ok.ensures.judged c.in-Ok.ensures.text (c.end.ensures.front late)
+pub returns-in-Some-clause-usage_line : goal.returns-in-Some-clause-usage_line
+returns-in-Some-clause-usage_line g c = λ is. absurd (no_trace_status c.run_replay.result 2 refl c.run_replay.ensures.statuses is)
 
-pub returns-in-Ok-clause-done : goal.returns-in-Ok-clause-done
-returns-in-Ok-clause-done g c = λ early.
-    let e = c.end.ensures in
-    done_taken (g.F.Files.told c.args.files.now) _ c.in-Ok.judged _ _ _ c.in-Ok.ensures.judged c.in-Ok.ensures.text (e.status early) (e.done early)
+pub returns-in-Some-clause-design_line : goal.returns-in-Some-clause-design_line
+returns-in-Some-clause-design_line g c = λ is. absurd (no_trace_status c.run_replay.result 3 refl c.run_replay.ensures.statuses is)
 
-pub returns-in-Ok-clause-complete : goal.returns-in-Ok-clause-complete
-returns-in-Ok-clause-complete g c =
-    let e = c.end.ensures in
-    written_completes (g.F.Files.told c.args.files.now) _ c.in-Ok.judged c.end.result.status _ _ _ _ e.statuses c.in-Ok.ensures.judged e.status e.done e.no_read e.write
+pub returns-in-Some-clause-stimulus_line : goal.returns-in-Some-clause-stimulus_line
+returns-in-Some-clause-stimulus_line g c = λ is. absurd (no_trace_status c.run_replay.result 4 refl c.run_replay.ensures.statuses is)
+
+pub returns-in-Some-clause-no_command : goal.returns-in-Some-clause-no_command
+returns-in-Some-clause-no_command g c = λ none. absurd (trace_is_call c.args.words.now (names_as c.in-Some.replay) c.in-Some.ensures none)
+
+pub returns-in-Some-clause-usage_front : goal.returns-in-Some-clause-usage_front
+returns-in-Some-clause-usage_front g c = λ none. absurd (trace_is_call c.args.words.now (names_as c.in-Some.replay) c.in-Some.ensures none)
+
+pub returns-in-Some-clause-done : goal.returns-in-Some-clause-done
+returns-in-Some-clause-done g c = λ early. trace_called (g.F.Files.told c.args.files.now) c.args.words.now (names_as c.in-Some.replay) _ c.in-Some.ensures (c.run_replay.ensures.done early)
+
+pub returns-in-Some-clause-complete : goal.returns-in-Some-clause-complete
+returns-in-Some-clause-complete g c = trace_called (g.F.Files.told c.args.files.now) c.args.words.now (names_as c.in-Some.replay) _ c.in-Some.ensures c.run_replay.ensures.complete
+
+pub returns-in-Some-clause-front : goal.returns-in-Some-clause-front
+returns-in-Some-clause-front g c = λ late. trace_called (g.F.Files.told c.args.files.now) c.args.words.now (names_as c.in-Some.replay) _ c.in-Some.ensures (c.run_replay.ensures.front late)
+
+pub returns-in-Some-clause-asked : goal.returns-in-Some-clause-asked
+returns-in-Some-clause-asked g c = trace_files c.args.words.now (names_as c.in-Some.replay) _ _ c.in-Some.ensures c.run_replay.ensures.asked
+
+-- ---- a command over a design
+
+pub returns-in-None-clause-statuses : goal.returns-in-None-clause-statuses
+returns-in-None-clause-statuses g c = design_status c.run_design.result.status c.run_design.ensures.statuses
+
+pub returns-in-None-clause-usage : goal.returns-in-None-clause-usage
+returns-in-None-clause-usage g c = λ is. none_called c.args.words.now c.in-None.ensures (c.run_design.ensures.usage is)
+
+pub returns-in-None-clause-no_command : goal.returns-in-None-clause-no_command
+returns-in-None-clause-no_command g c = λ none. c.run_design.ensures.no_command (no_command_called c.args.words.now c.in-None.ensures none)
+
+pub returns-in-None-clause-file_line : goal.returns-in-None-clause-file_line
+returns-in-None-clause-file_line g c = λ is. absurd (no_file_status c.run_design.result.status c.run_design.ensures.statuses is)
+
+pub returns-in-None-clause-usage_front : goal.returns-in-None-clause-usage_front
+returns-in-None-clause-usage_front g c = λ none. c.run_design.ensures.usage_front (no_command_called c.args.words.now c.in-None.ensures none)
+
+pub returns-in-None-clause-done : goal.returns-in-None-clause-done
+returns-in-None-clause-done g c = λ early. design_called (g.F.Files.told c.args.files.now) c.args.words.now _ c.in-None.ensures (c.run_design.ensures.done early)
+
+pub returns-in-None-clause-complete : goal.returns-in-None-clause-complete
+returns-in-None-clause-complete g c = design_called (g.F.Files.told c.args.files.now) c.args.words.now _ c.in-None.ensures c.run_design.ensures.complete
+
+pub returns-in-None-clause-front : goal.returns-in-None-clause-front
+returns-in-None-clause-front g c = λ late. design_called (g.F.Files.told c.args.files.now) c.args.words.now _ c.in-None.ensures (c.run_design.ensures.front late)
+
+pub returns-in-None-clause-asked : goal.returns-in-None-clause-asked
+returns-in-None-clause-asked g c = design_files c.args.words.now _ _ c.in-None.ensures c.run_design.ensures.asked
