@@ -1,0 +1,5 @@
+pub mod Source
+pub mod Spelled
+pub mod Bodies
+pub mod Walks
+pub mod Designs

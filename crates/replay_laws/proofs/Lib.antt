@@ -1,0 +1,2 @@
+mod FirstNamed
+mod Bound

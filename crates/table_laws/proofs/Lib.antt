@@ -1,0 +1,5 @@
+pub mod LineFeed
+pub mod Counted
+pub mod Formed
+pub mod Texts
+pub mod Files
