@@ -175,5 +175,5 @@ module _ (kept_law : CompiledWavesAreKept) (law : WavesReplay) (top : Top) (sour
       (source_world d n mode run) alike
 
 pub replays_debugged : CompiledWavesAreKept → WavesReplay → ReplaysAreDebugged
-replays_debugged kept_law law top source d pairs mode net parts stim run h trimmed heard files names requests hold reader reads =
+replays_debugged kept_law law d pairs mode net parts stim trimmed top source run h heard files names requests hold reader reads =
     asked_for kept_law law top source d pairs mode net parts stim run h trimmed files names requests hold heard reader reads

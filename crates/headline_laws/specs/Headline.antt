@@ -49,10 +49,14 @@ pub record AsksFor (heard : List Heard) (files : Contents) (names : Names) (text
   pub asks : AsksReplay heard files names 0 text
   pub only : (status : ℕ) (other : List ℕ) → AsksReplay heard files names status other → (status ≡ 0) × (other ≡ text)
 
--- so it is with the text of a session over the world of the source, where the design has a net and a table of its kept trees
-abbrev pub ReplaysAreDebugged : Type 0
-ReplaysAreDebugged =
-    (top : Top) (source : List ℕ) (d : Design) (pairs : List Pair) (mode : Mode) (net : NetParts) (parts : TableParts) (stim : Stimulus) (run : List (Place → Bits)) →
-    IsDebugged top source d pairs stim run → IsTrimmed d (length pairs) mode net parts →
+-- so it is with the text of a session over the world of the source, of every source that is accepted as this design and every run of it
+abbrev pub AreReplayed : Design → List Pair → Mode → Stimulus → Type 0
+AreReplayed d pairs mode stim =
+    (top : Top) (source : List ℕ) (run : List (Place → Bits)) → IsDebugged top source d pairs stim run →
     (heard : List Heard) (files : Contents) (names : Names) (requests : List ℕ) → HoldPrinted files names d (length pairs) mode stim requests →
     (reader : Reader) → IsReader reader → AsksFor heard files names (batch_text reader (source_world d (length pairs) mode run) heard requests)
+
+-- where the design has a net and a table of its kept trees
+abbrev pub ReplaysAreDebugged : Type 0
+ReplaysAreDebugged =
+    (d : Design) (pairs : List Pair) (mode : Mode) (net : NetParts) (parts : TableParts) (stim : Stimulus) → IsTrimmed d (length pairs) mode net parts → AreReplayed d pairs mode stim
