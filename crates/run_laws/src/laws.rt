@@ -1,0 +1,32 @@
+//! The law of replay.
+
+ghost use Rattle.std.specs.Prelude.{◌≡◌, None, OnOk};
+ghost use Rattle.check_core.specs.Verdict.{verdict};
+ghost use Rattle.design_core.specs.DesignView.{design_of};
+ghost use Rattle.place_core.specs.Orders.{TellsOrder};
+ghost use Rattle.run_laws.specs.Replayed.{IsReplayed};
+
+use design_core::Design;
+use headline_laws::debugged_is_replayed;
+use lower_core::Mode;
+use place_core::Order;
+use std::alloc::Global;
+use stim_text::Stim;
+use text_core::NoMemory;
+
+/// The law of an accepted design, a mode and a stimulus that was read: of every command whose files hold these, a replay of what `symbols`
+/// and `sim` print asks for what `debug` asks for. It needs that memory is found to compile the design once, and returns nothing else.
+pub fn debug_is_replayed(
+    alloc: Global,
+    design: &Design,
+    order: &Order,
+    mode: Mode,
+    stim: &Stim,
+) -> Result<(), NoMemory>
+    requires accepted { verdict (design_of design.now) ≡ None }
+    requires order { TellsOrder (design_of design.now) order.now }
+    ensures { OnOk result (IsReplayed (design_of design.now) mode stim.now) }
+{
+    stim.rows();
+    debugged_is_replayed(alloc, design, order, mode, stim)
+}
