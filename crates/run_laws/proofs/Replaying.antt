@@ -14,6 +14,7 @@ use Rattle.dbg_app.specs.Command.{Session, Command}
 use Rattle.dbg_app.specs.Answers as answers
 use Rattle.dbg_app.specs.Answers.{Held, Holds, HoldsRequests, text_of}
 use Rattle.run_laws.specs.Replayed.{HoldTexts, IsHeld, IsReplayed}
+use Rattle.run_laws.proofs.Words.{words_in_range}
 
 some_is : (a b : List ℕ) → ◌≡◌ {A = Option (List ℕ)} (Some a) (Some b) → a ≡ b
 some_is a b e = cc
@@ -71,4 +72,5 @@ module _ (d : Design) (pairs : List Pair) (mode : Mode) (stim : Stimulus) (law :
       (subst (λ (n : ℕ). HoldPrinted files names held.design n held.mode own held.requests) driven_is printed_by) held.reader h.reads)
 
 pub replayed : (d : Design) (pairs : List Pair) (mode : Mode) (stim : Stimulus) → TellsOrder d pairs → IsStimulus stim → AreReplayed d pairs mode stim → IsReplayed d mode stim
-replayed d pairs mode stim order kept law heard told command held h in_range is files names texts = asked_for d pairs mode stim law order kept heard told command held h in_range is files names texts
+replayed d pairs mode stim order kept law heard words command spelled told held h is files names texts =
+    asked_for d pairs mode stim law order kept heard told command held h (words_in_range words command spelled) is files names texts

@@ -1,12 +1,12 @@
 -- A replay of what `symbols` and `sim` print is asked for what `debug` is asked for.
-use Rattle.std.specs.Prelude.{◌≡◌, ◌≤◌, ◌^◌, List, length, Some}
-use Rattle.design_core.specs.Design.{AreInRange, Design}
+use Rattle.std.specs.Prelude.{◌≡◌, ℕ, ◌≤◌, ◌^◌, List, length, Some}
+use Rattle.design_core.specs.Design.{Design}
 use Rattle.stim_text.specs.Stimulus.{Stimulus}
 use Rattle.world_core.specs.declared.mode.Mode.{Mode}
 use Rattle.listen.specs.Pairs.{Heard}
 use Rattle.replay_run.specs.Asked.{Names, Contents}
 use Rattle.headline_laws.specs.Headline.{AsksFor}
-use Rattle.dbg_app.specs.Command.{Symbols, Waves, Session, Command}
+use Rattle.dbg_app.specs.Command.{Symbols, Waves, Session, Command, command_of}
 use Rattle.dbg_app.specs.Answers as answers
 use Rattle.dbg_app.specs.Answers.{Held, Holds, text_of}
 
@@ -27,9 +27,9 @@ pub record IsHeld (d : Design) (m : Mode) (stim : Stimulus) (held : Held) : Type
   pub ports : held.ports ≡ stim.ports
   pub rows : held.rows ≡ stim.rows
 
--- of every command whose files are accepted and hold these, with numbers from -2^62 to 2^62 for the top: a replay of such files asks for
--- status 0 and the text of a session of the command, and for nothing else
+-- of every command that words are, whose files are accepted and hold these: a replay of such files asks for status 0 and the text of a
+-- session of the command, and for nothing else
 abbrev pub IsReplayed : Design → Mode → Stimulus → Type 0
 IsReplayed d mode stim =
-    (heard : List Heard) (told : answers.Contents) (command : Command) (held : Held) → Holds told command held → AreInRange command.top.given → IsHeld d mode stim held →
+    (heard : List Heard) (words : List (List ℕ)) (command : Command) → command_of words ≡ Some command → (told : answers.Contents) (held : Held) → Holds told command held → IsHeld d mode stim held →
     (files : Contents) (names : Names) → HoldTexts heard files names held → AsksFor heard files names (text_of heard Session held)
