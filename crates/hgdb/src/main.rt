@@ -21,27 +21,40 @@ hgdb shows what a hardware design does, statement by statement of its source.
 
 Usage:
   hgdb trail MODE SRC STIM TOP [NAME=N]..
-                    print each executed statement with the variables before it
+          print each executed statement with the variables before it
   hgdb compile MODE SRC TOP [NAME=N]..
-                    print the design as a Verilog module
+          print the design as a Verilog module
   hgdb symbols MODE SRC TOP [NAME=N]..
-                    print where each variable of the source is found
+          print where each variable of the source is found
   hgdb sim MODE SRC STIM TOP [NAME=N]..
-                    print the values of the design's net as a value change dump
+          print the values of the design's net as a value change dump
   hgdb debug MODE SRC STIM REQ TOP [NAME=N]..
-                    print what a session over the design's run answers to requests
+          print what a session over the design's run answers to requests
   hgdb replay SYM VCD SCOPE REQ
-                    print what a session over the trace of a simulator answers to requests
-  hgdb --help       print this text
-  hgdb --version    print the version
+          print what a session over a simulator's trace answers to requests
+  hgdb --help
+          print this text
+  hgdb --version
+          print the version
 
-MODE is keep, where every name is kept, or opt, where a name that neither the outputs nor the conditions need is removed.
-SRC is a source file, STIM a stimulus file, REQ a file with a request of the debugger in each line, TOP the module to run.
-NAME=N gives its parameter NAME the number N. SYM is a symbol file, VCD a value change dump of the same design, SCOPE the names of the
-scopes around its module there and its own, joined by dots.
+  MODE    keep, where every name is kept, or opt, where a name that neither
+          the outputs nor the conditions need is removed
+  SRC     a source file
+  STIM    a stimulus file
+  REQ     a file with a request of the debugger in each line
+  TOP     the module to run
+  NAME=N  gives the parameter NAME of TOP the number N
+  SYM     a symbol file
+  VCD     a value change dump of the same design
+  SCOPE   the names of the scopes around its module there and its own,
+          joined by dots
 
-Exit status: 0 all was printed; 2 the words are no command; 3 the source is refused; 4 the stimulus is refused;
-5 the symbol file or the dump is refused; 6 the requests are too long; 7 a file was not read; 8 the output failed; 9 memory ran out.
+Exit status:
+  0  all was printed                   6  the requests are too long
+  2  the words are no command          7  a file was not read
+  3  the source is refused             8  the output failed
+  4  the stimulus is refused           9  memory ran out
+  5  the symbol file or the dump is refused
 ";
 
 /// The words of the command line without the program's name. Where a word is not UTF-8 there are none.
