@@ -1,3 +1,7 @@
+//! A door: it hands out the links of clients, one after another, or says that none came.
+//!
+//! It is a trait of its own, so that whoever serves connections knows nothing of where they come from.
+
 ghost use Rattle.std.specs.Prelude.{◌≡◌, ◌≤◌, ◌-◌, ℕ, Option, IfOk, OnErr, OnOk, IsErrOf};
 ghost use Rattle.io_edge.specs.Faults.{Rose};
 

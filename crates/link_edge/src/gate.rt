@@ -1,3 +1,7 @@
+//! A gate: what a session comes through before each turn.
+//!
+//! It says nothing of a session, so that a test can hold a turn without changing what the turn does.
+
 use std::marker::Send;
 
 /// What a session comes through before each turn. A gate may hold a turn; it changes nothing of the session.

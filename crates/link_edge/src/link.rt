@@ -1,3 +1,7 @@
+//! A link: polls for the messages of one client, and sends lines to it.
+//!
+//! What it means is one record of `specs/Links`, so that whoever serves a link is measured by what passed through it.
+
 ghost use Rattle.std.specs.Prelude.{◌≡◌, [], ◌∷◌, false, IsErrOf, OnOk, OnErr};
 ghost use Rattle.io_edge.specs.Faults.{Rose};
 

@@ -1,3 +1,7 @@
+//! A door in memory: it hands out the links that it was given, in order, and behind the last each call fails.
+//!
+//! It tells all that it means, so that a test can ask what a server did where links run out.
+
 ghost use Rattle.std.specs.Prelude.{◌≡◌, ◌≤◌, [], ◌∷◌, ◌++◌, Some, length, IsTrue, IfOk, OnOk, OnErr, IsErrOf};
 ghost use Rattle.std.specs.List.{list_all};
 ghost use Rattle.io_edge.specs.Faults.{Rose, one_more};

@@ -1,3 +1,7 @@
+//! A link in memory: its polls go by a script, and it keeps what was sent.
+//!
+//! It is told which sends fail, by their numbers, so that broken streams can be tried too.
+
 ghost use Rattle.std.specs.Prelude.{◌≡◌, ◌≤◌, [], ◌∷◌, Some, false, true, IfOk, OnOk, OnErr, IsErrOf, length, slice_get};
 ghost use Rattle.io_edge.specs.Faults.{Rose};
 ghost use Rattle.link_edge.specs.Links.{AfterPoll, AfterSend, NoneFell};
