@@ -1,14 +1,16 @@
--- What is asked by words, in the two ways in which they ask it.
-use Rattle.std.proofs.Common.{◌≡◌, ℕ, Bool, true, false, ◌||◌, ◌==◌, List, Option, Some, None, refl, sym, ap, ◌∙◌, subst, IsTrue, ◌⊎◌, inl, inr, arith}
+-- What is asked by words, in the three ways in which they ask it.
+use Rattle.std.proofs.Common.{◌≡◌, ℕ, Bool, true, false, ◌||◌, ◌==◌, List, [], ◌∷◌, Option, Some, None, refl, sym, ap, ◌∙◌, subst, IsTrue, ◌⊎◌, inl, inr, arith}
 use Rattle.std.specs.Prelude.{option_map, IfSome}
 use Rattle.std.proofs.lemmas.Bool.Decides.{nat_tests}
 use Rattle.io_edge.specs.Taken.{AppendsFront}
 use Rattle.replay_run.specs.Asked as replay
 use Rattle.replay_run.specs.Asked.{Names}
+use Rattle.demo_run.specs.Asked as demo
+use Rattle.demo_run.specs.Asked.{Given}
 use Rattle.dbg_app.specs.Command.{Command, command_of, names_of}
 use Rattle.dbg_app.specs.Answers.{Contents, IfAsked}
-use Rattle.dbg_app.specs.Outcome.{is_status}
-use Rattle.dbg_app.specs.Call.{Call, ByDesign, ByTrace, replay_of, call_by, call_of, files_of, IfCalled, is_run_status}
+use Rattle.dbg_app.specs.Outcome.{is_status, TakesDesignLine, TakesStimulusLine}
+use Rattle.dbg_app.specs.Call.{Call, ByDesign, ByTrace, ByChain, replay_of, demo_of, call_by, call_of, files_of, IfCalled, is_run_status}
 
 -- ---- statuses
 
@@ -37,6 +39,24 @@ trace_status status e = elim (either _ (status == 9) e) [
   ]
 ]
 
+pub chain_status : (status : ℕ) → IsTrue (demo.is_status status) → IsTrue (is_run_status status)
+chain_status status e = elim (either _ (status == 9) e) [
+  | inr is ↦ is_one status 9 refl is
+  | inl a ↦ elim (either _ (status == 8) a) [
+    | inr is ↦ is_one status 8 refl is
+    | inl b ↦ elim (either _ (status == 7) b) [
+      | inr is ↦ is_one status 7 refl is
+      | inl d ↦ elim (either _ (status == 6) d) [
+        | inr is ↦ is_one status 6 refl is
+        | inl f ↦ elim (either _ (status == 4) f) [
+          | inr is ↦ is_one status 4 refl is
+          | inl h ↦ elim (either (status == 0) (status == 3) h) [ inl is ↦ is_one status 0 refl is | inr is ↦ is_one status 3 refl is ]
+        ]
+      ]
+    ]
+  ]
+]
+
 or_left : (a b : Bool) → a ≡ true → (a || b) ≡ true
 or_left true b e = refl
 or_left false b e = cc
@@ -48,13 +68,17 @@ design_status status e = or_left (is_status status) (status == 5) e
 pub no_trace_status : (status n : ℕ) → replay.is_status n ≡ false → IsTrue (replay.is_status status) → status ≡ n → ⊥
 no_trace_status status n never e is = let same : replay.is_status n ≡ true = subst (λ (s : ℕ). replay.is_status s ≡ true) is e in cc
 
+-- a demo ends neither by its words nor by a symbol file or a dump file
+pub no_chain_status : (status n : ℕ) → demo.is_status n ≡ false → IsTrue (demo.is_status status) → status ≡ n → ⊥
+no_chain_status status n never e is = let same : demo.is_status n ≡ true = subst (λ (s : ℕ). demo.is_status s ≡ true) is e in cc
+
 pub no_file_status : (status : ℕ) → IsTrue (is_status status) → status ≡ 5 → ⊥
 no_file_status status e is = let same : is_status 5 ≡ true = subst (λ (s : ℕ). is_status s ≡ true) is e in cc
 
 -- ---- the words of a replay
 
 pub trace_call : (words : List (List ℕ)) (names : Names) → Some names ≡ replay_of words → call_of words ≡ Some (ByTrace names)
-trace_call words names e = ap (call_by words) (sym e)
+trace_call words names e = ap (λ (trace : Option Names). call_by words trace (demo_of words)) (sym e)
 
 pub trace_is_call : (words : List (List ℕ)) (names : Names) → Some names ≡ replay_of words → call_of words ≡ None → ⊥
 trace_is_call words names e none = let same : Some (ByTrace names) ≡ None = sym (trace_call words names e) ∙ none in cc
@@ -69,32 +93,56 @@ trace_called told words names P e h = subst (λ (call : Option Call). IfCalled t
 pub trace_files : (words : List (List ℕ)) (names : Names) (old new : Option (List (List ℕ))) → Some names ≡ replay_of words → AppendsFront old new (replay.names_of names) → AppendsFront old new (files_of (call_of words))
 trace_files words names old new e h = subst (λ (call : Option Call). AppendsFront old new (files_of call)) (sym (trace_call words names e)) h
 
+-- ---- the words of a demo
+
+pub chain_call : (words : List (List ℕ)) (given : Given) → None ≡ replay_of words → Some given ≡ demo_of words → call_of words ≡ Some (ByChain given)
+chain_call words given n e = λ i. call_by words (sym n i) (sym e i)
+
+pub chain_is_call : (words : List (List ℕ)) (given : Given) → None ≡ replay_of words → Some given ≡ demo_of words → call_of words ≡ None → ⊥
+chain_is_call words given n e none = let same : Some (ByChain given) ≡ None = sym (chain_call words given n e) ∙ none in cc
+
+by_given : (told : Option Contents) (given : Given) (P : Contents → Call → Type 0) → IfSome told (λ files. P files (ByChain given)) → IfCalled told (Some (ByChain given)) P
+by_given None given P h = tt
+by_given (Some files) given P h = h
+
+pub chain_called : (told : Option Contents) (words : List (List ℕ)) (given : Given) (P : Contents → Call → Type 0) → None ≡ replay_of words → Some given ≡ demo_of words → IfSome told (λ files. P files (ByChain given)) → IfCalled told (call_of words) P
+chain_called told words given P n e h = subst (λ (call : Option Call). IfCalled told call P) (sym (chain_call words given n e)) (by_given told given P h)
+
+pub chain_files : (words : List (List ℕ)) (given : Given) (old new : Option (List (List ℕ))) → None ≡ replay_of words → Some given ≡ demo_of words → AppendsFront old new (given.requests ∷ []) → AppendsFront old new (files_of (call_of words))
+chain_files words given old new n e h = subst (λ (call : Option Call). AppendsFront old new (files_of call)) (sym (chain_call words given n e)) h
+
+pub chain_design_line : (old new : Option (List ℕ)) → demo.TakesDesignLine old new → TakesDesignLine old new
+chain_design_line old new t = record { fault = t.fault; refuses = t.refuses; taken = t.taken }
+
+pub chain_stimulus_line : (old new : Option (List ℕ)) → demo.TakesStimulusLine old new → TakesStimulusLine old new
+chain_stimulus_line old new t = record { fault = t.fault; refuses = t.refuses; taken = t.taken }
+
 -- ---- the words of a command over a design
 
-pub design_call : (words : List (List ℕ)) → None ≡ replay_of words → call_of words ≡ option_map ByDesign (command_of words)
-design_call words e = ap (call_by words) (sym e)
+pub design_call : (words : List (List ℕ)) → None ≡ replay_of words → None ≡ demo_of words → call_of words ≡ option_map ByDesign (command_of words)
+design_call words n e = λ i. call_by words (sym n i) (sym e i)
 
 none_mapped : (command : Option Command) → option_map ByDesign command ≡ None → command ≡ None
 none_mapped None e = refl
 none_mapped (Some command) e = cc
 
-pub no_command_called : (words : List (List ℕ)) → None ≡ replay_of words → call_of words ≡ None → command_of words ≡ None
-no_command_called words e none = none_mapped (command_of words) (sym (design_call words e) ∙ none)
+pub no_command_called : (words : List (List ℕ)) → None ≡ replay_of words → None ≡ demo_of words → call_of words ≡ None → command_of words ≡ None
+no_command_called words n e none = none_mapped (command_of words) (sym (design_call words n e) ∙ none)
 
-pub none_called : (words : List (List ℕ)) → None ≡ replay_of words → command_of words ≡ None → call_of words ≡ None
-none_called words e none = design_call words e ∙ ap (option_map ByDesign) none
+pub none_called : (words : List (List ℕ)) → None ≡ replay_of words → None ≡ demo_of words → command_of words ≡ None → call_of words ≡ None
+none_called words n e none = design_call words n e ∙ ap (option_map ByDesign) none
 
 by_command : (told : Option Contents) (command : Option Command) (P : Contents → Call → Type 0) → IfAsked told command (λ files command. P files (ByDesign command)) → IfCalled told (option_map ByDesign command) P
 by_command None command P h = tt
 by_command (Some files) None P h = tt
 by_command (Some files) (Some command) P h = h
 
-pub design_called : (told : Option Contents) (words : List (List ℕ)) (P : Contents → Call → Type 0) → None ≡ replay_of words → IfAsked told (command_of words) (λ files command. P files (ByDesign command)) → IfCalled told (call_of words) P
-design_called told words P e h = subst (λ (call : Option Call). IfCalled told call P) (sym (design_call words e)) (by_command told (command_of words) P h)
+pub design_called : (told : Option Contents) (words : List (List ℕ)) (P : Contents → Call → Type 0) → None ≡ replay_of words → None ≡ demo_of words → IfAsked told (command_of words) (λ files command. P files (ByDesign command)) → IfCalled told (call_of words) P
+design_called told words P n e h = subst (λ (call : Option Call). IfCalled told call P) (sym (design_call words n e)) (by_command told (command_of words) P h)
 
 files_are : (command : Option Command) → files_of (option_map ByDesign command) ≡ names_of command
 files_are None = refl
 files_are (Some command) = refl
 
-pub design_files : (words : List (List ℕ)) (old new : Option (List (List ℕ))) → None ≡ replay_of words → AppendsFront old new (names_of (command_of words)) → AppendsFront old new (files_of (call_of words))
-design_files words old new e h = subst (AppendsFront old new) (sym (ap files_of (design_call words e) ∙ files_are (command_of words))) h
+pub design_files : (words : List (List ℕ)) (old new : Option (List (List ℕ))) → None ≡ replay_of words → None ≡ demo_of words → AppendsFront old new (names_of (command_of words)) → AppendsFront old new (files_of (call_of words))
+design_files words old new n e h = subst (AppendsFront old new) (sym (ap files_of (design_call words n e) ∙ files_are (command_of words))) h

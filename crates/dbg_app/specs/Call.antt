@@ -1,9 +1,14 @@
--- What words ask: of a design, or of the files of another simulator; and how a run ends by that.
-use Rattle.std.specs.Prelude.{◌≡◌, ℕ, ◌==◌, ◌||◌, ◌&&◌, not, Bool, List, [], ◌∷◌, Option, Some, None, option_map, codes, bytes_eq, if◌then◌else◌, ⊤}
+-- What words ask: of a design, of the files of another simulator, or of the chain of the demo; and how a run ends by that.
+use Rattle.std.specs.Prelude.{◌≡◌, ℕ, ◌==◌, ◌||◌, ◌&&◌, not, Bool, List, [], ◌∷◌, length, Option, Some, None, option_map, option_and_then, codes, bytes_eq, if◌then◌else◌, nat_le, ⊤}
+use Rattle.std.specs.List.{prefix_len}
+use Rattle.text_core.specs.Digits.{is_digit_of, number_of}
 use Rattle.listen.specs.Pairs.{Heard}
 use Rattle.replay_run.specs.Asked as replay
 use Rattle.replay_run.specs.Asked.{Names}
-use Rattle.dbg_app.specs.Command.{Command, command_of, names_of}
+use Rattle.world_core.specs.declared.mode.Mode.{Mode}
+use Rattle.demo_run.specs.Asked as demo
+use Rattle.demo_run.specs.Asked.{Given}
+use Rattle.dbg_app.specs.Command.{Command, command_of, mode_of, names_of}
 use Rattle.dbg_app.specs.Answers.{Contents}
 use Rattle.dbg_app.specs.Outcome as design
 
@@ -19,23 +24,45 @@ replay_of (word ∷ symbols ∷ dump ∷ scope ∷ requests ∷ []) =
     Some (record { symbols = symbols; dump = dump; scope = scope; requests = requests }) else None
 replay_of words = None
 
+-- decimal digits of a number from 1 to 4,000
+abbrev pub is_cells : List ℕ → Bool
+is_cells digits =
+    not (bytes_eq digits []) && prefix_len (is_digit_of 10) digits == length digits && nat_le 1 (number_of 10 digits) && nat_le (number_of 10 digits) 4000
+
+abbrev pub cells_of : List ℕ → Option ℕ
+cells_of digits = if is_cells digits then Some (number_of 10 digits) else None
+
+-- the words `demo MODE N REQ`, the last of which is not empty
+abbrev pub demo_with : List ℕ → Mode → ℕ → Option Given
+demo_with requests mode number = if is_some_word requests then Some (record { mode = mode; number = number; requests = requests }) else None
+
+abbrev pub demo_by : List ℕ → List ℕ → Mode → Option Given
+demo_by cells requests mode = option_and_then (demo_with requests mode) (cells_of cells)
+
+abbrev pub demo_of : List (List ℕ) → Option Given
+demo_of (word ∷ mode ∷ cells ∷ requests ∷ []) = if bytes_eq word (codes "demo") then option_and_then (demo_by cells requests) (mode_of mode) else None
+demo_of words = None
+
 pub data Call : Type 0 where
   ByDesign : Command → Call
   ByTrace : Names → Call
+  ByChain : Given → Call
 
 -- those, or those of a command over a design
-abbrev pub call_by : List (List ℕ) → Option Names → Option Call
-call_by words (Some names) = Some (ByTrace names)
-call_by words None = option_map ByDesign (command_of words)
+abbrev pub call_by : List (List ℕ) → Option Names → Option Given → Option Call
+call_by words (Some names) chain = Some (ByTrace names)
+call_by words None (Some given) = Some (ByChain given)
+call_by words None None = option_map ByDesign (command_of words)
 
 abbrev pub call_of : List (List ℕ) → Option Call
-call_of words = call_by words (replay_of words)
+call_of words = call_by words (replay_of words) (demo_of words)
 
 -- the names of the files, in the order of the words
 abbrev pub files_of : Option Call → List (List ℕ)
 files_of None = []
 files_of (Some (ByDesign command)) = names_of (Some command)
 files_of (Some (ByTrace names)) = replay.names_of names
+files_of (Some (ByChain given)) = given.requests ∷ []
 
 -- a fact of the files and of what is asked, where the files are told and the words ask something
 abbrev pub IfCalled : Option Contents → Option Call → (Contents → Call → Type 0) → Type 0
@@ -53,14 +80,17 @@ is_run_status status = design.is_status status || status == 5
 abbrev pub EndsAsCalled : List Heard → Contents → Call → ℕ → Option (List ℕ) → Option (List ℕ) → Type 0
 EndsAsCalled heard files (ByDesign command) status old new = design.EndsAsAsked heard files command status old new
 EndsAsCalled heard files (ByTrace names) status old new = replay.EndsAsAsked heard files names status old new
+EndsAsCalled heard files (ByChain given) status old new = demo.EndsAsAsked heard files given status old new
 
 -- the sink took nothing, or a front of the text that is asked for
 abbrev pub TakesSomeOf : List Heard → Contents → Call → Option (List ℕ) → Option (List ℕ) → Type 0
 TakesSomeOf heard files (ByDesign command) old new = design.TakesSome heard files command old new
 TakesSomeOf heard files (ByTrace names) old new = replay.TakesSome heard files names old new
+TakesSomeOf heard files (ByChain given) old new = demo.TakesSome heard files given old new
 
 -- where the files ask for an answer, and neither count has risen, the run ended with its status and its whole text was taken, or memory
 -- ran out
 abbrev pub CompletesCall : List Heard → Contents → Call → ℕ → Option (List ℕ) → Option (List ℕ) → Type 0 → Type 0 → Type 0
 CompletesCall heard files (ByDesign command) status old new read_rose write_rose = design.Completes heard files command status old new read_rose write_rose
 CompletesCall heard files (ByTrace names) status old new read_rose write_rose = replay.Completes heard files names status old new read_rose write_rose
+CompletesCall heard files (ByChain given) status old new read_rose write_rose = demo.Completes heard files given status old new read_rose write_rose

@@ -110,7 +110,7 @@ fn command_with<'a>(
 }
 
 /// Which names are kept, by its word.
-fn mode_of(word: &str) -> Option<Mode>
+pub(crate) fn mode_of(word: &str) -> Option<Mode>
     ensures { result ≡ mode_of word.now }
 {
     match word {

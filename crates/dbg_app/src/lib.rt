@@ -3,6 +3,7 @@
 
 mod arguments;
 mod command;
+mod demo;
 mod halt;
 mod judge;
 mod program;

@@ -11,9 +11,11 @@ ghost use Rattle.replay_run.specs.Asked.{TakesFileLine};
 ghost use Rattle.dbg_app.specs.Call.{call_of, files_of, IfCalled, is_run_status, EndsAsCalled, TakesSomeOf, CompletesCall};
 ghost use Rattle.dbg_app.specs.Outcome.{is_status, is_usage_status, TakesDesignLine, TakesStimulusLine, EndsAsAsked, TakesSome, Completes};
 
+use crate::demo::read_demo;
 use crate::judge::{Judged, judge};
 use crate::replay::read_replay;
 use crate::write::write;
+use demo_run::run_demo;
 use io_edge::{Files, Sink, Words};
 use listen::Listener;
 use replay_run::run_replay;
@@ -28,14 +30,14 @@ pub struct Ended {
 /// Does what the words say.
 ///
 /// The commands are `trail MODE SRC STIM TOP [NAME=N]..`, `sim MODE SRC STIM TOP [NAME=N]..`, `compile MODE SRC TOP [NAME=N]..`,
-/// `symbols MODE SRC TOP [NAME=N]..`, `debug MODE SRC STIM REQ TOP [NAME=N]..`, where MODE is `opt` or `keep`, and
-/// `replay SYM VCD SCOPE REQ`. The files are read in the order of the words, and each is judged before the next is read. Nothing is written
-/// before all of them were judged. The listeners, at most 65,536, are those of the session of a `debug` or a `replay`; the other
-/// commands drop them.
+/// `symbols MODE SRC TOP [NAME=N]..`, `debug MODE SRC STIM REQ TOP [NAME=N]..`, where MODE is `opt` or `keep`, `replay SYM VCD SCOPE REQ`,
+/// and `demo MODE N REQ`, where N is 1 to 4,000. The files are read in the order of the words, and each is judged before the next is read.
+/// Nothing is written before all of them were judged. The listeners, at most 65,536, are those of the session of a `debug`, a `replay`
+/// or a `demo`; the other commands drop them.
 ///
 /// | Status | Where | Output |
 /// |---|---|---|
-/// | 0 | none of the rest | the whole trail, the waves as a value change dump file, the design as a Verilog module, its symbol file, or the session's lines |
+/// | 0 | none of the rest | the whole trail, the waves as a value change dump file, the design as a Verilog module, its symbol file, the session's lines, or the line of the demo |
 /// | 2 | the words are no command | `usage fault` |
 /// | 3 | SRC is no source, or its design from the module TOP is refused | `design fault`, with the number and name of the refusal, and its fields |
 /// | 4 | STIM is refused for the design's ports | `stimulus fault`, with the number and name of the refusal, and its row and column |
@@ -92,7 +94,12 @@ pub fn run<F: Files, S: Sink>(
         Some(replay) => Ended {
             status: run_replay(alloc, &replay, files, out, listeners),
         },
-        None => run_design(alloc, words, files, out, listeners),
+        None => match read_demo(words) {
+            Some(demo) => Ended {
+                status: run_demo(alloc, &demo, files, out, listeners),
+            },
+            None => run_design(alloc, words, files, out, listeners),
+        },
     }
 }
 

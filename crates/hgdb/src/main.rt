@@ -32,6 +32,8 @@ Usage:
           print what a session over the design's run answers to requests
   hgdb replay SYM VCD SCOPE REQ
           print what a session over a simulator's trace answers to requests
+  hgdb demo MODE N REQ
+          print how many stops a session over a chain of N cells reaches
   hgdb --help
           print this text
   hgdb --version
@@ -44,6 +46,7 @@ Usage:
   REQ     a file with a request of the debugger in each line
   TOP     the module to run
   NAME=N  gives the parameter NAME of TOP the number N
+  N       of a demo, 1 to 4000
   SYM     a symbol file
   VCD     a value change dump of the same design
   SCOPE   the names of the scopes around its module there and its own,

@@ -1,6 +1,7 @@
 use Rattle.replay_run.specs.Judged.{names_as}
 use Rattle.std.proofs.Common.{refl}
-use Rattle.dbg_app.proofs.Calling.{trace_status, design_status, no_trace_status, no_file_status, trace_is_call, trace_called, trace_files, no_command_called, none_called, design_called, design_files}
+use Rattle.demo_run.specs.Judged.{given_as}
+use Rattle.dbg_app.proofs.Calling.{trace_status, chain_status, no_chain_status, chain_is_call, chain_called, chain_files, chain_design_line, chain_stimulus_line, design_status, no_trace_status, no_file_status, trace_is_call, trace_called, trace_files, no_command_called, none_called, design_called, design_files}
 use Rattle.dbg_app.proofs.program.run.Goals as goal
 
 -- ---- a replay
@@ -38,31 +39,69 @@ returns-in-Some-clause-front g c = λ late. trace_called (g.F.Files.told c.args.
 pub returns-in-Some-clause-asked : goal.returns-in-Some-clause-asked
 returns-in-Some-clause-asked g c = trace_files c.args.words.now (names_as c.in-Some.replay) _ _ c.in-Some.ensures c.run_replay.ensures.asked
 
+-- ---- a demo
+
+pub returns-in-None-in-Some-clause-statuses : goal.returns-in-None-in-Some-clause-statuses
+returns-in-None-in-Some-clause-statuses g c = chain_status c.run_demo.result c.run_demo.ensures.statuses
+
+pub returns-in-None-in-Some-clause-usage : goal.returns-in-None-in-Some-clause-usage
+returns-in-None-in-Some-clause-usage g c = λ is. absurd (no_chain_status c.run_demo.result 2 refl c.run_demo.ensures.statuses is)
+
+pub returns-in-None-in-Some-clause-usage_line : goal.returns-in-None-in-Some-clause-usage_line
+returns-in-None-in-Some-clause-usage_line g c = λ is. absurd (no_chain_status c.run_demo.result 2 refl c.run_demo.ensures.statuses is)
+
+pub returns-in-None-in-Some-clause-file_line : goal.returns-in-None-in-Some-clause-file_line
+returns-in-None-in-Some-clause-file_line g c = λ is. absurd (no_chain_status c.run_demo.result 5 refl c.run_demo.ensures.statuses is)
+
+pub returns-in-None-in-Some-clause-design_line : goal.returns-in-None-in-Some-clause-design_line
+returns-in-None-in-Some-clause-design_line g c = λ is. chain_design_line _ _ (c.run_demo.ensures.design_line is)
+
+pub returns-in-None-in-Some-clause-stimulus_line : goal.returns-in-None-in-Some-clause-stimulus_line
+returns-in-None-in-Some-clause-stimulus_line g c = λ is. chain_stimulus_line _ _ (c.run_demo.ensures.stimulus_line is)
+
+pub returns-in-None-in-Some-clause-no_command : goal.returns-in-None-in-Some-clause-no_command
+returns-in-None-in-Some-clause-no_command g c = λ none. absurd (chain_is_call c.args.words.now (given_as c.in-None-in-Some.demo) c.in-None.ensures c.in-None-in-Some.ensures none)
+
+pub returns-in-None-in-Some-clause-usage_front : goal.returns-in-None-in-Some-clause-usage_front
+returns-in-None-in-Some-clause-usage_front g c = λ none. absurd (chain_is_call c.args.words.now (given_as c.in-None-in-Some.demo) c.in-None.ensures c.in-None-in-Some.ensures none)
+
+pub returns-in-None-in-Some-clause-done : goal.returns-in-None-in-Some-clause-done
+returns-in-None-in-Some-clause-done g c = λ early. chain_called (g.F.Files.told c.args.files.now) c.args.words.now (given_as c.in-None-in-Some.demo) _ c.in-None.ensures c.in-None-in-Some.ensures (c.run_demo.ensures.done early)
+
+pub returns-in-None-in-Some-clause-complete : goal.returns-in-None-in-Some-clause-complete
+returns-in-None-in-Some-clause-complete g c = chain_called (g.F.Files.told c.args.files.now) c.args.words.now (given_as c.in-None-in-Some.demo) _ c.in-None.ensures c.in-None-in-Some.ensures c.run_demo.ensures.complete
+
+pub returns-in-None-in-Some-clause-front : goal.returns-in-None-in-Some-clause-front
+returns-in-None-in-Some-clause-front g c = λ late. chain_called (g.F.Files.told c.args.files.now) c.args.words.now (given_as c.in-None-in-Some.demo) _ c.in-None.ensures c.in-None-in-Some.ensures (c.run_demo.ensures.front late)
+
+pub returns-in-None-in-Some-clause-asked : goal.returns-in-None-in-Some-clause-asked
+returns-in-None-in-Some-clause-asked g c = chain_files c.args.words.now (given_as c.in-None-in-Some.demo) _ _ c.in-None.ensures c.in-None-in-Some.ensures c.run_demo.ensures.asked
+
 -- ---- a command over a design
 
-pub returns-in-None-clause-statuses : goal.returns-in-None-clause-statuses
-returns-in-None-clause-statuses g c = design_status c.run_design.result.status c.run_design.ensures.statuses
+pub returns-in-None-in-None-clause-statuses : goal.returns-in-None-in-None-clause-statuses
+returns-in-None-in-None-clause-statuses g c = design_status c.run_design.result.status c.run_design.ensures.statuses
 
-pub returns-in-None-clause-usage : goal.returns-in-None-clause-usage
-returns-in-None-clause-usage g c = λ is. none_called c.args.words.now c.in-None.ensures (c.run_design.ensures.usage is)
+pub returns-in-None-in-None-clause-usage : goal.returns-in-None-in-None-clause-usage
+returns-in-None-in-None-clause-usage g c = λ is. none_called c.args.words.now c.in-None.ensures c.in-None-in-None.ensures (c.run_design.ensures.usage is)
 
-pub returns-in-None-clause-no_command : goal.returns-in-None-clause-no_command
-returns-in-None-clause-no_command g c = λ none. c.run_design.ensures.no_command (no_command_called c.args.words.now c.in-None.ensures none)
+pub returns-in-None-in-None-clause-no_command : goal.returns-in-None-in-None-clause-no_command
+returns-in-None-in-None-clause-no_command g c = λ none. c.run_design.ensures.no_command (no_command_called c.args.words.now c.in-None.ensures c.in-None-in-None.ensures none)
 
-pub returns-in-None-clause-file_line : goal.returns-in-None-clause-file_line
-returns-in-None-clause-file_line g c = λ is. absurd (no_file_status c.run_design.result.status c.run_design.ensures.statuses is)
+pub returns-in-None-in-None-clause-file_line : goal.returns-in-None-in-None-clause-file_line
+returns-in-None-in-None-clause-file_line g c = λ is. absurd (no_file_status c.run_design.result.status c.run_design.ensures.statuses is)
 
-pub returns-in-None-clause-usage_front : goal.returns-in-None-clause-usage_front
-returns-in-None-clause-usage_front g c = λ none. c.run_design.ensures.usage_front (no_command_called c.args.words.now c.in-None.ensures none)
+pub returns-in-None-in-None-clause-usage_front : goal.returns-in-None-in-None-clause-usage_front
+returns-in-None-in-None-clause-usage_front g c = λ none. c.run_design.ensures.usage_front (no_command_called c.args.words.now c.in-None.ensures c.in-None-in-None.ensures none)
 
-pub returns-in-None-clause-done : goal.returns-in-None-clause-done
-returns-in-None-clause-done g c = λ early. design_called (g.F.Files.told c.args.files.now) c.args.words.now _ c.in-None.ensures (c.run_design.ensures.done early)
+pub returns-in-None-in-None-clause-done : goal.returns-in-None-in-None-clause-done
+returns-in-None-in-None-clause-done g c = λ early. design_called (g.F.Files.told c.args.files.now) c.args.words.now _ c.in-None.ensures c.in-None-in-None.ensures (c.run_design.ensures.done early)
 
-pub returns-in-None-clause-complete : goal.returns-in-None-clause-complete
-returns-in-None-clause-complete g c = design_called (g.F.Files.told c.args.files.now) c.args.words.now _ c.in-None.ensures c.run_design.ensures.complete
+pub returns-in-None-in-None-clause-complete : goal.returns-in-None-in-None-clause-complete
+returns-in-None-in-None-clause-complete g c = design_called (g.F.Files.told c.args.files.now) c.args.words.now _ c.in-None.ensures c.in-None-in-None.ensures c.run_design.ensures.complete
 
-pub returns-in-None-clause-front : goal.returns-in-None-clause-front
-returns-in-None-clause-front g c = λ late. design_called (g.F.Files.told c.args.files.now) c.args.words.now _ c.in-None.ensures (c.run_design.ensures.front late)
+pub returns-in-None-in-None-clause-front : goal.returns-in-None-in-None-clause-front
+returns-in-None-in-None-clause-front g c = λ late. design_called (g.F.Files.told c.args.files.now) c.args.words.now _ c.in-None.ensures c.in-None-in-None.ensures (c.run_design.ensures.front late)
 
-pub returns-in-None-clause-asked : goal.returns-in-None-clause-asked
-returns-in-None-clause-asked g c = design_files c.args.words.now _ _ c.in-None.ensures c.run_design.ensures.asked
+pub returns-in-None-in-None-clause-asked : goal.returns-in-None-in-None-clause-asked
+returns-in-None-in-None-clause-asked g c = design_files c.args.words.now _ _ c.in-None.ensures c.in-None-in-None.ensures c.run_design.ensures.asked

@@ -1,0 +1,7 @@
+pub mod Ways
+pub mod Turns
+pub mod Batches
+pub mod Told
+pub mod Counting
+pub mod Called
+pub mod Ending

@@ -1,0 +1,9 @@
+pub mod Stops
+pub mod Laws
+pub mod Answers
+pub mod Chain
+pub mod Line
+pub mod Summing
+pub mod Session
+pub mod Asked
+pub mod Judged
