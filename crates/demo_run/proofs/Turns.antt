@@ -1,5 +1,6 @@
 -- The stops that turns reach are those that they tell, with the way in which the machine runs.
-use Rattle.std.proofs.Common.{◌≡◌, ℕ, zero, suc, Bool, true, false, List, [], ◌∷◌, ◌++◌, length, Option, Some, None, refl, sym, ap, ◌∙◌, nat_lt}
+use Rattle.std.proofs.Common.{◌≡◌, ℕ, zero, suc, Bool, true, false, List, [], ◌∷◌, ◌++◌, length, Option, Some, None, refl, sym, ap, ◌∙◌, nat_lt, if◌then◌else◌}
+use Rattle.std.specs.Prelude.{find, take}
 use Rattle.std.specs.List.{flat_map}
 use Rattle.trace_core.specs.declared.scan.Way.{Way}
 use Rattle.trace_core.specs.declared.scan.Way.TheVariants.{Forward, Backward}
@@ -8,7 +9,8 @@ use Rattle.world_core.specs.World.{World}
 use Rattle.machine_core.specs.declared.turn.Motion.{Motion}
 use Rattle.machine_core.specs.declared.turn.Motion.TheVariants.{Idle, Running}
 use Rattle.machine_core.specs.declared.turn.Turned.TheVariants as turned
-use Rattle.machine_core.specs.Positions.{reach}
+use Rattle.machine_core.specs.Positions.{position_count, ahead, reach}
+use Rattle.machine_core.specs.Matching.{matches}
 use Rattle.machine_core.specs.Machine.{Machine, Turn, stopped_at, edge_turn, moved_turn, turn_to, turn_by, turn_of}
 use Rattle.machine_core.specs.Journal.{Line, notices_of, turns_from}
 use Rattle.machine_core.proofs.Ends.{running_turns}
@@ -75,5 +77,5 @@ running_told w zero m way want e = refl
 running_told w (suc n) m way want e =
     let t = running_turns w m way want e in
     (λ i. stop_in (e i) (t i).turned ++ turn_stops w n (t i).after)
-    ∙ by_found w n way want m _ _ e (λ a h. running_told w n a way want h)
+    ∙ by_found w n way want m (ahead (position_count w) way m.place) (find (matches w m.breakpoints want) (take reach (ahead (position_count w) way m.place))) e (λ a h. running_told w n a way want h)
     ∙ (λ i. reached_by (Some way) (flat_map line_stop (notices_of w (sym t i).turned ++ (turns_from w n (sym t i).after).lines)))

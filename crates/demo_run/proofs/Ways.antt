@@ -1,5 +1,5 @@
 -- What an idle machine is granted tells the way in which it runs then.
-use Rattle.std.proofs.Common.{◌≡◌, ℕ, Bool, true, false, Option, Some, None, Result, Ok, Err, refl, subst, if◌then◌else◌}
+use Rattle.std.proofs.Common.{◌≡◌, ℕ, Bool, true, false, Option, Some, None, Result, Ok, Err, refl, subst, if◌then◌else◌, filter, not}
 use Rattle.std.specs.List.{list_any}
 use Rattle.exec_core.specs.Block.{Name}
 use Rattle.gen_tree.specs.Tree.{Expr}
@@ -42,10 +42,6 @@ runs_so granted a way b want h e = subst (Runs granted) (same_way a way b want e
 still : (motion : Motion) (way : Way) (want : Want) → motion ≡ Idle → motion ≡ Running way want → ⊥
 still motion way want idle e = cc
 
--- what leaves it idle
-rests : (left : Machine) (granted : Body) → left.motion ≡ Idle → Grants (Accepted left granted)
-rests left granted idle = λ way want e. absurd (still left.motion way want idle e)
-
 idle_grants : (motion : Motion) (o : Outcome) → Grants o → Grants (if_idle motion o)
 idle_grants Idle o h = h
 idle_grants (Running way want) o h = tt
@@ -55,15 +51,19 @@ running_grants Idle o h = tt
 running_grants (Running way want) o h = h
 
 break_grants : (m : Machine) (r : Result Breakpoint Body) → m.motion ≡ Idle → Grants (accepted_unless r (armed_break m))
-break_grants m (Ok b) idle = rests _ _ idle
+break_grants m (Ok b) idle = λ way want e. absurd (still m.motion way want idle e)
 break_grants m (Err refusal) idle = tt
 
 by_test : (b : Bool) (o p : Outcome) → Grants o → Grants p → Grants (if b then o else p)
 by_test true o p h g = h
 by_test false o p h g = g
 
+-- what is left where a breakpoint is disarmed
+abbrev disarmed : Machine → ℕ → Outcome
+disarmed m bp = Accepted (record m { breakpoints = filter (λ b. not (has_number bp b)) m.breakpoints }) body.Delete
+
 delete_grants : (m : Machine) (bp : ℕ) → m.motion ≡ Idle → Grants (delete m bp)
-delete_grants m bp idle = by_test (list_any (has_number bp) m.breakpoints) _ _ (rests _ _ idle) tt
+delete_grants m bp idle = by_test (list_any (has_number bp) m.breakpoints) (disarmed m bp) (Refused (body.NoBreakpoint bp)) (λ way want e. absurd (still m.motion way want idle e)) tt
 
 named_grants : (m : Machine) (way : Way) (granted : Body) (path : Name) (i : Option ℕ) → Runs granted way → Grants (named_step m way granted path i)
 named_grants m way granted path None e = tt
@@ -88,7 +88,7 @@ at_thread_grants : (w : World) (m : Machine) (path : Name) (f : ℕ → ℕ → 
 at_thread_grants w m path f h = at_stop_grants w m _ (λ q. thread_grants w m q (instance_named w path) (f q) (h q))
 
 value_grants : (w : World) (m : Machine) (p i : ℕ) (e : Expr) (r : Result ℕ Refusal) → m.motion ≡ Idle → Grants (judged_value w m p i e r)
-value_grants w m p i e (Ok width) idle = rests _ _ idle
+value_grants w m p i e (Ok width) idle = λ way want f. absurd (still m.motion way want idle f)
 value_grants w m p i e (Err refusal) idle = tt
 
 eval_grants : (w : World) (m : Machine) (p i : ℕ) (r : Reading) → m.motion ≡ Idle → Grants (eval w m p i r)
@@ -97,7 +97,7 @@ eval_grants w m p i (Condition e offsets) idle = value_grants w m p i e _ idle
 
 drop_grants : (m : Machine) (k : ℕ) (h : Option Heard) → m.motion ≡ Idle → Grants (drop_listener m k h)
 drop_grants m k None idle = tt
-drop_grants m k (Some heard) idle = rests _ _ idle
+drop_grants m k (Some heard) idle = λ way want e. absurd (still m.motion way want idle e)
 
 obey_grants : (read : Reader) (w : World) (m : Machine) (c : Cmd) → m.motion ≡ Idle → Grants (obey read w m c)
 obey_grants read w m (cmd.Break line path text) idle = break_grants m _ idle
@@ -106,13 +106,13 @@ obey_grants read w m cmd.Continue idle = idle_grants m.motion _ (λ way want h. 
 obey_grants read w m cmd.Reverse idle = idle_grants m.motion _ (λ way want h. runs_so body.Reverse Backward way _ want (refl, refl) h)
 obey_grants read w m (cmd.Step path) idle = idle_grants m.motion _ (step_grants w m _ _ path (refl, refl))
 obey_grants read w m (cmd.Back path) idle = idle_grants m.motion _ (step_grants w m _ _ path (refl, refl))
-obey_grants read w m cmd.Pause idle = running_grants m.motion _ (rests _ _ refl)
-obey_grants read w m cmd.Threads idle = at_stop_grants w m _ (λ q. rests _ _ idle)
-obey_grants read w m (cmd.Values path) idle = at_thread_grants w m path _ (λ q j. rests _ _ idle)
+obey_grants read w m cmd.Pause idle = running_grants m.motion _ (λ way want e. absurd (still Idle way want refl e))
+obey_grants read w m cmd.Threads idle = at_stop_grants w m _ (λ q way want e. absurd (still m.motion way want idle e))
+obey_grants read w m (cmd.Values path) idle = at_thread_grants w m path _ (λ q j way want e. absurd (still m.motion way want idle e))
 obey_grants read w m (cmd.Eval path text) idle = at_thread_grants w m path _ (λ q j. eval_grants w m q j (read text) idle)
 obey_grants read w m (cmd.Drop k) idle = drop_grants m k (listener m k) idle
-obey_grants read w m cmd.Status idle = rests _ _ idle
-obey_grants read w m cmd.Bye idle = rests _ _ idle
+obey_grants read w m cmd.Status idle = λ way want e. absurd (still m.motion way want idle e)
+obey_grants read w m cmd.Bye idle = λ way want e. absurd (still m.motion way want idle e)
 
 outcome_grants : (read : Reader) (w : World) (m : Machine) (asked : Asked) → m.motion ≡ Idle → Grants (asked_outcome read w m asked)
 outcome_grants read w m (Good request) idle = obey_grants read w m request.cmd idle
