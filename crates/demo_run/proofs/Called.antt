@@ -33,7 +33,7 @@ use Rattle.demo_run.specs.Stops.{Reached, batch_stops}
 use Rattle.demo_run.specs.Answers.{Counted}
 use Rattle.demo_run.specs.Summing.{Tells}
 use Rattle.demo_run.specs.Session.{TellsTrace, TellsSession}
-use Rattle.demo_run.specs.declared.counts.Counts.{Counts}
+use Rattle.demo_run.specs.declared.tally.Counts.{Counts}
 use Rattle.demo_run.specs.declared.line.Summary.{Summary}
 
 -- where a session stands, its machine stands

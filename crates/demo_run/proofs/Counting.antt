@@ -18,7 +18,7 @@ use Rattle.req_json.specs.Asked.{asked}
 use Rattle.batch_run.specs.Texts.{lines_of, requests_of}
 use Rattle.demo_run.specs.Stops.{Reached, batch_stops, is_forward, is_backward, thread_count, forward_count, backward_count, thread_sum}
 use Rattle.demo_run.specs.Answers.{answered_stops, Counted, Adds}
-use Rattle.demo_run.specs.declared.counts.Counts.{Counts}
+use Rattle.demo_run.specs.declared.tally.Counts.{Counts}
 use Rattle.demo_run.proofs.Batches.{answered_is, stops_split, idle_again}
 
 -- ---- counts

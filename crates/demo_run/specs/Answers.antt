@@ -8,7 +8,7 @@ use Rattle.machine_core.specs.declared.reply.Body.TheVariants as body
 use Rattle.machine_core.specs.declared.turn.Notice.{Notice}
 use Rattle.demo_run.specs.Stops.{Reached, forward_count, backward_count, thread_sum}
 use Rattle.demo_run.specs.Laws.{stop_told}
-use Rattle.demo_run.specs.declared.counts.Counts.{Counts}
+use Rattle.demo_run.specs.declared.tally.Counts.{Counts}
 
 -- the way in which an idle session runs where it is granted this, if it runs
 abbrev pub granted_way : Body → Option Way

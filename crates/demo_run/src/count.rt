@@ -9,7 +9,7 @@ ghost use Rattle.batch_run.specs.Texts.{requests_of};
 ghost use Rattle.demo_run.specs.Stops.{batch_stops};
 ghost use Rattle.demo_run.specs.Answers.{Counted};
 
-use crate::counts::Counts;
+use crate::tally::Counts;
 use batch_run::{asked_in, left, next_line};
 use dbg_core::{Listeners, Session};
 use std::alloc::Global;

@@ -1,20 +1,11 @@
-//! The counts of the stops of a session.
+//! Counts the stops of a session: each with the way that the answer before it granted.
 
-ghost use Rattle.std.specs.Prelude.{◌≡◌, ◌≤◌, ◌<◌, ◌+◌, ◌*◌, []};
+ghost use Rattle.std.specs.Prelude.{◌≡◌, ◌≤◌, ◌<◌, ◌+◌, []};
 ghost use Rattle.demo_run.specs.Answers.{Adds, Counted, answered_stops, granted_way as the_granted_way};
 
+use crate::tally::Counts;
 use dbg_core::{Answered, Body, Notice};
 use trace_core::Way;
-
-/// How many stops were reached while running forwards, and while running backwards; and the sum of the numbers of threads of the
-/// former.
-#[derive(Clone, Copy)]
-pub(crate) struct Counts {
-    pub(crate) forward: u64,
-    pub(crate) backward: u64,
-    pub(crate) threads: u64,
-    pub ghost bounded: { threads ≤ forward * 4294967295 },
-}
 
 /// The way in which an idle session runs where it is granted this, if it runs.
 fn granted_way(body: &Body) -> Option<Way>

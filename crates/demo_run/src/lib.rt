@@ -12,6 +12,7 @@ mod laws;
 mod line;
 mod run;
 mod session;
+mod tally;
 mod walk;
 mod write;
 

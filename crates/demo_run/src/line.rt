@@ -5,7 +5,7 @@ ghost use Rattle.demo_run.specs.Chain.{row_count};
 ghost use Rattle.demo_run.specs.Line.{said, world_part, stops_part};
 ghost use Rattle.demo_run.specs.Summing.{summary_line as the_summary_line};
 
-use crate::counts::Counts;
+use crate::tally::Counts;
 use std::alloc::Global;
 use text_core::NoMemory;
 
