@@ -1,6 +1,6 @@
 //! The words of a demo.
 
-ghost use Rattle.std.specs.Prelude.{◌≡◌, ◌≤◌, IfSome};
+ghost use Rattle.std.specs.Prelude.{◌≡◌};
 ghost use Rattle.std.specs.Option.{option_map};
 ghost use Rattle.demo_run.specs.Judged.{given_as};
 ghost use Rattle.dbg_app.specs.Call.{cells_of as the_cells_of, demo_of};

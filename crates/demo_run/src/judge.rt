@@ -1,6 +1,6 @@
 //! Judges the design and the stimulus of a demo, and reads its requests.
 
-ghost use Rattle.std.specs.Prelude.{◌≡◌, ◌≤◌, ◌<◌, [], ◌∷◌, IfOk, IfSome, IsErrOf, IsTrue};
+ghost use Rattle.std.specs.Prelude.{◌≡◌, ◌≤◌, ◌<◌, [], ◌∷◌, IfOk, IfSome, IsErrOf, IsTrue, length};
 ghost use Rattle.std.specs.Option.{option_map};
 ghost use Rattle.io_edge.specs.Faults.{Rose};
 ghost use Rattle.io_edge.specs.Taken.{AppendsFront};
