@@ -22,16 +22,16 @@ use std::alloc::Global;
 use text_core::NoMemory;
 use trace_core::Trace;
 
-/// What the bytes of a request ask, behind a box.
-fn asked_in(alloc: Global, line: &[u8]) -> Result<Box<Asked>, NoMemory>
+/// What the bytes of a request ask, behind a box. Fails only where memory runs out.
+pub fn asked_in(alloc: Global, line: &[u8]) -> Result<Box<Asked>, NoMemory>
     ensures { IfOk result (λ found. found.value ≡ asked line.now) }
 {
     let asked = read_request(alloc, line)?;
     Ok(Box::new(alloc, asked)?)
 }
 
-/// What of a batch follows a request: nothing, where it was the last.
-fn left<'a>(answered: &Answered, behind: &'a [u8]) -> &'a [u8]
+/// What of a batch follows a request: nothing, where it was the last. Takes no memory.
+pub fn left<'a>(answered: &Answered, behind: &'a [u8]) -> &'a [u8]
     ensures { result.now ≡ (if is_bye answered.now.reply.body then [] else behind.now) }
 {
     if answered.is_last() { &[] } else { behind }

@@ -9,6 +9,7 @@ mod lines;
 mod put;
 mod session;
 
-pub use batch::run_batch;
+pub use batch::{asked_in, left, run_batch};
+pub use lines::next_line;
 pub use session::write_batch;
 pub use sink_text::SinkEnd;

@@ -27,9 +27,9 @@ fn line_len(text: &[u8]) -> usize
     text.iter().take_while(|byte| !is_feed(**byte)).count()
 }
 
-/// The first line of a text that holds a byte, and what follows it. None where there is none.
+/// The first line of a text that holds a byte, and what follows it. None where there is none. Takes no memory.
 #[tactic(auto, using(crate::proofs::LineLemmas::first_line, crate::proofs::LineLemmas::no_line, crate::proofs::LineLemmas::line_some))]
-pub(crate) fn next_line(text: &[u8]) -> Option<(&[u8], &[u8])>
+pub fn next_line(text: &[u8]) -> Option<(&[u8], &[u8])>
     ensures lines { MatchOption result (lines_of text.now ≡ []) (λ cut. lines_of text.now ≡ cut.0.now ∷ lines_of cut.1.now) }
     ensures shorter { IfSome result (λ cut. length cut.1.now < length text.now) }
 {

@@ -86,9 +86,9 @@ pub fn judge_design<F: Files>(
     }
 }
 
-/// The stimulus that a text is for these ports, or why it is refused.
+/// Judges the text of a stimulus for these ports: the rows that it has, or why it is refused. Fails only where memory runs out.
 #[tactic(auto, using(crate::proofs::Stimuli::refused_for))]
-fn stimulus_of(
+pub fn judge_rows(
     alloc: Global,
     text: &[u8],
     ports: &Ports,
@@ -122,7 +122,7 @@ pub fn judge_stimulus<F: Files>(
     ensures later { F.fault_count files.old ≤ F.fault_count files.new }
 {
     match read(alloc, files, name, MOST_STIMULUS)? {
-        Some(text) => Ok(stimulus_of(alloc, &text, ports)?),
+        Some(text) => Ok(judge_rows(alloc, &text, ports)?),
         None => Ok(Err(StimFault::TooLong)),
     }
 }

@@ -82,8 +82,9 @@ fn judge_modules(
     }
 }
 
-/// The design of a text, if it is accepted, or why it is refused.
-pub(crate) fn judge_text(
+/// Judges the text of a source from its top, a module's name, with the parameters that are given to it: the design that is accepted,
+/// or why it is refused. A text of more than 1 MiB is refused as too long. Fails only where memory runs out.
+pub fn judge_text(
     alloc: Global,
     source: &[u8],
     top: &[u8],
