@@ -17,10 +17,6 @@ mod table;
 #[cfg(test)]
 mod text_core_tests;
 #[cfg(test)]
-mod vcd_cuts;
-#[cfg(test)]
-mod vcd_faults;
-#[cfg(test)]
 mod vcd_texts;
 #[cfg(test)]
 mod vcd_traces;
