@@ -6,3 +6,4 @@ pub mod Told
 pub mod Counting
 pub mod Called
 pub mod Ending
+mod Lining

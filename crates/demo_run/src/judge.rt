@@ -67,10 +67,7 @@ fn judge_chain(alloc: Global, number: u16) -> Result<Result<Accepted, DesignFaul
 }
 
 /// Judges its stimulus.
-fn judge_chain_rows(
-    alloc: Global,
-    accepted: &Accepted,
-) -> Result<Result<Stim, StimFault>, NoMemory>
+fn judge_chain_rows(alloc: Global, accepted: &Accepted) -> Result<Result<Stim, StimFault>, NoMemory>
     ensures rows { IfOk result (JudgesRows (the_chain_stimulus row_count) accepted.now.ports) }
     ensures whole { IfOk result (IsWhole accepted.now.ports) }
 {

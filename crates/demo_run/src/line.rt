@@ -18,12 +18,7 @@ pub(crate) struct Summary {
 }
 
 /// Adds words, and a number.
-fn push_said(
-    alloc: Global,
-    line: &mut Vec<u8>,
-    words: &[u8],
-    number: u64,
-) -> Result<(), NoMemory>
+fn push_said(alloc: Global, line: &mut Vec<u8>, words: &[u8], number: u64) -> Result<(), NoMemory>
     ensures { OnOk result (line.new.items ≡ line.old.items ++ said words.now number) }
 {
     let digits = format!(in alloc; "{number}")?;
@@ -33,12 +28,7 @@ fn push_said(
 }
 
 /// Adds what is told of the world.
-fn push_world(
-    alloc: Global,
-    line: &mut Vec<u8>,
-    instances: u64,
-    slots: u64,
-) -> Result<(), NoMemory>
+fn push_world(alloc: Global, line: &mut Vec<u8>, instances: u64, slots: u64) -> Result<(), NoMemory>
     ensures { OnOk result (line.new.items ≡ line.old.items ++ world_part instances slots) }
 {
     push_said(alloc, line, b" instances ", instances)?;

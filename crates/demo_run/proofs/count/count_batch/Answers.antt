@@ -8,10 +8,7 @@ use Rattle.demo_run.proofs.Counting.{begins, ran_alike, goes_on, room, counted}
 use Rattle.demo_run.proofs.count.count_batch.Goals as goal
 
 pub loop-line-init : goal.loop-line-init
-loop-line-init g c = rw (c.in_ok-session.ensures.ok) (record { table = refl; samples = refl; counting = begins _ _ _ _ c.requires.idle c.none.ensures })
-
-pub with-requires-clause-few : goal.with-requires-clause-few
-with-requires-clause-few g c = room _ _ _ _ _ _ _ c.in-Some.ensures.shorter c.loop-line.invariant.counting c.requires.short
+loop-line-init g c = rw (c.in_ok-session.ensures.ok) (record { table = refl; samples = refl; counting = begins _ _ _ _ c.requires.idle c.none-counts.ensures })
 
 pub loop-line-preserved : goal.loop-line-preserved
 loop-line-preserved g c =
@@ -22,13 +19,9 @@ loop-line-preserved g c =
     record {
       table = c.answer.ensures.table ∙ table;
       samples = c.answer.ensures.samples ∙ samples;
-      counting = rw c.left.ensures
+      counting = rw c.left-rest.ensures
           (goes_on _ _ _ _ _ _ _ _ _ _ _ _ c.in-Some.ensures.lines c.in-Some.ensures.shorter
           (λ read reader. ran_alike read _ _ _ _ _ _ _ (λ j. world_of (table j) (samples j)) (c.deref.ensures ∙ c.in_ok-asked.ensures) (λ j. machine_of (e j) (map (option_map (λ b. (goal.Listener-dyn g (b.vtable, b.value)).heard b.value)) c.loop-line.listeners.boxes.items)) (c.in_ok-answered.ensures.ran read reader))
-          c.with.ensures.adds c.with.ensures.one (stands_within _ _ _ _ _ i.table i.samples c.loop-line.session.value.within) i.counting);
+          c.with-counts.ensures.adds c.with-counts.ensures.one (stands_within _ _ _ _ _ i.table i.samples c.loop-line.session.value.within) i.counting);
     }
 
-pub returns-clause-ensures : goal.returns-clause-ensures
-returns-clause-ensures g c =
-    let done : lines_of c.loop-line.rest.now ≡ [] = search rules in
-    counted _ _ _ _ _ _ c.loop-line.invariant.counting done
