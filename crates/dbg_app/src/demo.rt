@@ -18,7 +18,11 @@ fn cells_of(digits: &[u8]) -> Option<u16>
         return None;
     }
     let number = number_of(10, digits, 4000)?;
-    if number == 0 { None } else { Some(number as u16) }
+    if number == 0 {
+        None
+    } else {
+        Some(number as u16)
+    }
 }
 
 /// The demo `demo MODE N REQ` that the words are, if they are one.

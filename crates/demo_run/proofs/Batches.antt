@@ -1,13 +1,11 @@
 -- What the answers to an idle machine's requests tell are the stops of the batch.
-use Rattle.std.proofs.Common.{◌≡◌, ◌+◌, ℕ, Bool, true, false, List, [], ◌∷◌, ◌++◌, map, Option, Some, None, if◌then◌else◌, refl, sym, ap, ◌∙◌, append-nil, ◌≤◌, subst}
+use Rattle.std.proofs.Common.{◌≡◌, ◌+◌, ℕ, Bool, true, false, List, [], ◌∷◌, ◌++◌, Option, Some, None, if◌then◌else◌, refl, sym, ap, ◌∙◌, append-nil, ◌≤◌, subst}
 use Rattle.std.specs.List.{flat_map}
-use Rattle.listen.specs.declared.note.StopNote.{StopNote}
 use Rattle.trace_core.specs.declared.scan.Way.{Way}
 use Rattle.trace_core.specs.declared.scan.Want.{Want}
 use Rattle.world_core.specs.World.{World}
 use Rattle.machine_core.specs.declared.request.Asked.{Asked}
 use Rattle.machine_core.specs.declared.reply.Body.{Body}
-use Rattle.machine_core.specs.declared.reply.Body.TheVariants as body
 use Rattle.machine_core.specs.declared.reply.Reply.{Reply}
 use Rattle.machine_core.specs.declared.turn.Motion.{Motion}
 use Rattle.machine_core.specs.declared.turn.Motion.TheVariants.{Idle, Running}
@@ -15,7 +13,7 @@ use Rattle.machine_core.specs.declared.turn.Notice.{Notice}
 use Rattle.machine_core.specs.Positions.{position_count, end_place}
 use Rattle.machine_core.specs.Reading.{Reader}
 use Rattle.machine_core.specs.Machine.{Machine, Answer, answer_of}
-use Rattle.machine_core.specs.Journal.{Line, Replied, Noticed, Ran, behind, turns_from, until_idle, is_bye, batch_from}
+use Rattle.machine_core.specs.Journal.{Line, Replied, Ran, behind, turns_from, until_idle, is_bye, batch_from}
 use Rattle.machine_core.proofs.Ends.{batches_end}
 use Rattle.machine_core.proofs.Keeps.{moves_by_turns_alone}
 use Rattle.dbg_core.specs.Answering.{told_lines, answered_lines}

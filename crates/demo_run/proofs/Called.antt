@@ -1,14 +1,11 @@
 -- What a session over a compiled design's table and its run counts.
-use Rattle.std.proofs.Common.{◌≡◌, ◌≤◌, ◌+◌, ℕ, List, length, ap, sym, ◌∙◌, subst, arith}
+use Rattle.std.proofs.Common.{◌≡◌, ◌≤◌, ◌+◌, ℕ, List, length, ap, sym, ◌∙◌, subst}
 use Rattle.std.proofs.lemmas.List.{length-map}
-use Rattle.bv_core.specs.Value.{Bits}
-use Rattle.exec_core.specs.Whole.{Place}
 use Rattle.listen.specs.Pairs.{Heard}
 use Rattle.design_core.specs.Design.{Design}
 use Rattle.net_core.specs.Nets.{NetParts}
 use Rattle.symtab.specs.declared.parts.InstanceParts.{InstanceParts}
 use Rattle.symtab.specs.declared.parts.TableParts.{TableParts}
-use Rattle.symtab.specs.Shape.{paths_of}
 use Rattle.stim_text.specs.Stimulus.{Stimulus, IsStimulus}
 use Rattle.sim_hist.specs.Run.{run_samples}
 use Rattle.check_exec.specs.Premises.{IsSound}
@@ -20,7 +17,7 @@ use Rattle.world_core.specs.Seen.{seen}
 use Rattle.world_core.specs.Source.{source_world}
 use Rattle.trace_world.specs.TraceWorld.{trace_world, shows_by}
 use Rattle.trim_core.specs.Trimmed.{IsTrimmed}
-use Rattle.trim_laws.specs.Runs.{HasInputs, RunsOver}
+use Rattle.trim_laws.specs.Runs.{HasInputs}
 use Rattle.trim_laws.proofs.Worlds.{worlds_are_seen_alike}
 use Rattle.machine_core.specs.Positions.{end_place}
 use Rattle.machine_core.specs.Reading.{Reader, IsReader}
@@ -33,7 +30,6 @@ use Rattle.demo_run.specs.Stops.{Reached, batch_stops}
 use Rattle.demo_run.specs.Answers.{Counted}
 use Rattle.demo_run.specs.Summing.{Tells}
 use Rattle.demo_run.specs.Session.{TellsTrace, TellsSession}
-use Rattle.demo_run.specs.declared.tally.Counts.{Counts}
 use Rattle.demo_run.specs.declared.line.Summary.{Summary}
 
 -- where a session stands, its machine stands

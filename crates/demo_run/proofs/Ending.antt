@@ -1,5 +1,5 @@
 -- How a demo ends, from what was judged and written.
-use Rattle.std.proofs.Common.{◌≡◌, ◌<◌, ◌≤◌, ℕ, Bool, true, false, ◌||◌, ◌==◌, List, length, Option, Some, None, Result, Ok, Err, refl, sym, ap, ◌∙◌, subst, IsTrue, ◌⊎◌, inl, inr, arith}
+use Rattle.std.proofs.Common.{◌≡◌, ◌<◌, ℕ, Bool, true, false, ◌||◌, ◌==◌, List, length, Option, Some, None, Result, Ok, Err, refl, sym, ap, ◌∙◌, subst, IsTrue, ◌⊎◌, inl, inr, arith}
 use Rattle.std.specs.Prelude.{IfSome}
 use Rattle.std.proofs.lemmas.Bool.Decides.{nat_tests}
 use Rattle.io_edge.specs.Taken.{Appends, AppendsFront}
@@ -23,11 +23,10 @@ use Rattle.design_judge.specs.Refusals.{design_line, stimulus_line}
 use Rattle.design_judge.specs.Judgement.{IsRefused, ArePortsOf}
 use Rattle.design_judge.proofs.OneJudgement.{one_design, one_judgement, not_both}
 use Rattle.design_judge.proofs.OnePorts.{one_ports}
-use Rattle.machine_core.specs.Reading.{IsReader}
 use Rattle.machine_core.proofs.Readers.{some_reader}
-use Rattle.batch_run.specs.Texts.{most_requests, requests_fault}
+use Rattle.batch_run.specs.Texts.{requests_fault}
 use Rattle.demo_run.specs.Chain.{chain_source, chain_stimulus, chain_top, row_count}
-use Rattle.demo_run.specs.Asked.{Given, Contents, IsChain, HasRows, HoldsRequests, RefusesDesign, RefusesStimulus, RefusesRequests, Held, Holds, line_over, line_of, ShowsLine, AsksDemo, NoDesign, NoStimulus, NoRequests, Accepted, is_status, TakesDesignLine, TakesStimulusLine, EndsAsAsked, TakesFront, TakesSome, RefusesLoop, TakesOtherLoop, TakesText, Completes}
+use Rattle.demo_run.specs.Asked.{Given, Contents, IsChain, HasRows, HoldsRequests, RefusesDesign, RefusesStimulus, RefusesRequests, Held, Holds, line_over, line_of, AsksDemo, NoDesign, NoStimulus, NoRequests, Accepted, is_status, TakesDesignLine, TakesStimulusLine, EndsAsAsked, TakesSome, TakesText, Completes}
 use Rattle.demo_run.specs.Judged.{HoldsWalk, Judges, IsWalk, HasText, judged_status, IsTextOf, IsWalkLine, IsTheText, TakesJudged, TakesJudgedFront}
 use Rattle.demo_run.specs.declared.walk.Walk.{Walk}
 use Rattle.demo_run.specs.declared.judge.Judged.{Judged}

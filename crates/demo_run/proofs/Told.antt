@@ -1,6 +1,5 @@
 -- The stops of a batch are those that its lines tell.
-use Rattle.std.proofs.Common.{◌≡◌, ◌+◌, ℕ, suc, Bool, true, false, List, [], ◌∷◌, ◌++◌, length, map, Option, Some, None, if◌then◌else◌, refl, sym, ap, ap₂, ◌∙◌, arith}
-use Rattle.std.specs.Prelude.{filter}
+use Rattle.std.proofs.Common.{◌≡◌, ◌+◌, ℕ, Bool, true, false, List, [], ◌∷◌, ◌++◌, length, map, Some, if◌then◌else◌, refl, sym, ap, ap₂, ◌∙◌, arith}
 use Rattle.std.specs.List.{flat_map}
 use Rattle.std.proofs.lemmas.List.{length-map, map-append}
 use Rattle.std.proofs.lemmas.List.Concat.{flat_map-append}
@@ -8,14 +7,12 @@ use Rattle.listen.specs.declared.note.StopNote.{StopNote}
 use Rattle.trace_core.specs.declared.scan.Way.{Way}
 use Rattle.trace_core.specs.declared.scan.Way.TheVariants.{Forward, Backward}
 use Rattle.world_core.specs.World.{World}
-use Rattle.machine_core.specs.declared.request.Asked.{Asked}
 use Rattle.machine_core.specs.declared.turn.Motion.{Motion}
 use Rattle.machine_core.specs.declared.turn.Motion.TheVariants.{Idle, Running}
 use Rattle.machine_core.specs.Positions.{position_count}
-use Rattle.machine_core.specs.Reading.{Reader}
 use Rattle.machine_core.specs.Machine.{Machine, Answer, answer_of}
-use Rattle.machine_core.specs.Journal.{Line, Replied, Ran, behind, turns_from, until_idle, is_bye, batch_from}
-use Rattle.demo_run.specs.Stops.{Reached, turn_stops, batch_stops, is_forward, is_backward, forward_count, backward_count}
+use Rattle.machine_core.specs.Journal.{Ran, behind, turns_from, until_idle, is_bye, batch_from}
+use Rattle.demo_run.specs.Stops.{Reached, turn_stops, batch_stops, forward_count, backward_count}
 use Rattle.demo_run.specs.Laws.{line_stop, note_of, StopsAreTold, TwoWaysAreAll}
 use Rattle.demo_run.specs.Answers.{reached_by}
 use Rattle.demo_run.proofs.Turns.{idle_lines, idle_stops, running_told}

@@ -1,12 +1,11 @@
 -- The stops that turns reach are those that they tell, with the way in which the machine runs.
-use Rattle.std.proofs.Common.{◌≡◌, ℕ, zero, suc, Bool, true, false, List, [], ◌∷◌, ◌++◌, length, Option, Some, None, refl, sym, ap, ◌∙◌, nat_lt, if◌then◌else◌}
+use Rattle.std.proofs.Common.{◌≡◌, ℕ, zero, suc, Bool, true, false, List, [], ◌++◌, length, Option, Some, None, refl, sym, ap, ◌∙◌, nat_lt, if◌then◌else◌}
 use Rattle.std.specs.Prelude.{find, take}
 use Rattle.std.specs.List.{flat_map}
 use Rattle.trace_core.specs.declared.scan.Way.{Way}
 use Rattle.trace_core.specs.declared.scan.Way.TheVariants.{Forward, Backward}
 use Rattle.trace_core.specs.declared.scan.Want.{Want}
 use Rattle.world_core.specs.World.{World}
-use Rattle.machine_core.specs.declared.turn.Motion.{Motion}
 use Rattle.machine_core.specs.declared.turn.Motion.TheVariants.{Idle, Running}
 use Rattle.machine_core.specs.declared.turn.Turned.TheVariants as turned
 use Rattle.machine_core.specs.Positions.{position_count, ahead, reach}

@@ -1,5 +1,5 @@
 -- The stops that the answers to an idle session's requests tell, and their counts as the code adds them up.
-use Rattle.std.specs.Prelude.{◌≡◌, ℕ, ◌+◌, List, [], map, Option, Some, None}
+use Rattle.std.specs.Prelude.{◌≡◌, ◌+◌, List, [], map, Option, Some, None}
 use Rattle.listen.specs.declared.note.StopNote.{StopNote}
 use Rattle.trace_core.specs.declared.scan.Way.{Way}
 use Rattle.trace_core.specs.declared.scan.Way.TheVariants.{Forward, Backward}

@@ -1,5 +1,5 @@
 -- What a demo asks for: the status and the text that its words and the contents of its file give.
-use Rattle.std.specs.Prelude.{◌≡◌, ◌≢◌, ℕ, ◌<◌, ◌≤◌, ◌==◌, Bool, false, ◌||◌, List, [], ◌∷◌, length, Option, Some, None, Result, Ok, Err, ◌⊎◌}
+use Rattle.std.specs.Prelude.{◌≡◌, ◌≢◌, ℕ, ◌<◌, ◌≤◌, ◌==◌, Bool, false, ◌||◌, List, length, Option, Some, None, Result, Ok, Err, ◌⊎◌}
 use Rattle.bv_core.specs.Value.{Bits}
 use Rattle.exec_core.specs.Block.{Name}
 use Rattle.exec_core.specs.Whole.{Place}

@@ -1,5 +1,5 @@
 -- A demo, judged, and the text that goes with what was judged.
-use Rattle.std.specs.Prelude.{◌≡◌, ◌≢◌, ◌≤◌, ℕ, false, List, Option, Some, None, Ok, Err, length}
+use Rattle.std.specs.Prelude.{◌≡◌, ◌≢◌, ◌≤◌, ℕ, false, List, Option, Some, Ok, length}
 use Rattle.bv_core.specs.Value.{Bits}
 use Rattle.exec_core.specs.Whole.{Place}
 use Rattle.io_edge.specs.Taken.{Appends, AppendsFront}

@@ -1,5 +1,5 @@
 -- What a session over a world, and over a design's runs, counts.
-use Rattle.std.specs.Prelude.{◌≡◌, ℕ, List}
+use Rattle.std.specs.Prelude.{ℕ, List}
 use Rattle.bv_core.specs.Value.{Bits}
 use Rattle.exec_core.specs.Whole.{Place}
 use Rattle.listen.specs.Pairs.{Heard}

@@ -1,10 +1,8 @@
-use Rattle.std.proofs.Common.{◌≡◌, [], map, option_map, refl, ◌∙◌, rules}
-use Rattle.std.proofs.lemmas.Result.{IfOk-weaker}
+use Rattle.std.proofs.Common.{◌≡◌, map, option_map, refl, ◌∙◌}
 use Rattle.dbg_core.specs.World.{world_of}
 use Rattle.dbg_core.specs.State.{machine_of}
-use Rattle.batch_run.specs.Texts.{lines_of}
 use Rattle.demo_run.proofs.Called.{stands_within}
-use Rattle.demo_run.proofs.Counting.{begins, ran_alike, goes_on, room, counted}
+use Rattle.demo_run.proofs.Counting.{begins, ran_alike, goes_on}
 use Rattle.demo_run.proofs.count.count_batch.Goals as goal
 
 pub loop-line-init : goal.loop-line-init
@@ -24,4 +22,3 @@ loop-line-preserved g c =
           (λ read reader. ran_alike read _ _ _ _ _ _ _ (λ j. world_of (table j) (samples j)) (c.deref.ensures ∙ c.in_ok-asked.ensures) (λ j. machine_of (e j) (map (option_map (λ b. (goal.Listener-dyn g (b.vtable, b.value)).heard b.value)) c.loop-line.listeners.boxes.items)) (c.in_ok-answered.ensures.ran read reader))
           c.with-counts.ensures.adds c.with-counts.ensures.one (stands_within _ _ _ _ _ i.table i.samples c.loop-line.session.value.within) i.counting);
     }
-

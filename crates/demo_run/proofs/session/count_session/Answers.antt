@@ -1,4 +1,4 @@
-use Rattle.std.proofs.Common.{◌≡◌, length, refl, sym, ap, subst}
+use Rattle.std.proofs.Common.{◌≡◌, length, sym, ap, subst}
 use Rattle.std.proofs.lemmas.Result.{IfOk-weaker}
 use Rattle.design_core.specs.DesignView.{design_of}
 use Rattle.net_core.specs.Nets.{NetParts}

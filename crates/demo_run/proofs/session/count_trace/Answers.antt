@@ -1,4 +1,4 @@
-use Rattle.std.proofs.Common.{◌≡◌, length, map, option_map, ◌∙◌, rules}
+use Rattle.std.proofs.Common.{◌≡◌, length, map, option_map, ◌∙◌}
 use Rattle.dbg_core.specs.State.{machine_of}
 use Rattle.machine_core.specs.Machine.{opening}
 use Rattle.demo_run.proofs.Called.{trace_told}
