@@ -41,67 +41,67 @@ returns-in-Some-clause-asked g c = trace_files c.args.words.now (names_as c.in-S
 
 -- ---- a demo
 
-pub returns-in-None-in-Some-clause-statuses : goal.returns-in-None-in-Some-clause-statuses
-returns-in-None-in-Some-clause-statuses g c = chain_status c.run_demo.result c.run_demo.ensures.statuses
+pub returns-in-Some-read_demo-clause-statuses : goal.returns-in-Some-read_demo-clause-statuses
+returns-in-Some-read_demo-clause-statuses g c = chain_status c.run_demo.result c.run_demo.ensures.statuses
 
-pub returns-in-None-in-Some-clause-usage : goal.returns-in-None-in-Some-clause-usage
-returns-in-None-in-Some-clause-usage g c = λ is. absurd (no_chain_status c.run_demo.result 2 refl c.run_demo.ensures.statuses is)
+pub returns-in-Some-read_demo-clause-usage : goal.returns-in-Some-read_demo-clause-usage
+returns-in-Some-read_demo-clause-usage g c = λ is. absurd (no_chain_status c.run_demo.result 2 refl c.run_demo.ensures.statuses is)
 
-pub returns-in-None-in-Some-clause-usage_line : goal.returns-in-None-in-Some-clause-usage_line
-returns-in-None-in-Some-clause-usage_line g c = λ is. absurd (no_chain_status c.run_demo.result 2 refl c.run_demo.ensures.statuses is)
+pub returns-in-Some-read_demo-clause-usage_line : goal.returns-in-Some-read_demo-clause-usage_line
+returns-in-Some-read_demo-clause-usage_line g c = λ is. absurd (no_chain_status c.run_demo.result 2 refl c.run_demo.ensures.statuses is)
 
-pub returns-in-None-in-Some-clause-file_line : goal.returns-in-None-in-Some-clause-file_line
-returns-in-None-in-Some-clause-file_line g c = λ is. absurd (no_chain_status c.run_demo.result 5 refl c.run_demo.ensures.statuses is)
+pub returns-in-Some-read_demo-clause-file_line : goal.returns-in-Some-read_demo-clause-file_line
+returns-in-Some-read_demo-clause-file_line g c = λ is. absurd (no_chain_status c.run_demo.result 5 refl c.run_demo.ensures.statuses is)
 
-pub returns-in-None-in-Some-clause-design_line : goal.returns-in-None-in-Some-clause-design_line
-returns-in-None-in-Some-clause-design_line g c = λ is. chain_design_line _ _ (c.run_demo.ensures.design_line is)
+pub returns-in-Some-read_demo-clause-design_line : goal.returns-in-Some-read_demo-clause-design_line
+returns-in-Some-read_demo-clause-design_line g c = λ is. chain_design_line _ _ (c.run_demo.ensures.design_line is)
 
-pub returns-in-None-in-Some-clause-stimulus_line : goal.returns-in-None-in-Some-clause-stimulus_line
-returns-in-None-in-Some-clause-stimulus_line g c = λ is. chain_stimulus_line _ _ (c.run_demo.ensures.stimulus_line is)
+pub returns-in-Some-read_demo-clause-stimulus_line : goal.returns-in-Some-read_demo-clause-stimulus_line
+returns-in-Some-read_demo-clause-stimulus_line g c = λ is. chain_stimulus_line _ _ (c.run_demo.ensures.stimulus_line is)
 
-pub returns-in-None-in-Some-clause-no_command : goal.returns-in-None-in-Some-clause-no_command
-returns-in-None-in-Some-clause-no_command g c = λ none. absurd (chain_is_call c.args.words.now (given_as c.in-None-in-Some.demo) c.in-None.ensures c.in-None-in-Some.ensures none)
+pub returns-in-Some-read_demo-clause-no_command : goal.returns-in-Some-read_demo-clause-no_command
+returns-in-Some-read_demo-clause-no_command g c = λ none. absurd (chain_is_call c.args.words.now (given_as c.in-Some-read_demo.demo) c.in-None.ensures c.in-Some-read_demo.ensures none)
 
-pub returns-in-None-in-Some-clause-usage_front : goal.returns-in-None-in-Some-clause-usage_front
-returns-in-None-in-Some-clause-usage_front g c = λ none. absurd (chain_is_call c.args.words.now (given_as c.in-None-in-Some.demo) c.in-None.ensures c.in-None-in-Some.ensures none)
+pub returns-in-Some-read_demo-clause-usage_front : goal.returns-in-Some-read_demo-clause-usage_front
+returns-in-Some-read_demo-clause-usage_front g c = λ none. absurd (chain_is_call c.args.words.now (given_as c.in-Some-read_demo.demo) c.in-None.ensures c.in-Some-read_demo.ensures none)
 
-pub returns-in-None-in-Some-clause-done : goal.returns-in-None-in-Some-clause-done
-returns-in-None-in-Some-clause-done g c = λ early. chain_called (g.F.Files.told c.args.files.now) c.args.words.now (given_as c.in-None-in-Some.demo) _ c.in-None.ensures c.in-None-in-Some.ensures (c.run_demo.ensures.done early)
+pub returns-in-Some-read_demo-clause-done : goal.returns-in-Some-read_demo-clause-done
+returns-in-Some-read_demo-clause-done g c = λ early. chain_called (g.F.Files.told c.args.files.now) c.args.words.now (given_as c.in-Some-read_demo.demo) _ c.in-None.ensures c.in-Some-read_demo.ensures (c.run_demo.ensures.done early)
 
-pub returns-in-None-in-Some-clause-complete : goal.returns-in-None-in-Some-clause-complete
-returns-in-None-in-Some-clause-complete g c = chain_called (g.F.Files.told c.args.files.now) c.args.words.now (given_as c.in-None-in-Some.demo) _ c.in-None.ensures c.in-None-in-Some.ensures c.run_demo.ensures.complete
+pub returns-in-Some-read_demo-clause-complete : goal.returns-in-Some-read_demo-clause-complete
+returns-in-Some-read_demo-clause-complete g c = chain_called (g.F.Files.told c.args.files.now) c.args.words.now (given_as c.in-Some-read_demo.demo) _ c.in-None.ensures c.in-Some-read_demo.ensures c.run_demo.ensures.complete
 
-pub returns-in-None-in-Some-clause-front : goal.returns-in-None-in-Some-clause-front
-returns-in-None-in-Some-clause-front g c = λ late. chain_called (g.F.Files.told c.args.files.now) c.args.words.now (given_as c.in-None-in-Some.demo) _ c.in-None.ensures c.in-None-in-Some.ensures (c.run_demo.ensures.front late)
+pub returns-in-Some-read_demo-clause-front : goal.returns-in-Some-read_demo-clause-front
+returns-in-Some-read_demo-clause-front g c = λ late. chain_called (g.F.Files.told c.args.files.now) c.args.words.now (given_as c.in-Some-read_demo.demo) _ c.in-None.ensures c.in-Some-read_demo.ensures (c.run_demo.ensures.front late)
 
-pub returns-in-None-in-Some-clause-asked : goal.returns-in-None-in-Some-clause-asked
-returns-in-None-in-Some-clause-asked g c = chain_files c.args.words.now (given_as c.in-None-in-Some.demo) _ _ c.in-None.ensures c.in-None-in-Some.ensures c.run_demo.ensures.asked
+pub returns-in-Some-read_demo-clause-asked : goal.returns-in-Some-read_demo-clause-asked
+returns-in-Some-read_demo-clause-asked g c = chain_files c.args.words.now (given_as c.in-Some-read_demo.demo) _ _ c.in-None.ensures c.in-Some-read_demo.ensures c.run_demo.ensures.asked
 
 -- ---- a command over a design
 
-pub returns-in-None-in-None-clause-statuses : goal.returns-in-None-in-None-clause-statuses
-returns-in-None-in-None-clause-statuses g c = design_status c.run_design.result.status c.run_design.ensures.statuses
+pub returns-in-None-read_demo-clause-statuses : goal.returns-in-None-read_demo-clause-statuses
+returns-in-None-read_demo-clause-statuses g c = design_status c.run_design.result.status c.run_design.ensures.statuses
 
-pub returns-in-None-in-None-clause-usage : goal.returns-in-None-in-None-clause-usage
-returns-in-None-in-None-clause-usage g c = λ is. none_called c.args.words.now c.in-None.ensures c.in-None-in-None.ensures (c.run_design.ensures.usage is)
+pub returns-in-None-read_demo-clause-usage : goal.returns-in-None-read_demo-clause-usage
+returns-in-None-read_demo-clause-usage g c = λ is. none_called c.args.words.now c.in-None.ensures c.in-None-read_demo.ensures (c.run_design.ensures.usage is)
 
-pub returns-in-None-in-None-clause-no_command : goal.returns-in-None-in-None-clause-no_command
-returns-in-None-in-None-clause-no_command g c = λ none. c.run_design.ensures.no_command (no_command_called c.args.words.now c.in-None.ensures c.in-None-in-None.ensures none)
+pub returns-in-None-read_demo-clause-no_command : goal.returns-in-None-read_demo-clause-no_command
+returns-in-None-read_demo-clause-no_command g c = λ none. c.run_design.ensures.no_command (no_command_called c.args.words.now c.in-None.ensures c.in-None-read_demo.ensures none)
 
-pub returns-in-None-in-None-clause-file_line : goal.returns-in-None-in-None-clause-file_line
-returns-in-None-in-None-clause-file_line g c = λ is. absurd (no_file_status c.run_design.result.status c.run_design.ensures.statuses is)
+pub returns-in-None-read_demo-clause-file_line : goal.returns-in-None-read_demo-clause-file_line
+returns-in-None-read_demo-clause-file_line g c = λ is. absurd (no_file_status c.run_design.result.status c.run_design.ensures.statuses is)
 
-pub returns-in-None-in-None-clause-usage_front : goal.returns-in-None-in-None-clause-usage_front
-returns-in-None-in-None-clause-usage_front g c = λ none. c.run_design.ensures.usage_front (no_command_called c.args.words.now c.in-None.ensures c.in-None-in-None.ensures none)
+pub returns-in-None-read_demo-clause-usage_front : goal.returns-in-None-read_demo-clause-usage_front
+returns-in-None-read_demo-clause-usage_front g c = λ none. c.run_design.ensures.usage_front (no_command_called c.args.words.now c.in-None.ensures c.in-None-read_demo.ensures none)
 
-pub returns-in-None-in-None-clause-done : goal.returns-in-None-in-None-clause-done
-returns-in-None-in-None-clause-done g c = λ early. design_called (g.F.Files.told c.args.files.now) c.args.words.now _ c.in-None.ensures c.in-None-in-None.ensures (c.run_design.ensures.done early)
+pub returns-in-None-read_demo-clause-done : goal.returns-in-None-read_demo-clause-done
+returns-in-None-read_demo-clause-done g c = λ early. design_called (g.F.Files.told c.args.files.now) c.args.words.now _ c.in-None.ensures c.in-None-read_demo.ensures (c.run_design.ensures.done early)
 
-pub returns-in-None-in-None-clause-complete : goal.returns-in-None-in-None-clause-complete
-returns-in-None-in-None-clause-complete g c = design_called (g.F.Files.told c.args.files.now) c.args.words.now _ c.in-None.ensures c.in-None-in-None.ensures c.run_design.ensures.complete
+pub returns-in-None-read_demo-clause-complete : goal.returns-in-None-read_demo-clause-complete
+returns-in-None-read_demo-clause-complete g c = design_called (g.F.Files.told c.args.files.now) c.args.words.now _ c.in-None.ensures c.in-None-read_demo.ensures c.run_design.ensures.complete
 
-pub returns-in-None-in-None-clause-front : goal.returns-in-None-in-None-clause-front
-returns-in-None-in-None-clause-front g c = λ late. design_called (g.F.Files.told c.args.files.now) c.args.words.now _ c.in-None.ensures c.in-None-in-None.ensures (c.run_design.ensures.front late)
+pub returns-in-None-read_demo-clause-front : goal.returns-in-None-read_demo-clause-front
+returns-in-None-read_demo-clause-front g c = λ late. design_called (g.F.Files.told c.args.files.now) c.args.words.now _ c.in-None.ensures c.in-None-read_demo.ensures (c.run_design.ensures.front late)
 
-pub returns-in-None-in-None-clause-asked : goal.returns-in-None-in-None-clause-asked
-returns-in-None-in-None-clause-asked g c = design_files c.args.words.now _ _ c.in-None.ensures c.in-None-in-None.ensures c.run_design.ensures.asked
+pub returns-in-None-read_demo-clause-asked : goal.returns-in-None-read_demo-clause-asked
+returns-in-None-read_demo-clause-asked g c = design_files c.args.words.now _ _ c.in-None.ensures c.in-None-read_demo.ensures c.run_design.ensures.asked
