@@ -6,12 +6,10 @@ use Rattle.serde_json.specs.Find.{as_object}
 use Rattle.symtab_json.specs.Entries.{told_count}
 use Rattle.machine_core.specs.declared.request.Asked.{Asked}
 use Rattle.machine_core.specs.declared.request.Cmd.{Cmd}
-use Rattle.req_json.specs.declared.cmd_kind.CmdKind.{CmdKind}
 use Rattle.req_json.specs.declared.field.FieldName.{FieldName}
 use Rattle.req_json.specs.declared.field.FieldName.TheVariants as field
-use Rattle.req_json.specs.Commands.{cmd_kind_of}
 use Rattle.req_json.specs.Fields.{under, optional, required_text}
-use Rattle.req_json.specs.Asked.{IsAsked, asked_cmd, asked_kind, asked_word, asked_with_id, asked_tree, bad_shape, cmd_in, unknown_cmd}
+use Rattle.req_json.specs.Asked.{IsAsked, asked_cmd, asked_row, asked_word, asked_with_id, asked_tree, bad_shape, row_in, unknown_cmd}
 
 shape_kept : (id : Option ℕ) (f : FieldName) → IsAsked (bad_shape id f)
 shape_kept id f = record { least = omega arith; most = omega arith; named = refl }
@@ -23,13 +21,13 @@ cmd_kept : (id : Option ℕ) (c : Result Cmd FieldName) → IsAsked (asked_cmd i
 cmd_kept id (Ok c) = tt
 cmd_kept id (Err f) = shape_kept id f
 
-kind_kept : (id : Option ℕ) (d : Data) (k : Option CmdKind) → IsAsked (asked_kind id d k)
-kind_kept id d None = unknown_kept id
-kind_kept id d (Some k) = cmd_kept id (cmd_in k d)
+row_kept : (id : Option ℕ) (row : Option (Result Cmd FieldName)) → IsAsked (asked_row id row)
+row_kept id None = unknown_kept id
+row_kept id (Some found) = cmd_kept id found
 
 word_kept : (id : Option ℕ) (d : Data) (word : Result (List ℕ) FieldName) → IsAsked (asked_word id d word)
 word_kept id d (Err f) = shape_kept id f
-word_kept id d (Ok word) = kind_kept id d (cmd_kind_of word)
+word_kept id d (Ok word) = row_kept id (row_in word d)
 
 id_kept : (d : Data) (id : Option (Option ℕ)) → IsAsked (asked_with_id d id)
 id_kept d None = shape_kept None field.Id

@@ -1,5 +1,5 @@
 -- What the bytes of a request ask: a command with its fields, or the first reason why they ask nothing.
-use Rattle.std.specs.Prelude.{◌≡◌, ℕ, ◌≤◌, ◌==◌, List, length, is_some, nat_lt, Option, Some, None, Result, Ok, Err, if◌then◌else◌, ⊤}
+use Rattle.std.specs.Prelude.{◌≡◌, ℕ, ◌≤◌, ◌==◌, List, length, is_some, codes, bytes_eq, nat_lt, Option, Some, None, Result, Ok, Err, if◌then◌else◌, ⊤}
 use Rattle.serde_json.specs.Data.{Data}
 use Rattle.serde_json.specs.Find.{as_object}
 use Rattle.symtab_json.specs.Entries.{told_count}
@@ -8,11 +8,10 @@ use Rattle.machine_core.specs.declared.request.Asked.{Asked}
 use Rattle.machine_core.specs.declared.request.Asked.TheVariants.{Good, Bad}
 use Rattle.machine_core.specs.declared.request.Cmd.{Cmd}
 use Rattle.machine_core.specs.declared.request.Cmd.TheVariants as cmd
-use Rattle.req_json.specs.declared.cmd_kind.CmdKind.{CmdKind}
-use Rattle.req_json.specs.declared.cmd_kind.CmdKind.TheVariants as kind
 use Rattle.req_json.specs.declared.field.FieldName.{FieldName}
 use Rattle.req_json.specs.declared.field.FieldName.TheVariants as field
-use Rattle.req_json.specs.Commands.{cmd_kind_of}
+use Rattle.req_json.specs.declared.field.FieldFault.{FieldFault}
+use Rattle.req_json.specs.declared.field.FieldFault.TheVariants as fault
 use Rattle.req_json.specs.Fields.{field_key, under, optional, required_count, required_text, optional_text}
 
 -- a field, and what goes on with it; a wrong field ends all
@@ -20,22 +19,27 @@ abbrev pub with_field : {A B : Type 0} → Result A FieldName → (A → Result 
 with_field (Err f) rest = Err f
 with_field (Ok x) rest = rest x
 
--- the table of commands: of each its fields in their order
-abbrev pub cmd_in : CmdKind → Data → Result Cmd FieldName
-cmd_in kind.Break d =
-    with_field (required_count field.Line d) (λ line. with_field (optional_text field.Instance d) (λ instance. with_field (optional_text field.Cond d) (λ cond. Ok (cmd.Break line instance cond))))
-cmd_in kind.Delete d = with_field (required_count field.Bp d) (λ bp. Ok (cmd.Delete bp))
-cmd_in kind.Continue d = Ok cmd.Continue
-cmd_in kind.Reverse d = Ok cmd.Reverse
-cmd_in kind.Step d = with_field (optional_text field.Instance d) (λ instance. Ok (cmd.Step instance))
-cmd_in kind.Back d = with_field (optional_text field.Instance d) (λ instance. Ok (cmd.Back instance))
-cmd_in kind.Pause d = Ok cmd.Pause
-cmd_in kind.Threads d = Ok cmd.Threads
-cmd_in kind.Values d = with_field (required_text field.Instance d) (λ instance. Ok (cmd.Values instance))
-cmd_in kind.Eval d = with_field (required_text field.Instance d) (λ instance. with_field (required_text field.Expr d) (λ expr. Ok (cmd.Eval instance expr)))
-cmd_in kind.Drop d = with_field (required_count field.K d) (λ k. Ok (cmd.Drop k))
-cmd_in kind.Status d = Ok cmd.Status
-cmd_in kind.Bye d = Ok cmd.Bye
+-- the table of commands: in each row the name of a command, and its fields in their order, each of its kind; no command has another name
+abbrev pub row_in : List ℕ → Data → Option (Result Cmd FieldName)
+row_in name d =
+    if bytes_eq name (codes "break") then Some (with_field (required_count field.Line d) (λ line. with_field (optional_text field.Instance d) (λ instance. with_field (optional_text field.Cond d) (λ cond. Ok (cmd.Break line instance cond))))) else
+    if bytes_eq name (codes "delete") then Some (with_field (required_count field.Bp d) (λ bp. Ok (cmd.Delete bp))) else
+    if bytes_eq name (codes "continue") then Some (Ok cmd.Continue) else
+    if bytes_eq name (codes "reverse") then Some (Ok cmd.Reverse) else
+    if bytes_eq name (codes "step") then Some (with_field (optional_text field.Instance d) (λ instance. Ok (cmd.Step instance))) else
+    if bytes_eq name (codes "back") then Some (with_field (optional_text field.Instance d) (λ instance. Ok (cmd.Back instance))) else
+    if bytes_eq name (codes "pause") then Some (Ok cmd.Pause) else
+    if bytes_eq name (codes "threads") then Some (Ok cmd.Threads) else
+    if bytes_eq name (codes "values") then Some (with_field (required_text field.Instance d) (λ instance. Ok (cmd.Values instance))) else
+    if bytes_eq name (codes "eval") then Some (with_field (required_text field.Instance d) (λ instance. with_field (required_text field.Expr d) (λ expr. Ok (cmd.Eval instance expr)))) else
+    if bytes_eq name (codes "drop") then Some (with_field (required_count field.K d) (λ k. Ok (cmd.Drop k))) else
+    if bytes_eq name (codes "status") then Some (Ok cmd.Status) else
+    if bytes_eq name (codes "bye") then Some (Ok cmd.Bye) else None
+
+-- the field of a row that is wrong, unless memory ran out
+abbrev pub RowIsWrong : Option (Result Cmd FieldName) → FieldFault → Type 0
+RowIsWrong row fault.NoMemory = ⊤
+RowIsWrong row (fault.Wrong f) = row ≡ Some (Err f)
 
 -- ---- the reasons: the text is too long, is no JSON, has a field that is wrong, has a command that is not known
 
@@ -60,13 +64,13 @@ abbrev pub asked_cmd : Option ℕ → Result Cmd FieldName → Asked
 asked_cmd id (Ok c) = Good (record { id = id; cmd = c })
 asked_cmd id (Err f) = bad_shape id f
 
-abbrev pub asked_kind : Option ℕ → Data → Option CmdKind → Asked
-asked_kind id d None = unknown_cmd id
-asked_kind id d (Some k) = asked_cmd id (cmd_in k d)
+abbrev pub asked_row : Option ℕ → Option (Result Cmd FieldName) → Asked
+asked_row id None = unknown_cmd id
+asked_row id (Some found) = asked_cmd id found
 
 abbrev pub asked_word : Option ℕ → Data → Result (List ℕ) FieldName → Asked
 asked_word id d (Err f) = bad_shape id f
-asked_word id d (Ok word) = asked_kind id d (cmd_kind_of word)
+asked_word id d (Ok word) = asked_row id (row_in word d)
 
 abbrev pub asked_with_id : Data → Option (Option ℕ) → Asked
 asked_with_id d None = bad_shape None field.Id

@@ -1,51 +1,52 @@
-//! The table of commands: of each its fields, in their order, with the kind of each.
+//! The table of commands: in each row the name of a command, and its fields in their order, each of its kind.
+//!
+//! A command more is a row more, and a field more an entry in its row.
 
-ghost use Rattle.std.specs.Prelude.{◌≡◌, Ok, IfOk, IfErr};
+ghost use Rattle.std.specs.Prelude.{◌≡◌, Ok, IfOk, IfErr, option_map};
 ghost use Rattle.serde_json.specs.View.{view};
-ghost use Rattle.req_json.specs.Fields.{IsWrong};
-ghost use Rattle.req_json.specs.Asked.{cmd_in};
+ghost use Rattle.req_json.specs.Asked.{RowIsWrong, row_in};
 
-use crate::cmd_kind::CmdKind;
 use crate::field::{FieldFault, FieldName, optional_text, required_count, required_text};
 use machine_core::Cmd;
 use serde_json::Value;
 use std::alloc::Global;
 
-/// A command with its fields, or the first of them that is wrong.
-pub(crate) fn cmd_in(alloc: Global, kind: CmdKind, value: &Value) -> Result<Cmd, FieldFault>
-    ensures ok { IfOk result (λ cmd. cmd_in kind (view value.now) ≡ Ok cmd) }
-    ensures err { IfErr result (IsWrong (cmd_in kind (view value.now))) }
+/// The command of this name with its fields, or the first of them that is wrong; None where no command has the name.
+pub(crate) fn row_in(alloc: Global, name: &str, value: &Value) -> Result<Option<Cmd>, FieldFault>
+    ensures ok { IfOk result (λ found. row_in name.now (view value.now) ≡ option_map Ok found) }
+    ensures err { IfErr result (RowIsWrong (row_in name.now (view value.now))) }
 {
-    match kind {
-        CmdKind::Break => Ok(Cmd::Break {
+    Ok(Some(match name {
+        "break" => Cmd::Break {
             line: required_count(value, FieldName::Line)?,
             instance: optional_text(alloc, value, FieldName::Instance)?,
             cond: optional_text(alloc, value, FieldName::Cond)?,
-        }),
-        CmdKind::Delete => Ok(Cmd::Delete {
+        },
+        "delete" => Cmd::Delete {
             bp: required_count(value, FieldName::Bp)?,
-        }),
-        CmdKind::Continue => Ok(Cmd::Continue),
-        CmdKind::Reverse => Ok(Cmd::Reverse),
-        CmdKind::Step => Ok(Cmd::Step {
+        },
+        "continue" => Cmd::Continue,
+        "reverse" => Cmd::Reverse,
+        "step" => Cmd::Step {
             instance: optional_text(alloc, value, FieldName::Instance)?,
-        }),
-        CmdKind::Back => Ok(Cmd::Back {
+        },
+        "back" => Cmd::Back {
             instance: optional_text(alloc, value, FieldName::Instance)?,
-        }),
-        CmdKind::Pause => Ok(Cmd::Pause),
-        CmdKind::Threads => Ok(Cmd::Threads),
-        CmdKind::Values => Ok(Cmd::Values {
+        },
+        "pause" => Cmd::Pause,
+        "threads" => Cmd::Threads,
+        "values" => Cmd::Values {
             instance: required_text(alloc, value, FieldName::Instance)?,
-        }),
-        CmdKind::Eval => Ok(Cmd::Eval {
+        },
+        "eval" => Cmd::Eval {
             instance: required_text(alloc, value, FieldName::Instance)?,
             expr: required_text(alloc, value, FieldName::Expr)?,
-        }),
-        CmdKind::Drop => Ok(Cmd::Drop {
+        },
+        "drop" => Cmd::Drop {
             k: required_count(value, FieldName::K)?,
-        }),
-        CmdKind::Status => Ok(Cmd::Status),
-        CmdKind::Bye => Ok(Cmd::Bye),
-    }
+        },
+        "status" => Cmd::Status,
+        "bye" => Cmd::Bye,
+        _ => return Ok(None),
+    }))
 }

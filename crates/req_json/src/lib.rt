@@ -1,11 +1,10 @@
 //! The texts of requests, replies and notices, in JSON.
 //!
 //! A request is read from any bytes: what it asks, or the first reason why it asks nothing. Replies and notices are written. What
-//! each text is stands in `specs/`: `Asked` has requests, over the table of commands in `Commands`, and `Replies` and `Notices` have
+//! each text is stands in `specs/`: `Asked` has requests and the table of commands, and `Replies` and `Notices` have
 //! the trees whose compact text is written.
 #![tactic(auto)]
 
-mod cmd_kind;
 mod cmd_row;
 mod field;
 mod laws;

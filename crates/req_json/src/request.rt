@@ -3,11 +3,9 @@
 ghost use Rattle.std.specs.Prelude.{◌≡◌, IfOk, Some, None, option_map};
 ghost use Rattle.serde_json.specs.View.{view};
 ghost use Rattle.symtab_json.specs.Told.{json_of};
-ghost use Rattle.req_json.specs.Commands.{cmd_kind_of};
-ghost use Rattle.req_json.specs.Asked.{IsAsked, asked, asked_kind, asked_tree, bad_text, bad_shape};
+ghost use Rattle.req_json.specs.Asked.{IsAsked, asked, asked_row, asked_tree, bad_text, bad_shape, row_in};
 
-use crate::cmd_kind::{CmdKind, cmd_kind_of};
-use crate::cmd_row::cmd_in;
+use crate::cmd_row::row_in;
 use crate::field::{FieldFault, FieldName, optional_whole};
 use machine_core::{Asked, BadText, Request, Utf8};
 use serde_json::Value;
@@ -40,29 +38,15 @@ fn bad_shape(alloc: Global, id: Option<u64>, field: FieldName) -> Result<Asked, 
     }))
 }
 
-/// What an object with this command asks.
-fn asked_kind(
-    alloc: Global,
-    id: Option<u64>,
-    value: &Value,
-    kind: CmdKind,
-) -> Result<Asked, NoMemory>
-    ensures { IfOk result (λ asked. asked ≡ asked_kind id (view value.now) (Some kind)) }
-{
-    match cmd_in(alloc, kind, value) {
-        Ok(cmd) => Ok(Asked::Good(Request { id, cmd })),
-        Err(FieldFault::Wrong(field)) => bad_shape(alloc, id, field),
-        Err(FieldFault::NoMemory) => Err(NoMemory),
-    }
-}
-
 /// What an object with this word for its command asks.
 fn asked_word(alloc: Global, id: Option<u64>, value: &Value, word: &str) -> Result<Asked, NoMemory>
-    ensures { IfOk result (λ asked. asked ≡ asked_kind id (view value.now) (cmd_kind_of word.now)) }
+    ensures { IfOk result (λ asked. asked ≡ asked_row id (row_in word.now (view value.now))) }
 {
-    match cmd_kind_of(word.as_bytes()) {
-        Some(kind) => asked_kind(alloc, id, value, kind),
-        None => Ok(bad_text(4, id)),
+    match row_in(alloc, word, value) {
+        Ok(Some(cmd)) => Ok(Asked::Good(Request { id, cmd })),
+        Ok(None) => Ok(bad_text(4, id)),
+        Err(FieldFault::Wrong(field)) => bad_shape(alloc, id, field),
+        Err(FieldFault::NoMemory) => Err(NoMemory),
     }
 }
 
