@@ -5,3 +5,7 @@ mod Sending
 mod Keeping
 mod Serving
 mod Sampled
+mod Ringing
+mod Naming
+mod Pumping
+mod Joining

@@ -1,5 +1,5 @@
 -- A connection while it is served: what was sent of the lines made, and what was done of what was read.
-use Rattle.std.specs.Prelude.{◌≡◌, ◌≢◌, ◌≤◌, ◌⊎◌, ℕ, Bool, true, false, List, [], ◌∷◌, ◌++◌, Option, None, Some, vec_capacity}
+use Rattle.std.specs.Prelude.{◌≡◌, ◌≢◌, ◌≤◌, ◌⊎◌, ℕ, Bool, true, false, List, [], ◌∷◌, ◌++◌, Option, None, Some, length, vec_capacity}
 use Rattle.io_edge.specs.Faults.{Rose}
 use Rattle.io_edge.specs.Taken.{Appends}
 use Rattle.link_edge.specs.Links.{Meaning, NoneFell}
@@ -41,9 +41,10 @@ pub data NoRequest {L : Type 0} (start now : Meaning) (d : Desk L) (polls : List
   none : Held start now d (polls ++ polled_without d.outlet.over) deeds [] made → NoRequest start now d polls deeds made
   starved : (text : List ℕ) → d.outlet.over ≡ Some NoMemory → Held start now d (polls ++ Some text ∷ []) deeds [] made → NoRequest start now d polls deeds made
 
--- everything that was read was applied, unless memory ran out; and there is room for a message that is not, while the link is in use
+-- everything that was read was applied, unless memory ran out; there is room for a message that is not, while the link is in use; and
+-- there is no more than one
 abbrev pub HasRoom : {L : Type 0} → Desk L → Type 0
-HasRoom d = (d.outlet.over ≢ Some NoMemory → d.unapplied.items ≡ []) × (d.outlet.over ≡ None → 1 ≤ vec_capacity d.unapplied)
+HasRoom d = (d.outlet.over ≢ Some NoMemory → d.unapplied.items ≡ []) × (d.outlet.over ≡ None → 1 ≤ vec_capacity d.unapplied) × (length d.unapplied.items ≤ 1)
 
 -- what sending leaves of why a link is over: it is not closed by it, and once it is over, it stays so, or memory runs out
 abbrev pub Lasts : Option Cause → Option Cause → Type 0

@@ -5,3 +5,8 @@ pub mod Journals
 pub mod Connections
 pub mod Desks
 pub mod Sample
+pub mod Rings
+pub mod Names
+pub mod Ends
+pub mod Pumps
+pub mod Sides

@@ -9,13 +9,15 @@ ghost use Rattle.dbg_core.specs.World.{world_of};
 ghost use Rattle.duo_run.specs.Connections.{Carries, Applies};
 
 use crate::desk::Desk;
-use crate::lockstep::serve_lockstep;
+use crate::duo::serve_duo;
 use crate::served::Served;
 use dbg_core::{Listeners, Session};
 use link_edge::{Gate, Link};
 use listen::Listener;
 use std::alloc::Global;
+use std::marker::Send;
 use std::sync::Wait;
+use std::thread::Threads;
 use symtab::Table;
 use text_core::NoMemory;
 use trace_core::Trace;
@@ -28,7 +30,7 @@ pub struct Ready<T> {
 }
 
 /// A connection for which there was no memory: its link is not polled.
-fn unserved<L: Link>(alloc: Global, link: L) -> Served<L>
+pub(crate) fn unserved<L: Link>(alloc: Global, link: L) -> Served<L>
     ensures carried { Carries (L.meaning link) (L.meaning result.link) result.journal.items result.unapplied.items result.sent.items result.unsent.items result.end }
     ensures applied { (w : World) (m : Machine) (read : Reader) → IsReader read → Applies read w m result.journal.items result.sent.items result.unsent.items result.end }
 {
@@ -37,11 +39,11 @@ fn unserved<L: Link>(alloc: Global, link: L) -> Served<L>
     desk.into_served()
 }
 
-/// Serves a link from a new session over a table and a trace, with these listeners, at most 65,536 of them. Where there is no memory
-/// for the listeners, it ends at once.
+/// Serves a link in two threads from a new session over a table and a trace, with these listeners, at most 65,536 of them. Where there
+/// is no memory for the listeners, it ends at once.
 ///
 /// Where the link is silent, it waits, and may never return.
-pub fn serve_connection<R: Wait, T: Trace + Drop, L: Link, G: Gate>(
+pub fn serve_connection<R: Threads + Wait + Sync, T: Trace + Send + Drop, L: Link, G: Gate>(
     rt: &R,
     alloc: Global,
     ready: Ready<T>,
@@ -58,7 +60,7 @@ pub fn serve_connection<R: Wait, T: Trace + Drop, L: Link, G: Gate>(
     match Listeners::new(alloc, listeners) {
         Ok(listeners) => {
             let session = Session::new(alloc, ready.table, ready.trace);
-            serve_lockstep(rt, alloc, session, link, gate, listeners)
+            serve_duo(rt, alloc, session, link, gate, listeners)
         }
         Err(NoMemory) => unserved(alloc, link),
     }

@@ -1,6 +1,6 @@
 //! A connection while it is served, but for its session.
 
-ghost use Rattle.std.specs.Prelude.{◌≡◌, ◌≢◌, ◌≤◌, ◌<◌, ◌++◌, [], ◌∷◌, List, ℕ, None, Some, true, false, IfOk, OnErr, OnOk, IfSome, IfNone, OnSome, ◌⊎◌, IsTrue, IsFalse, MatchOption, map, is_some, vec_len, vec_capacity, ◌||◌};
+ghost use Rattle.std.specs.Prelude.{◌≡◌, ◌≢◌, ◌≤◌, ◌<◌, ◌++◌, [], ◌∷◌, List, ℕ, None, Some, true, false, IfOk, OnErr, OnOk, IfSome, IfNone, OnSome, ◌⊎◌, IsTrue, IsFalse, MatchOption, map, is_some, length, vec_len, vec_capacity, ◌||◌};
 ghost use Rattle.link_edge.specs.Links.{Meaning};
 ghost use Rattle.machine_core.specs.Journal.{Line, Replied, Noticed, is_bye};
 ghost use Rattle.dbg_core.specs.Answering.{told_lines};
@@ -83,6 +83,7 @@ impl<L: Link> Desk<L> {
         requires room { (self.old.unapplied.items ≡ []) × (1 ≤ vec_capacity self.old.unapplied) }
         ensures keeps { (start : Meaning) (polls : List Poll) (deeds : List Deed) (made : List (List ℕ)) → Held start (L.meaning self.old.outlet.link) self.old polls deeds (text ∷ []) made → Held start (L.meaning self.new.outlet.link) self.new polls deeds [] made }
         ensures over { self.new.outlet.over ≡ Some Cause.NoMemory }
+        ensures few { length self.new.unapplied.items ≤ 1 }
         ensures left { self.new.left ≡ self.old.left }
         ensures link { L.meaning self.new.outlet.link ≡ L.meaning self.old.outlet.link }
     {

@@ -1,6 +1,6 @@
 //! A connection in lock step: one poll, its request, and one turn if the session runs, again and again.
 
-ghost use Rattle.std.specs.Prelude.{◌≡◌, List, Some, false, map, option_map};
+ghost use Rattle.std.specs.Prelude.{◌≡◌, ◌≤◌, List, Some, false, length, map, option_map};
 ghost use Rattle.listen.specs.Pairs.{Heard};
 ghost use Rattle.machine_core.specs.Reading.{Reader, IsReader};
 ghost use Rattle.machine_core.specs.Machine.{opening};
@@ -19,7 +19,7 @@ use trace_core::Trace;
 
 /// Serves a link from a new session in lock step. Each round polls once, applies a message, and makes one turn, behind the gate, if the
 /// session runs and its client has not left; each line is sent as it is made. It ends at an accepted `bye`, where the link is closed
-/// or broken, and where memory ran out; then come the last lines of the listeners that remain.
+/// or broken, and where memory ran out; then come the last lines of the listeners that remain. At most one message is not applied.
 ///
 /// Where the link is silent, it waits, and may never return.
 pub fn serve_lockstep<R: Wait, T: Trace + Drop, L: Link, G: Gate>(
@@ -38,6 +38,7 @@ pub fn serve_lockstep<R: Wait, T: Trace + Drop, L: Link, G: Gate>(
     ensures carried { Carries (L.meaning link) (L.meaning result.link) result.journal.items result.unapplied.items result.sent.items result.unsent.items result.end }
     ensures applied { (read : Reader) → IsReader read → (told : List Heard) → map (option_map (λ b. heard (b.vtable, b.value))) listeners.boxes.items ≡ map (λ h. Some h) told → Applies read (world_of session.table (T.samples session.trace)) (opening told) result.journal.items result.sent.items result.unsent.items result.end }
     ensures in_lock_step { (read : Reader) → IsReader read → (told : List Heard) → map (option_map (λ b. heard (b.vtable, b.value))) listeners.boxes.items ≡ map (λ h. Some h) told → InLockStep read (world_of session.table (T.samples session.trace)) (opening told) (L.meaning link) (L.meaning result.link) result.journal.items result.end }
+    ensures few { length result.unapplied.items ≤ 1 }
 {
     let mut session = session;
     let mut gate = gate;

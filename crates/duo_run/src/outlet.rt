@@ -92,6 +92,18 @@ impl<L: Link> Outlet<L> {
         }
     }
 
+    /// Delivers lines, in order.
+    pub(crate) fn deliver_all(&mut self, alloc: Global, texts: Vec<Listed<u8>>)
+        requires { (L.meaning self.old.link).shut ≡ false }
+        ensures keeps { (start : Meaning) (made : List (List ℕ)) → Delivered start (L.meaning self.old.link) self.old made → Delivered start (L.meaning self.new.link) self.new (made ++ texts.items) }
+        ensures received { (L.meaning self.new.link).received ≡ (L.meaning self.old.link).received }
+        ensures over { Lasts self.old.over self.new.over }
+    {
+        for text in texts {
+            self.deliver(alloc, text);
+        }
+    }
+
     /// Delivers a line, if there was memory for its text.
     pub(crate) fn tell(&mut self, alloc: Global, text: Result<Vec<u8>, NoMemory>)
         requires usable { (L.meaning self.old.link).shut ≡ false }

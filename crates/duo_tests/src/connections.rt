@@ -1,11 +1,13 @@
 //! Connections in lock step, over a small table and a trace in which its one node is always 1.
 
 ghost use Rattle.std.specs.Prelude.{◌≡◌, ◌≤◌, false, length, IfOk};
+ghost use Rattle.trace_world.specs.Fitting.{FitsTable};
 
 use crate::links::message;
 use crate::steady::{Steady, steady_trace};
-use duo_run::{Event, Ready, Served, serve_connection};
-use link_edge::{End, MemLink, OpenGate, Step};
+use dbg_core::{Listeners, Session};
+use duo_run::{Event, Ready, Served, serve_lockstep};
+use link_edge::{End, Link, MemLink, OpenGate, Step};
 use listen::{LineHits, Listener};
 use std::alloc::Global;
 use std::sync::Wait;
@@ -13,6 +15,7 @@ use std::test::Fail;
 use symtab::Table;
 use symtab_json::read_table;
 use text_core::{Listed, NoMemory};
+use trace_core::Trace;
 use trace_fits::fits;
 
 /// A symbol file of five statements; the third is on line 10.
@@ -128,8 +131,29 @@ fn listeners(alloc: Global, counts: bool) -> Result<Vec<Box<dyn Listener>>, NoMe
 }
 
 /// The table of the symbol file, if memory lasts.
-fn table(alloc: Global) -> Option<Table> {
+pub fn table(alloc: Global) -> Option<Table> {
     read_table(alloc, SYMBOLS.as_bytes()).ok()
+}
+
+/// Serves a link in lock step from a new session, if memory lasts.
+fn in_lock_step<R: Wait, T: Trace + Drop, L: Link>(
+    rt: &R,
+    alloc: Global,
+    ready: Ready<T>,
+    link: L,
+    listeners: Vec<Box<dyn Listener>>,
+) -> Option<Served<L>>
+    requires fits { FitsTable ready.table (T.samples ready.trace) }
+    requires usable { (L.meaning link).shut ≡ false }
+    requires few { length listeners.items ≤ 65536 }
+{
+    match Listeners::new(alloc, listeners) {
+        Ok(listeners) => {
+            let session = Session::new(alloc, ready.table, ready.trace);
+            Some(serve_lockstep(rt, alloc, session, link, OpenGate, listeners))
+        }
+        Err(NoMemory) => None,
+    }
 }
 
 /// Serves the connection of a case, if the trace fits the table and memory lasts.
@@ -142,11 +166,11 @@ fn serve<R: Wait>(rt: &R, alloc: Global, case: &Case) -> Option<Served<MemLink>>
         return None;
     }
     let ready = Ready::<Steady> { table, trace };
-    Some(serve_connection(rt, alloc, ready, link, OpenGate, listeners))
+    in_lock_step(rt, alloc, ready, link, listeners)
 }
 
 /// Whether the lines are these.
-fn are(lines: &[Listed<u8>], want: &[&str]) -> bool {
+pub fn are(lines: &[Listed<u8>], want: &[&str]) -> bool {
     lines.len() == want.len()
         && lines
             .iter()

@@ -6,6 +6,12 @@
 #[cfg(test)]
 mod connections;
 #[cfg(test)]
+mod late;
+#[cfg(test)]
 mod links;
+#[cfg(test)]
+mod meeting;
+#[cfg(test)]
+mod running;
 #[cfg(test)]
 mod steady;
