@@ -1,0 +1,6 @@
+pub mod Visits
+pub mod Over
+pub mod Readied
+pub mod Members
+pub mod Attending
+pub mod Service
