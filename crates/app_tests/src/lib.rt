@@ -1,4 +1,4 @@
-//! Tests of the program over files and a sink in memory: what the built program cannot show.
+//! Tests of the program over files, a sink, a door and links in memory: what the built program cannot show.
 //!
 //! Its texts and statuses are cases of `outside/`, over real files. Here stand the files that are asked for, reads and puts that
 //! fail, and how much was taken by then. What is wanted was worked out from what the commands are to do.
@@ -6,3 +6,5 @@
 
 #[cfg(test)]
 mod runs;
+#[cfg(test)]
+mod services;

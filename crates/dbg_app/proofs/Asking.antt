@@ -1,5 +1,5 @@
 -- A command asks for one answer, or for the loops of one design; and the text that goes with what was judged is that of each answer.
-use Rattle.std.proofs.Common.{◌≡◌, ℕ, ◌<◌, arith, List, Option, Some, None, Result, Ok, Err, length, refl, sym, ◌∙◌, ap, subst, inl, inr}
+use Rattle.std.proofs.Common.{◌≡◌, ℕ, ◌<◌, arith, List, [], Option, Some, None, Result, Ok, Err, length, refl, sym, ◌∙◌, ap, subst, inl, inr}
 use Rattle.io_edge.specs.Taken.{Appends}
 use Rattle.bv_core.specs.Value.{Bits}
 use Rattle.design_core.specs.declared.Ports.{Ports}
@@ -23,6 +23,8 @@ use Rattle.batch_run.specs.Texts.{requests_fault, most_requests}
 use Rattle.dbg_app.specs.Answers.{Answer, Contents, Held, Holds, HoldsDesign, HoldsRows, HoldsRequests, Asks, NoDesign, NoStimulus, NoRequests, Accepted, RefusesDesign, RefusesStimulus, RefusesRequests, ShowsText, text_of}
 use Rattle.dbg_app.specs.Judged.{Judges, Work, HoldsWork, IsWorkText, TakesText, alone, over, session, held_by, judged_status}
 use Rattle.dbg_app.specs.Outcome.{TakesAnswer}
+use Rattle.serve_net.specs.Over.{Over}
+use Rattle.dbg_app.specs.Serving.{HoldsOver}
 
 some_one : {A : Type 0} (o : Option A) (x y : A) → o ≡ Some x → o ≡ Some y → x ≡ y
 some_one o x y p q = let both : Some x ≡ Some y = sym p ∙ q in cc
@@ -214,3 +216,11 @@ answer_taken heard files command judged.NoRequests old new j t asked asks = requ
 answer_taken heard files command (judged.Alone task mode a) old new j t asked asks = accepted_taken heard files command (alone task mode a) old new j t.taken asked asks
 answer_taken heard files command (judged.Over task mode a stim) old new j t asked asks = accepted_taken heard files command (over task mode a stim) old new j t.taken asked asks
 answer_taken heard files command (judged.Session mode a stim requests) old new j t asked asks = accepted_taken heard files command (session mode a stim requests.items) old new j t.taken asked asks
+
+-- where the files hold what a service shows, and there are no requests, each answer that is asked for has the status 0
+pub offer_status : (files : Contents) (command : Command) (over : Over) → command.requests ≡ None → HoldsOver files command over → (asked : Answer) → Asks [] files command asked → asked.status ≡ 0
+offer_status files command over bare h asked (NoDesign s) = absurd (no_design files command asked s over.design h.design)
+offer_status files command over bare h asked (NoStimulus s) =
+    absurd (ok_err over.rows s.fault (one_saying files command over.design s.design (Ok over.rows) (Err s.fault) (record { design = h.design; ports = h.ports; are = h.are; is = h.rows }) (refusal_said files command asked s)))
+offer_status files command over bare h asked (NoRequests s) = absurd (taken_refused files command.requests [] (rw bare refl) s.refused)
+offer_status files command over bare h asked (Accepted s) = answer_status asked _ s.is

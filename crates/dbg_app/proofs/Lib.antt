@@ -4,3 +4,4 @@ mod Writing
 mod Asking
 mod Judging
 mod Given
+pub mod Offering

@@ -1,13 +1,12 @@
 -- What words ask: of a design, of the files of another simulator, or of the chain of the demo; and how a run ends by that.
-use Rattle.std.specs.Prelude.{◌≡◌, ℕ, ◌==◌, ◌||◌, ◌&&◌, not, Bool, List, [], ◌∷◌, length, Option, Some, None, option_map, option_and_then, codes, bytes_eq, if◌then◌else◌, nat_le, ⊤}
-use Rattle.std.specs.List.{prefix_len}
-use Rattle.text_core.specs.Digits.{is_digit_of, number_of}
+use Rattle.std.specs.Prelude.{ℕ, ◌==◌, ◌||◌, ◌&&◌, not, Bool, List, [], ◌∷◌, Option, Some, None, option_map, option_and_then, codes, bytes_eq, if◌then◌else◌, ⊤}
 use Rattle.listen.specs.Pairs.{Heard}
 use Rattle.replay_run.specs.Asked as replay
 use Rattle.replay_run.specs.Asked.{Names}
 use Rattle.world_core.specs.declared.mode.Mode.{Mode}
 use Rattle.demo_run.specs.Asked as demo
 use Rattle.demo_run.specs.Asked.{Given}
+use Rattle.dbg_app.specs.Number.{number_to}
 use Rattle.dbg_app.specs.Command.{Command, command_of, mode_of, names_of}
 use Rattle.dbg_app.specs.Answers.{Contents}
 use Rattle.dbg_app.specs.Outcome as design
@@ -24,13 +23,9 @@ replay_of (word ∷ symbols ∷ dump ∷ scope ∷ requests ∷ []) =
     Some (record { symbols = symbols; dump = dump; scope = scope; requests = requests }) else None
 replay_of words = None
 
--- decimal digits of a number from 1 to 4,000
-abbrev pub is_cells : List ℕ → Bool
-is_cells digits =
-    not (bytes_eq digits []) && prefix_len (is_digit_of 10) digits == length digits && nat_le 1 (number_of 10 digits) && nat_le (number_of 10 digits) 4000
-
+-- how many cells, from 1 to 4,000
 abbrev pub cells_of : List ℕ → Option ℕ
-cells_of digits = if is_cells digits then Some (number_of 10 digits) else None
+cells_of digits = number_to 4000 digits
 
 -- the words `demo MODE N REQ`, the last of which is not empty
 abbrev pub demo_with : List ℕ → Mode → ℕ → Option Given

@@ -3,5 +3,8 @@ pub mod Asked
 pub mod Answers
 pub mod Judged
 pub mod Outcome
+pub mod Number
 pub mod Call
+pub mod Offer
+pub mod Serving
 pub mod Ends

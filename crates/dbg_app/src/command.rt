@@ -1,6 +1,6 @@
 //! The commands, by their words.
 
-ghost use Rattle.std.specs.Prelude.{◌≡◌, ◌<◌, ◌≤◌, ◌&&◌, length, drop};
+ghost use Rattle.std.specs.Prelude.{◌≡◌, ◌<◌, ◌≤◌, ◌&&◌, IfSome, length, drop};
 ghost use Rattle.std.specs.Option.{option_map};
 ghost use Rattle.std.specs.List.{list_all};
 ghost use Rattle.dbg_app.specs.Command.{command_of, command_with as the_command_with, form_of as the_form_of, has_file, is_argument, mode_of, by_requests as the_by_requests, of_design as the_of_design, over_rows as the_over_rows};
@@ -82,7 +82,7 @@ fn has_files(task: Task<'_>) -> bool
 }
 
 /// The command of these words, if its files, its top module and the arguments of it may stand in one.
-fn command_with<'a>(
+pub(crate) fn command_with<'a>(
     task: Task<'a>,
     mode: Mode,
     source: &'a str,
@@ -91,7 +91,8 @@ fn command_with<'a>(
     first: usize,
 ) -> Option<Command<'a>>
     requires { first ≤ length words.now }
-    ensures { option_map command_as result ≡ the_command_with (task_as task.entry) source.now (stimulus_as task.entry) (requests_as task.entry) top.now (drop first words.now) mode }
+    ensures task { IfSome result (λ command. command.task ≡ task.entry) }
+    ensures command { option_map command_as result ≡ the_command_with (task_as task.entry) source.now (stimulus_as task.entry) (requests_as task.entry) top.now (drop first words.now) mode }
 {
     if source.is_empty() || !has_files(task) || !is_name(top.as_bytes()) {
         return None;

@@ -59,7 +59,7 @@ impl Judged {
 }
 
 /// Reads and judges the source of a command.
-fn judge_source<F: Files>(
+pub(crate) fn judge_source<F: Files>(
     alloc: Global,
     command: &Command<'_>,
     files: &mut F,

@@ -6,10 +6,17 @@ mod command;
 mod demo;
 mod halt;
 mod judge;
+mod number;
+mod offer;
 mod program;
 mod replay;
 mod requests;
+mod serving;
+mod shown;
 mod write;
 
 use halt::Halt;
+pub use offer::address_of;
 pub use program::{Ended, run};
+pub use serve_net::Many;
+pub use serving::serve;

@@ -156,7 +156,7 @@ fn run_design<F: Files, S: Sink>(
 }
 
 /// Writes the text that goes with what was judged.
-fn end<S: Sink>(
+pub(crate) fn end<S: Sink>(
     alloc: Global,
     judged: Judged,
     listeners: Vec<Box<dyn Listener>>,

@@ -1,18 +1,23 @@
 //! The program `hgdb`.
 //!
-//! It makes the words of the command line, the adapters of the system and the listeners of a session, calls `dbg_app::run`, and ends
-//! with its status.
-//! Standard output has what `run` writes; a hint after a usage fault goes to standard error.
+//! It makes the words of the command line, the adapters of the system and the listeners of the sessions, calls `dbg_app::serve` where
+//! the words are a service and `dbg_app::run` otherwise, and ends with the status.
+//! Standard output has what these write; a hint after a usage fault goes to standard error.
 #![tactic(auto)]
 
-use dbg_app::{Ended, run};
+use dbg_app::{address_of, run, serve};
 use io_edge::{Sink, StdFiles, StdSink, Words};
 use listen::{CycleHits, LineHits, Listener};
 use std::io::ErrorKind;
+use std::marker::Send;
+use std::net::Net;
 use std::process::ExitCode;
 use std::rt::{Env, Files};
+use std::sync::Wait;
+use std::thread::Threads;
 use std::{env, io};
 use text_core::NoMemory;
+use ws_link::TcpDoor;
 
 const VERSION: &str = "hgdb 0.1.0\n";
 
@@ -34,6 +39,8 @@ Usage:
           print what a session over a simulator's trace answers to requests
   hgdb demo MODE N REQ
           print how many stops a session over a chain of N cells reaches
+  hgdb serve MODE SRC STIM ADDR COUNT TOP [NAME=N]..
+          serve sessions over the design's run to clients that attach
   hgdb --help
           print this text
   hgdb --version
@@ -51,6 +58,8 @@ Usage:
   VCD     a value change dump of the same design
   SCOPE   the names of the scopes around its module there and its own,
           joined by dots
+  ADDR    the address of the server, HOST:PORT, as 127.0.0.1:4711
+  COUNT   how many clients it serves, one after the other, 1 to 16
 
 Exit status:
   0  all was printed                   6  the requests are too long
@@ -96,16 +105,40 @@ fn print_text(rt: &impl Print, text: &str) -> u8 {
     }
 }
 
-/// Does what the words say over the system's files and its output. A session has two listeners of its stops: the first counts them by
-/// line, the second by cycle. Fails only where there is no memory for these.
-fn run_over<R: Files + Print + AllocGlobal>(rt: &R, words: &Words) -> Result<Ended, NoMemory> {
+/// Does what the words say over the system's files and its output, and gives the status. A session has two listeners of its stops: the
+/// first counts them by line, the second by cycle. Fails only where there is no memory for these.
+fn run_over<R: Files + Print + AllocGlobal>(rt: &R, words: &Words) -> Result<u8, NoMemory> {
     let alloc = rt.alloc();
     let mut listeners: Vec<Box<dyn Listener>> = Vec::new(alloc);
     listeners.push(Box::new(alloc, LineHits::new(alloc)?)?)?;
     listeners.push(Box::new(alloc, CycleHits::new(alloc)?)?)?;
     let mut files = StdFiles::new(rt);
     let mut out = StdSink::new(rt);
-    Ok(run(alloc, words, &mut files, &mut out, listeners))
+    Ok(run(alloc, words, &mut files, &mut out, listeners).status)
+}
+
+/// Serves what the words say over the system's files, its output and its network, and gives the status. There are as many sets of the two
+/// listeners as a service has clients at most. Fails only where there is no memory for the address and the listeners.
+fn serve_over<R: Files + Print + AllocGlobal + Net + Threads + Wait + Sync>(
+    rt: &R,
+    words: &Words,
+    address: &str,
+) -> Result<u8, NoMemory>
+where
+    R::Stream: Send,
+{
+    let alloc = rt.alloc();
+    let mut sets: Vec<Vec<Box<dyn Listener>>> = Vec::new(alloc);
+    for _ in 0..16 {
+        let mut set: Vec<Box<dyn Listener>> = Vec::new(alloc);
+        set.push(Box::new(alloc, LineHits::new(alloc)?)?)?;
+        set.push(Box::new(alloc, CycleHits::new(alloc)?)?)?;
+        sets.push(set)?;
+    }
+    let mut door = TcpDoor::new(rt, alloc, address)?;
+    let mut files = StdFiles::new(rt);
+    let mut out = StdSink::new(rt);
+    Ok(serve(rt, alloc, words, &mut files, &mut out, &mut door, sets).status)
 }
 
 fn main(rt: HostRuntime) -> io::Result<ExitCode> {
@@ -115,12 +148,16 @@ fn main(rt: HostRuntime) -> io::Result<ExitCode> {
     if let Some(text) = text_asked_for(&words) {
         return Ok(ExitCode::from(print_text(&rt, text)));
     }
-    let Ok(ended) = run_over(&rt, &words) else {
+    let ended = match address_of(&words) {
+        Some(address) => serve_over(&rt, &words, address),
+        None => run_over(&rt, &words),
+    };
+    let Ok(status) = ended else {
         return Ok(ExitCode::from(9));
     };
-    if ended.status == 2 {
+    if status == 2 {
         // A standard error that fails changes nothing.
         let _ = eprintln!(rt; "hgdb: `hgdb --help` tells the commands");
     }
-    Ok(ExitCode::from(ended.status))
+    Ok(ExitCode::from(status))
 }

@@ -1,0 +1,128 @@
+-- What was judged of the files of a service is what they hold.
+use Rattle.std.proofs.Common.{◌≡◌, ◌<◌, ◌⊎◌, inl, inr, ◌||◌, ◌==◌, ℕ, List, [], Option, Some, None, Ok, length, refl, sym, ◌∙◌, subst, IfSome, IsTrue}
+use Rattle.bv_core.specs.Value.{Bits}
+use Rattle.design_core.specs.DesignView.{design_of}
+use Rattle.trim_laws.proofs.Orders.{one_length}
+use Rattle.stim_text.specs.Rows.{rows_of}
+use Rattle.design_judge.specs.Accepting.{IsKept, accepting_of}
+use Rattle.serve_net.specs.declared.service.Service.{Service}
+use Rattle.serve_net.specs.Over.{Over, Shows}
+use Rattle.dbg_app.specs.Command.{Command}
+use Rattle.dbg_app.specs.Answers.{Contents, HoldsDesign}
+use Rattle.dbg_app.specs.Offer.{Offer, offer_of, IfOffered}
+use Rattle.listen.specs.Pairs.{Heard}
+use Rattle.link_edge.specs.Links.{Meaning}
+use Rattle.duo_run.specs.declared.served.Served.{Served}
+use Rattle.serve_net.specs.Service.{ServesAll, ServesSome, is_end_status}
+use Rattle.dbg_app.specs.Answers.{IfAsked}
+use Rattle.dbg_app.specs.Judged.{Judges, HasText, TakesText, TakesTextFront, judged_status}
+use Rattle.dbg_app.specs.Outcome.{is_status, EndsAsAsked, TakesSome, Completes}
+use Rattle.dbg_app.specs.declared.judge.Judged.{Judged}
+use Rattle.dbg_app.specs.declared.shown.Shown.TheVariants as shown
+use Rattle.dbg_app.specs.Serving.{HoldsOver, ServesOffer, ServesFront, CompletesOffer, JudgesOffer}
+use Rattle.dbg_app.proofs.Asking.{offer_status}
+use Rattle.dbg_app.proofs.Ending.{either, same_number, done_taken, front_taken, written_completes}
+
+-- a service whose stimulus was accepted shows its rows
+pub shown_over : (service : Service) → IsKept (accepting_of service.accepted) → (rows : List (List Bits)) × (rows_of service.accepted.ports service.stimulus.items ≡ Ok rows) → (over : Over) × Shows service over
+shown_over service kept rows =
+    (record { design = design_of service.accepted.design; driven = length service.accepted.order; mode = service.mode; rows = rows.0 }, record { kept = kept; rows = rows.1; design = refl; driven = refl; mode = refl })
+
+-- it is what the files hold, where they hold its design
+held : (files : Contents) (command : Command) (name : List ℕ) (service : Service) → service.mode ≡ command.mode → command.stimulus ≡ Some name → files name ≡ Some service.stimulus.items → HoldsDesign files command (design_of service.accepted.design)
+    → (over : Over) → Shows service over → HoldsOver files command over
+held files command name service mode named found design over shows =
+    let same : record { design = design_of service.accepted.design; driven = length service.accepted.order; mode = service.mode; rows = over.rows } ≡ over = λ k. record { design = sym shows.design k; driven = sym shows.driven k; mode = sym shows.mode k; rows = over.rows } in
+    subst (HoldsOver files command) same (record {
+      design = design;
+      driven = one_length (design_of service.accepted.design) service.accepted.order design.accepted.1.pairs shows.kept.order design.accepted.1.order;
+      ports = service.accepted.ports;
+      are = shows.kept.ports;
+      rows = rw named (service.stimulus.items, found, shows.rows);
+      mode = mode;
+    })
+
+pub held_over : (told : Option Contents) (command : Command) (name : List ℕ) (service : Service) → service.mode ≡ command.mode → command.stimulus ≡ Some name → IfSome told (λ files. files name ≡ Some service.stimulus.items)
+    → IfSome told (λ files. HoldsDesign files command (design_of service.accepted.design) → (over : Over) → Shows service over → HoldsOver files command over)
+held_over None command name service mode named found = tt
+held_over (Some files) command name service mode named found = λ design over shows. held files command name service mode named found design over shows
+
+-- a fact of the files and of what the words offer
+if_offered : (told : Option Contents) (offer : Offer) (P : Contents → Offer → Type 0) → IfSome told (λ files. P files offer) → IfOffered told (Some offer) P
+if_offered None offer P h = tt
+if_offered (Some files) offer P h = h
+
+pub offered_is : (told : Option Contents) (words : List (List ℕ)) (offer : Offer) (P : Contents → Offer → Type 0) → Some offer ≡ offer_of words → IfSome told (λ files. P files offer) → IfOffered told (offer_of words) P
+offered_is told words offer P e h = subst (λ (o : Option Offer). IfOffered told o P) e (if_offered told offer P h)
+
+-- ---- what was served
+
+module _ {L : Type 0} (meant : L → Meaning) (told : Option Contents) (offer : Offer) (sets : List (List Heard)) (l0 l1 : Option ℕ) (f0 f1 : ℕ) (served : List (Served L)) (old new : Option (List ℕ)) (service : Service)
+    (shows : (over : Over) × Shows service over) (judged : IfSome told (λ files. JudgesOffer files offer.files (shown.Accepted service))) where
+  all_of : (told : Option Contents) → IfSome told (λ files. JudgesOffer files offer.files (shown.Accepted service)) → ((over : Over) → Shows service over → ServesAll meant over sets offer.count l0 l1 f0 f1 served old new)
+      → IfSome told (λ files. ServesOffer meant files offer sets l0 l1 f0 f1 served old new)
+  all_of None j all = tt
+  all_of (Some files) j all = record { over = shows.0; holds = j shows.0 shows.1; all = all shows.0 shows.1 }
+
+  pub serves_offer : ((over : Over) → Shows service over → ServesAll meant over sets offer.count l0 l1 f0 f1 served old new) → IfSome told (λ files. ServesOffer meant files offer sets l0 l1 f0 f1 served old new)
+  serves_offer all = all_of told judged all
+
+  some_of : (told : Option Contents) (status : ℕ) → IfSome told (λ files. JudgesOffer files offer.files (shown.Accepted service)) → ((over : Over) → Shows service over → ServesSome meant over sets offer.count l0 l1 f0 f1 served old new status)
+      → IfSome told (λ files. ServesFront meant files offer sets l0 l1 f0 f1 served old new status)
+  some_of None status j some = tt
+  some_of (Some files) status j some = inr (record { over = shows.0; holds = j shows.0 shows.1; some = some shows.0 shows.1 })
+
+  pub serves_part : (status : ℕ) → ((over : Over) → Shows service over → ServesSome meant over sets offer.count l0 l1 f0 f1 served old new status) → IfSome told (λ files. ServesFront meant files offer sets l0 l1 f0 f1 served old new status)
+  serves_part status some = some_of told status judged some
+
+end_status_is : (status : ℕ) → IsTrue (is_end_status status) → (status ≡ 0) ⊎ ((status ≡ 8) ⊎ (status ≡ 9))
+end_status_is status known = elim (either (status == 0 || status == 8) (status == 9) known) [
+  | inl first ↦ elim (either (status == 0) (status == 8) first) [
+    | inl is ↦ inl (same_number status 0 is)
+    | inr is ↦ inr (inl (same_number status 8 is))
+  ]
+  | inr is ↦ inr (inr (same_number status 9 is))
+]
+
+module _ (offer : Offer) (status : ℕ) (old new : Option (List ℕ)) (read_rose write_rose : Type 0) where
+  -- what was accepted was served
+  pub served_completes : (told : Option Contents) (service : Service) → offer.files.requests ≡ None → ((over : Over) × Shows service over) → IfSome told (λ files. JudgesOffer files offer.files (shown.Accepted service)) → IsTrue (is_end_status status) → (status ≡ 8 → write_rose)
+      → IfSome told (λ files. CompletesOffer files offer status old new read_rose write_rose)
+  served_completes None service bare shows j known write = tt
+  served_completes (Some files) service bare shows j known write = λ answer asks no_read no_write.
+      elim (end_status_is status known) [
+        | inl is ↦ inl (is ∙ sym (offer_status files offer.files shows.0 bare (j shows.0 shows.1) answer asks), λ other. absurd (other is))
+        | inr (inl is) ↦ absurd (no_write (write is))
+        | inr (inr is) ↦ inr is
+      ]
+
+  -- or the line of a refusal was written
+  completes : (told : Option Contents) → IfAsked told (Some offer.files) (λ files command. Completes [] files command status old new read_rose write_rose) → IfSome told (λ files. CompletesOffer files offer status old new read_rose write_rose)
+  completes None h = tt
+  completes (Some files) h = λ answer asks no_read no_write. elim (h answer asks no_read no_write) [
+    | inl found ↦ inl (found.0, λ other. found.1)
+    | inr starved ↦ inr starved
+  ]
+
+  module _ (told : Option Contents) (judged : Judged) (j : IfSome told (λ files. Judges files offer.files judged)) where
+    as_asked : (told : Option Contents) → IfSome told (λ files. Judges files offer.files judged) → IfAsked told (Some offer.files) (λ files command. Judges files command judged)
+    as_asked None h = tt
+    as_asked (Some files) h = h
+
+    pub refused_completes : IsTrue (is_status status) → (status < 7 → status ≡ judged_status judged) → (status < 7 → TakesText [] judged old new) → (status ≡ 7 → ⊥) → (status ≡ 8 → write_rose) → IfSome told (λ files. CompletesOffer files offer status old new read_rose write_rose)
+    refused_completes known is early seven write = completes told (written_completes [] told (Some offer.files) judged status old new read_rose write_rose known (as_asked told j) is early seven write)
+
+    ends : (told : Option Contents) → IfAsked told (Some offer.files) (λ files command. EndsAsAsked [] files command status old new) → IfSome told (λ files. EndsAsAsked [] files offer.files status old new)
+    ends None h = tt
+    ends (Some files) h = h
+
+    pub refused_ends : HasText judged → status ≡ judged_status judged → TakesText [] judged old new → IfSome told (λ files. EndsAsAsked [] files offer.files status old new)
+    refused_ends text is taken = ends told (done_taken [] told (Some offer.files) judged status old new (as_asked told j) text is taken)
+
+    module _ {L : Type 0} (meant : L → Meaning) (sets : List (List Heard)) (l0 l1 : Option ℕ) (f0 f1 : ℕ) (served : List (Served L)) (none : served ≡ []) where
+      fronts : (told : Option Contents) → IfAsked told (Some offer.files) (λ files command. TakesSome [] files command old new) → IfSome told (λ files. ServesFront meant files offer sets l0 l1 f0 f1 served old new status)
+      fronts None h = tt
+      fronts (Some files) h = inl (record { none = none; taken = h })
+
+      pub refused_front : HasText judged → TakesTextFront [] judged old new → IfSome told (λ files. ServesFront meant files offer sets l0 l1 f0 f1 served old new status)
+      refused_front text taken = fronts told (front_taken [] told (Some offer.files) judged old new (as_asked told j) text taken)

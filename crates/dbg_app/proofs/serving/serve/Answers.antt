@@ -1,0 +1,60 @@
+use Rattle.std.proofs.Common.{◌<◌, [], refl, lit<}
+use Rattle.dbg_app.specs.Serving.{offer_as}
+use Rattle.dbg_app.specs.declared.judge.Judged.TheVariants.{NoCommand}
+use Rattle.dbg_app.proofs.Ending.{usage_taken, design_line_taken, stimulus_line_taken}
+use Rattle.dbg_app.proofs.Offering.{offered_is, serves_offer, serves_part, served_completes, refused_completes, refused_ends, refused_front}
+use Rattle.dbg_app.proofs.serving.serve.Goals as goal
+
+pub returns-in_default-clause-usage_front : goal.returns-in_default-clause-usage_front
+returns-in_default-clause-usage_front g c = λ none.
+    let r = c.refuse.ensures in
+    usage_taken [] c.refuse.result.status NoCommand _ _ r.statuses refl r.done r.no_read r.front
+
+-- ---- what was accepted
+
+pub returns-in-Ok-Accepted-clause-served : goal.returns-in-Ok-Accepted-clause-served
+returns-in-Ok-Accepted-clause-served g c = λ done.
+    offered_is (g.F.Files.told c.args.files.now) c.args.words.now (offer_as c.in-Some.offer) _ c.in-Some.ensures.offer
+    (serves_offer _ (g.F.Files.told c.args.files.now) (offer_as c.in-Some.offer) _ _ _ _ _ _ _ _ c.in-Ok-Accepted.service (rw c.in-Ok-Accepted.field-0-is at c.in-Ok-Accepted.ensures.shown) (rw c.in-Ok-Accepted.field-0-is at c.in-Ok-Accepted.ensures.judged) (c.serve_links.ensures.all done))
+
+pub returns-in-Ok-Accepted-clause-complete : goal.returns-in-Ok-Accepted-clause-complete
+returns-in-Ok-Accepted-clause-complete g c =
+    offered_is (g.F.Files.told c.args.files.now) c.args.words.now (offer_as c.in-Some.offer) _ c.in-Some.ensures.offer
+    (served_completes (offer_as c.in-Some.offer) c.serve_links.result.status _ _ _ _ (g.F.Files.told c.args.files.now) c.in-Ok-Accepted.service c.in-Some.ensures.requests (rw c.in-Ok-Accepted.field-0-is at c.in-Ok-Accepted.ensures.shown) (rw c.in-Ok-Accepted.field-0-is at c.in-Ok-Accepted.ensures.judged) c.serve_links.ensures.statuses c.serve_links.ensures.write)
+
+pub returns-in-Ok-Accepted-clause-front : goal.returns-in-Ok-Accepted-clause-front
+returns-in-Ok-Accepted-clause-front g c = λ late.
+    offered_is (g.F.Files.told c.args.files.now) c.args.words.now (offer_as c.in-Some.offer) _ c.in-Some.ensures.offer
+    (serves_part _ (g.F.Files.told c.args.files.now) (offer_as c.in-Some.offer) _ _ _ _ _ _ _ _ c.in-Ok-Accepted.service (rw c.in-Ok-Accepted.field-0-is at c.in-Ok-Accepted.ensures.shown) (rw c.in-Ok-Accepted.field-0-is at c.in-Ok-Accepted.ensures.judged) c.serve_links.result.status (c.serve_links.ensures.some late))
+
+-- ---- what was refused
+
+pub returns-in-Ok-Refused-clause-design_line : goal.returns-in-Ok-Refused-clause-design_line
+returns-in-Ok-Refused-clause-design_line g c = λ three.
+    let r = c.refuse-in-Ok-Refused.ensures in
+    let early : c.refuse-in-Ok-Refused.result.status < 7 = rw three (lit< tt) in
+    design_line_taken [] c.refuse-in-Ok-Refused.result.status c.in-Ok-Refused.judged _ _ three (r.status early) (rw c.in-Ok-Refused.field-0-is at c.in-Ok-Refused.ensures.shown).text (r.done early)
+
+pub returns-in-Ok-Refused-clause-stimulus_line : goal.returns-in-Ok-Refused-clause-stimulus_line
+returns-in-Ok-Refused-clause-stimulus_line g c = λ four.
+    let r = c.refuse-in-Ok-Refused.ensures in
+    let early : c.refuse-in-Ok-Refused.result.status < 7 = rw four (lit< tt) in
+    stimulus_line_taken [] c.refuse-in-Ok-Refused.result.status c.in-Ok-Refused.judged _ _ four (r.status early) (rw c.in-Ok-Refused.field-0-is at c.in-Ok-Refused.ensures.shown).text (r.done early)
+
+pub returns-in-Ok-Refused-clause-refused : goal.returns-in-Ok-Refused-clause-refused
+returns-in-Ok-Refused-clause-refused g c = λ other early.
+    let r = c.refuse-in-Ok-Refused.ensures in
+    offered_is (g.F.Files.told c.args.files.now) c.args.words.now (offer_as c.in-Some.offer) _ c.in-Some.ensures.offer
+    (refused_ends (offer_as c.in-Some.offer) c.refuse-in-Ok-Refused.result.status _ _ ⊥ ⊥ (g.F.Files.told c.args.files.now) c.in-Ok-Refused.judged (rw c.in-Ok-Refused.field-0-is at c.in-Ok-Refused.ensures.judged) (rw c.in-Ok-Refused.field-0-is at c.in-Ok-Refused.ensures.shown).text (r.status early) (r.done early))
+
+pub returns-in-Ok-Refused-clause-complete : goal.returns-in-Ok-Refused-clause-complete
+returns-in-Ok-Refused-clause-complete g c =
+    let r = c.refuse-in-Ok-Refused.ensures in
+    offered_is (g.F.Files.told c.args.files.now) c.args.words.now (offer_as c.in-Some.offer) _ c.in-Some.ensures.offer
+    (refused_completes (offer_as c.in-Some.offer) c.refuse-in-Ok-Refused.result.status _ _ _ _ (g.F.Files.told c.args.files.now) c.in-Ok-Refused.judged (rw c.in-Ok-Refused.field-0-is at c.in-Ok-Refused.ensures.judged) r.statuses r.status r.done r.no_read r.write)
+
+pub returns-in-Ok-Refused-clause-front : goal.returns-in-Ok-Refused-clause-front
+returns-in-Ok-Refused-clause-front g c = λ late.
+    let r = c.refuse-in-Ok-Refused.ensures in
+    offered_is (g.F.Files.told c.args.files.now) c.args.words.now (offer_as c.in-Some.offer) _ c.in-Some.ensures.offer
+    (refused_front (offer_as c.in-Some.offer) c.refuse-in-Ok-Refused.result.status _ _ ⊥ ⊥ (g.F.Files.told c.args.files.now) c.in-Ok-Refused.judged (rw c.in-Ok-Refused.field-0-is at c.in-Ok-Refused.ensures.judged) _ _ _ _ _ _ _ r.none (rw c.in-Ok-Refused.field-0-is at c.in-Ok-Refused.ensures.shown).text (r.front late))

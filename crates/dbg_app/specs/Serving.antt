@@ -1,0 +1,98 @@
+-- What a service asks for, and how it ends.
+use Rattle.std.specs.Prelude.{◌≡◌, ◌≢◌, ◌⊎◌, ℕ, ◌==◌, ◌&&◌, not, Bool, List, [], Option, Some, Result, Ok, Err, Vec, length}
+use Rattle.std.specs.declared.alloc.Global.{Global}
+use Rattle.bv_core.specs.Value.{Bits}
+use Rattle.listen.specs.Pairs.{Heard}
+use Rattle.design_core.specs.declared.Ports.{Ports}
+use Rattle.stim_text.specs.Rows.{rows_of}
+use Rattle.stim_text.specs.declared.StimFault.{StimFault}
+use Rattle.stim_text.specs.declared.StimFault.TheVariants.{NoMemory}
+use Rattle.design_judge.specs.Judgement.{ArePortsOf}
+use Rattle.design_judge.specs.Judging.{JudgesStimulus}
+use Rattle.link_edge.specs.Links.{Meaning}
+use Rattle.duo_run.specs.declared.served.Served.{Served}
+use Rattle.serve_net.specs.Over.{Over, Shows}
+use Rattle.serve_net.specs.Service.{ServesAll, ServesSome}
+use Rattle.dbg_app.specs.Command.{Command}
+use Rattle.dbg_app.specs.Asked.{command_as}
+use Rattle.dbg_app.specs.Answers.{Answer, Contents, HoldsDesign, HoldsRows, Asks}
+use Rattle.dbg_app.specs.Outcome as run
+use Rattle.dbg_app.specs.Judged.{HasText, Judges, judged_status}
+use Rattle.dbg_app.specs.Offer.{Offer}
+use Rattle.dbg_app.specs.declared.judge.Judged.{Judged}
+use Rattle.dbg_app.specs.declared.offer.Offer as code
+use Rattle.dbg_app.specs.declared.shown.Shown as code_shown
+use Rattle.dbg_app.specs.declared.shown.Shown.TheVariants as shown
+
+-- without where the words lie in memory
+abbrev pub offer_as : code.Offer → Offer
+offer_as offer = record { files = command_as offer.command; address = offer.address.now; count = offer.count }
+
+-- ---- what the files hold
+
+-- what is shown is what the files hold: the design, how many of its signals are driven, and the rows of the stimulus for its ports
+pub record HoldsOver (files : Contents) (command : Command) (over : Over) : Type 0 where
+  pub design : HoldsDesign files command over.design
+  pub driven : over.driven ≡ length design.accepted.1.pairs
+  pub ports : Ports
+  pub are : ArePortsOf over.design ports
+  pub rows : HoldsRows files ports command.stimulus (Ok over.rows)
+  pub mode : over.mode ≡ command.mode
+
+-- ---- how a service ends
+
+-- the statuses of a service
+abbrev pub is_serve_status : ℕ → Bool
+is_serve_status status = run.is_status status && not (status == 6)
+
+-- what the files hold was served, so often, and all of it was told
+pub record ServesOffer {L : Type 0} (meant : L → Meaning) (files : Contents) (offer : Offer) (sets : List (List Heard)) (left_old left_new : Option ℕ) (faults_old faults_new : ℕ) (served : List (Served L)) (old new : Option (List ℕ)) : Type 0 where
+  pub over : Over
+  pub holds : HoldsOver files offer.files over
+  pub all : ServesAll meant over sets offer.count left_old left_new faults_old faults_new served old new
+
+-- nothing was served, and nothing or a front of the line of a refusal was taken; or a part was served, and a front of its lines was taken
+pub record RefusesFront {L : Type 0} (files : Contents) (offer : Offer) (served : List (Served L)) (old new : Option (List ℕ)) : Type 0 where
+  pub none : served ≡ []
+  pub taken : run.TakesSome [] files offer.files old new
+
+pub record ServesPart {L : Type 0} (meant : L → Meaning) (files : Contents) (offer : Offer) (sets : List (List Heard)) (left_old left_new : Option ℕ) (faults_old faults_new : ℕ) (served : List (Served L)) (old new : Option (List ℕ)) (status : ℕ) : Type 0 where
+  pub over : Over
+  pub holds : HoldsOver files offer.files over
+  pub some : ServesSome meant over sets offer.count left_old left_new faults_old faults_new served old new status
+
+abbrev pub ServesFront : {L : Type 0} → (L → Meaning) → Contents → Offer → List (List Heard) → Option ℕ → Option ℕ → ℕ → ℕ → List (Served L) → Option (List ℕ) → Option (List ℕ) → ℕ → Type 0
+ServesFront meant files offer sets left_old left_new faults_old faults_new served old new status =
+    RefusesFront files offer served old new ⊎ ServesPart meant files offer sets left_old left_new faults_old faults_new served old new status
+
+-- where the files ask for an answer, and neither count has risen, the status is its status, and the whole line of a refusal was taken; or memory
+-- ran out
+abbrev pub CompletesOffer : Contents → Offer → ℕ → Option (List ℕ) → Option (List ℕ) → Type 0 → Type 0 → Type 0
+CompletesOffer files offer status old new read_rose write_rose =
+    (answer : Answer) → Asks [] files offer.files answer → (read_rose → ⊥) → (write_rose → ⊥)
+    → ((status ≡ answer.status) × (status ≢ 0 → run.TakesAnswer files offer.files answer old new)) ⊎ (status ≡ 9)
+
+-- ---- what was judged
+
+-- the text of a stimulus was judged: it is accepted for these ports, or refused
+abbrev pub FindsRows : Option (List ℕ) → Ports → Result (Vec ℕ Global) StimFault → Type 0
+FindsRows file ports (Ok text) = file ≡ Some text.items
+FindsRows file ports (Err fault) = JudgesStimulus file ports (Err fault)
+
+abbrev pub AreRows : Ports → Result (Vec ℕ Global) StimFault → Type 0
+AreRows ports (Ok text) = (rows : List (List Bits)) × (rows_of ports text.items ≡ Ok rows)
+AreRows ports (Err fault) = fault ≢ NoMemory
+
+-- a refusal, as its files ask, or what is shown is what they hold
+abbrev pub JudgesOffer : Contents → Command → code_shown.Shown → Type 0
+JudgesOffer files command (shown.Refused judged) = Judges files command judged
+JudgesOffer files command (shown.Accepted service) = (over : Over) → Shows service over → HoldsOver files command over
+
+-- the refusal is one of a source or of a stimulus, and has a line; and what is accepted shows something
+pub record IsRefusal (judged : Judged) : Type 0 where
+  pub text : HasText judged
+  pub status : (judged_status judged ≡ 3) ⊎ (judged_status judged ≡ 4)
+
+abbrev pub IsShown : code_shown.Shown → Type 0
+IsShown (shown.Refused judged) = IsRefusal judged
+IsShown (shown.Accepted service) = (over : Over) × Shows service over

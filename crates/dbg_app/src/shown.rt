@@ -1,0 +1,106 @@
+//! Judges the files of a service.
+//!
+//! The text of the stimulus is kept: each session reads its rows anew.
+
+ghost use Rattle.std.specs.Prelude.{◌≡◌, ◌≤◌, [], ◌∷◌, Some, IfOk, IfSome, IsErrOf};
+ghost use Rattle.io_edge.specs.Faults.{Rose};
+ghost use Rattle.io_edge.specs.Taken.{AppendsFront};
+ghost use Rattle.design_core.specs.DesignView.{design_of};
+ghost use Rattle.design_judge.specs.Accepting.{IsKept, accepting_of};
+ghost use Rattle.dbg_app.specs.Asked.{command_as, stimulus_as};
+ghost use Rattle.dbg_app.specs.Answers.{HoldsDesign};
+ghost use Rattle.dbg_app.specs.Serving.{AreRows, FindsRows, IsShown, JudgesOffer};
+
+use crate::Halt;
+use crate::command::Command;
+use crate::judge::{Judged, judge_source};
+use design_core::Ports;
+use design_judge::{Accepted, judge_rows};
+use io_edge::{FileEnd, Files};
+use serve_net::Service;
+use std::alloc::Global;
+use stim_text::StimFault;
+
+/// A stimulus has at most 64 MiB.
+const MOST_STIMULUS: usize = 64 * 1024 * 1024;
+
+/// The files of a service, judged: the source or the stimulus is refused, or there is what it shows.
+#[derive(Drop)]
+pub(crate) enum Shown {
+    Refused(Judged),
+    Accepted(Service),
+}
+
+/// Reads the stimulus of this name, and judges it for these ports: its text, where it is accepted, or why it is refused.
+fn read_rows<F: Files>(
+    alloc: Global,
+    files: &mut F,
+    name: &str,
+    ports: &Ports,
+) -> Result<Result<Vec<u8>, StimFault>, Halt>
+    ensures found { IfOk result (λ found. IfSome (F.told files.old) (λ told. FindsRows (told name.now) ports.now found)) }
+    ensures rows { IfOk result (AreRows ports.now) }
+    ensures front { AppendsFront (F.asked files.old) (F.asked files.new) (name.now ∷ []) }
+    ensures read { IsErrOf result Halt.ReadFault → Rose (F.fault_count files.old) (F.fault_count files.new) }
+    ensures no_write { IsErrOf result Halt.WriteFault → ⊥ }
+    ensures later { F.fault_count files.old ≤ F.fault_count files.new }
+{
+    let text = match files.read_all(alloc, name, MOST_STIMULUS) {
+        Ok(text) => text,
+        Err(FileEnd::TooLong) => return Ok(Err(StimFault::TooLong)),
+        Err(FileEnd::Failed) => return Err(Halt::ReadFault),
+        Err(FileEnd::NoMemory) => return Err(Halt::NoMemory),
+    };
+    match judge_rows(alloc, &text, ports)? {
+        Ok(_) => Ok(Ok(text)),
+        Err(fault) => Ok(Err(fault)),
+    }
+}
+
+/// Reads the stimulus of a service, and judges it for a design that is accepted.
+fn show<F: Files>(
+    alloc: Global,
+    command: &Command<'_>,
+    stimulus: &str,
+    accepted: Accepted,
+    files: &mut F,
+) -> Result<Shown, Halt>
+    requires stimulus { stimulus_as command.now.task ≡ Some stimulus.now }
+    requires kept { IsKept (accepting_of accepted) }
+    ensures judged { IfOk result (λ shown. IfSome (F.told files.old) (λ told. HoldsDesign told (command_as command.now) (design_of accepted.design) → JudgesOffer told (command_as command.now) shown)) }
+    ensures shown { IfOk result IsShown }
+    ensures front { AppendsFront (F.asked files.old) (F.asked files.new) (stimulus.now ∷ []) }
+    ensures read { IsErrOf result Halt.ReadFault → Rose (F.fault_count files.old) (F.fault_count files.new) }
+    ensures no_write { IsErrOf result Halt.WriteFault → ⊥ }
+    ensures later { F.fault_count files.old ≤ F.fault_count files.new }
+{
+    match read_rows(alloc, files, stimulus, &accepted.ports)? {
+        Ok(stimulus) => Ok(Shown::Accepted(Service {
+            mode: command.mode,
+            accepted,
+            stimulus,
+        })),
+        Err(fault) => Ok(Shown::Refused(Judged::NoStimulus(fault))),
+    }
+}
+
+/// Reads the source and the stimulus of a service, in this order, and judges each before the next is read.
+pub(crate) fn judge_shown<F: Files>(
+    alloc: Global,
+    command: &Command<'_>,
+    stimulus: &str,
+    files: &mut F,
+) -> Result<Shown, Halt>
+    requires stimulus { stimulus_as command.now.task ≡ Some stimulus.now }
+    ensures judged { IfOk result (λ shown. IfSome (F.told files.old) (λ told. JudgesOffer told (command_as command.now) shown)) }
+    ensures shown { IfOk result IsShown }
+    ensures front { AppendsFront (F.asked files.old) (F.asked files.new) (command.now.source.now ∷ stimulus.now ∷ []) }
+    ensures read { IsErrOf result Halt.ReadFault → Rose (F.fault_count files.old) (F.fault_count files.new) }
+    ensures no_write { IsErrOf result Halt.WriteFault → ⊥ }
+    ensures later { F.fault_count files.old ≤ F.fault_count files.new }
+{
+    match judge_source(alloc, command, files)? {
+        Ok(accepted) => show(alloc, command, stimulus, accepted, files),
+        Err(fault) => Ok(Shown::Refused(Judged::NoDesign(fault))),
+    }
+}
