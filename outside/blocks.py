@@ -8,7 +8,8 @@ A page is Markdown. Behind the three backquotes that open a block stand its kind
   grammar, json        not run
   any other kind       not run, and told by `left`
 
-The blocks of a page run one after the other in one shell, in a folder that has a copy of examples/, with the program as `hgdb`.
+The blocks of a page run one after the other in one shell, in a folder that has a copy of examples/, with the program as `hgdb`,
+and this folder as outside/.
 """
 import os, re, shutil, subprocess, tempfile
 
@@ -71,14 +72,17 @@ def left(found):
             yield f"line {number}: nothing runs this block"
 
 
-def faults(program, page):
-    """Runs a page; returns how many commands it has, and what is wrong."""
+def faults(program, page, other=None):
+    """Runs a page; returns how many commands it has, and what is wrong. For the words of `other` other ones are put."""
     text, wanted = script(blocks(page))
+    for word, put in (other or {}).items():
+        text = text.replace(word, put)
     with tempfile.TemporaryDirectory() as folder:
         os.mkdir(f"{folder}/bin")
         os.symlink(program, f"{folder}/bin/hgdb")
         shutil.copytree(f"{ROOT}/examples", f"{folder}/there/examples")
-        path = {**os.environ, "PATH": f"{folder}/bin:{os.environ['PATH']}", "LC_ALL": "C"}
+        os.symlink(built.HERE, f"{folder}/there/outside")
+        path = {**os.environ, "PATH": f"{folder}/bin:{os.environ['PATH']}", "LC_ALL": "C", "PYTHONDONTWRITEBYTECODE": "1"}
         ran = subprocess.run(["sh"], input=text.encode(), cwd=f"{folder}/there", env=path, stdout=subprocess.PIPE,
                              stderr=subprocess.STDOUT, timeout=SECONDS)
     told = re.split(f"^{re.escape(MARK)}\n", ran.stdout.decode(errors="replace"), flags=re.M)
