@@ -1,5 +1,5 @@
-ghost use Rattle.std.specs.Prelude.{◌≡◌, bytes_eq};
-ghost use Rattle.gen_token.specs.Keywords.{keyword_text, keyword_of};
+ghost use Rattle.std.specs.Prelude.{◌≡◌, bytes_eq, find};
+ghost use Rattle.gen_token.specs.Keywords.{keyword_text, keywords, keyword_of};
 
 /// A word of the language that is no name.
 #[derive(Clone, Copy, PartialEq, Eq)]
@@ -30,35 +30,6 @@ pub enum Keyword {
     Default,
     Import,
 }
-
-/// Every keyword.
-const KEYWORDS: [Keyword; 25] = [
-    Keyword::Module,
-    Keyword::Input,
-    Keyword::Output,
-    Keyword::Wire,
-    Keyword::Reg,
-    Keyword::Inst,
-    Keyword::Comb,
-    Keyword::Ff,
-    Keyword::For,
-    Keyword::In,
-    Keyword::Gen,
-    Keyword::If,
-    Keyword::Else,
-    Keyword::Let,
-    Keyword::Bits,
-    Keyword::Cat,
-    Keyword::Zext,
-    Keyword::Mux,
-    Keyword::All,
-    Keyword::Any,
-    Keyword::Parity,
-    Keyword::Clk,
-    Keyword::Case,
-    Keyword::Default,
-    Keyword::Import,
-];
 
 impl Keyword {
     /// How a source spells it.
@@ -102,11 +73,48 @@ impl Keyword {
     }
 }
 
-/// The keyword that a word is.
+/// The keywords with the first letter of a word, in the order of all of them.
+fn alike(word: &[u8]) -> &'static [Keyword]
+    ensures { find (λ keyword. bytes_eq (keyword_text keyword) word.now) keywords ≡ find (λ keyword. bytes_eq (keyword_text keyword) word.now) result.now }
+{
+    match word {
+        [b'a', ..] => &[Keyword::All, Keyword::Any],
+        [b'b', ..] => &[Keyword::Bits],
+        [b'c', ..] => &[Keyword::Comb, Keyword::Cat, Keyword::Clk, Keyword::Case],
+        [b'd', ..] => &[Keyword::Default],
+        [b'e', ..] => &[Keyword::Else],
+        [b'f', ..] => &[Keyword::Ff, Keyword::For],
+        [b'g', ..] => &[Keyword::Gen],
+        [b'i', ..] => &[
+            Keyword::Input,
+            Keyword::Inst,
+            Keyword::In,
+            Keyword::If,
+            Keyword::Import,
+        ],
+        [b'l', ..] => &[Keyword::Let],
+        [b'm', ..] => &[Keyword::Module, Keyword::Mux],
+        [b'o', ..] => &[Keyword::Output],
+        [b'p', ..] => &[Keyword::Parity],
+        [b'r', ..] => &[Keyword::Reg],
+        [b'w', ..] => &[Keyword::Wire],
+        [b'z', ..] => &[Keyword::Zext],
+        _ => &[],
+    }
+}
+
+/// The keyword that a word is. Only those with its first letter are looked at.
 pub(crate) fn keyword_of(word: &[u8]) -> Option<Keyword>
     ensures { result ≡ keyword_of word.now }
 {
-    KEYWORDS
+    first_keyword(alike(word), word)
+}
+
+/// The first of these keywords that a word is.
+fn first_keyword(keywords: &[Keyword], word: &[u8]) -> Option<Keyword>
+    ensures { result ≡ find (λ keyword. bytes_eq (keyword_text keyword) word.now) keywords.now }
+{
+    keywords
         .iter()
         .copied()
         .find(|keyword| keyword.is_spelled(word))
