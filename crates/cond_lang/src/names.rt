@@ -42,10 +42,10 @@ fn output_name(alloc: Global, fam: &Fam, output: &Text) -> Result<Vec<u8>, NoMem
 }
 
 /// Puts a name behind others.
-fn push_name(alloc: Global, names: &mut Vec<Text>, name: &[u8]) -> Result<(), NoMemory>
-    ensures { OnOk result (names.new.items ≡ names.old.items ++ name.now ∷ []) }
+fn push_name(names: &mut Vec<Text>, name: Vec<u8>) -> Result<(), NoMemory>
+    ensures { OnOk result (names.new.items ≡ names.old.items ++ name.items ∷ []) }
 {
-    names.push(Text::new(alloc, name)?)?;
+    names.push(Text::from_bytes(name))?;
     Ok(())
 }
 
@@ -56,11 +56,11 @@ pub(crate) fn push_names(alloc: Global, names: &mut Vec<Text>, expr: &Expr) -> R
     match expr {
         Expr::Read(fam) => {
             let name = fam_name(alloc, fam)?;
-            push_name(alloc, names, &name)
+            push_name(names, name)
         }
         Expr::Out(fam, output) => {
             let name = output_name(alloc, fam, output)?;
-            push_name(alloc, names, &name)
+            push_name(names, name)
         }
         Expr::Value(_) => Ok(()),
         Expr::Un(_, a) => push_names(alloc, names, a),
