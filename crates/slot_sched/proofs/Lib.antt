@@ -14,3 +14,4 @@ pub mod Tests
 pub mod Turns
 pub mod Prepared
 pub mod Values
+pub mod Spanning

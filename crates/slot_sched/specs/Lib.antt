@@ -4,3 +4,4 @@ pub mod Waiting
 pub mod Scan
 pub mod Laws
 pub mod Sample
+pub mod Spans

@@ -6,11 +6,14 @@
 
 mod arm;
 mod armed;
+mod armory;
 mod fault;
 mod found;
 mod laws;
 mod sampled;
 mod schedule;
+mod search;
+mod spans;
 
 pub use fault::ArmFault;
 pub use found::Found;

@@ -7,6 +7,7 @@ use Rattle.slot_sched.specs.declared.armed.Armed.{Armed}
 use Rattle.slot_sched.specs.Armed.{breakpoint_of, breakpoints, AreRising, IsArmed}
 use Rattle.slot_sched.proofs.Any.{any_mapped}
 use Rattle.slot_sched.proofs.Order.{others, others_mapped, all_others, rising_kept}
+use Rattle.slot_sched.proofs.Spanning.{within_filtered}
 use Rattle.slot_sched.proofs.schedule.Schedule.disarm.Goals as goal
 
 pub returns-clause-told : goal.returns-clause-told
@@ -34,3 +35,8 @@ returns-clause-order c = λ rises.
     subst (λ (bs : List Breakpoint). AreRising 1 (map (λ b. b.number) bs) (c.args.self.now.given + 1))
     (sym (ap (map breakpoint_of) left ∙ others_mapped c.args.bp c.args.self.now.armed.items))
     (rising_kept _ 1 (breakpoints c.args.self.now) (c.args.self.now.given + 1) rises)
+
+pub rebuild-requires-clause-within : goal.rebuild-requires-clause-within
+rebuild-requires-clause-within c =
+    let left = filter_same _ (others c.args.bp) _ (λ x b f k. search rules) _ _ c.retain.ensures.filtered in
+    within_filtered c.args.self.now.spans.items (others c.args.bp) c.args.self.now.armed.items c.deref.result.now (c.deref.ensures.value ∙ left) c.args.self.now.spanned

@@ -2,7 +2,7 @@ use Rattle.std.proofs.Common.{◌≡◌, false, take}
 use Rattle.std.specs.List.{list_any}
 use Rattle.symtab.specs.Lookups.{instances_of}
 use Rattle.slot_sched.specs.Waiting.{cycle_samples, step_stops}
-use Rattle.slot_sched.proofs.schedule.any_steps.Given as goal
+use Rattle.slot_sched.proofs.search.any_steps.Given as goal
 
 abbrev pub invariant-loop-instance : goal.invariant-loop-instance
 invariant-loop-instance g l =

@@ -1,8 +1,0 @@
-use Rattle.std.proofs.Common.{◌≡◌, false, take}
-use Rattle.std.specs.List.{list_any}
-use Rattle.slot_sched.specs.Waiting.{cycle_samples, armed_stops}
-use Rattle.slot_sched.proofs.schedule.Schedule.any_stops.Given as goal
-
-abbrev pub invariant-loop-armed : goal.invariant-loop-armed
-invariant-loop-armed g l =
-    list_any (armed_stops l.table (cycle_samples (g.T.Trace.samples l.trace) (g.T.Trace.cursor l.trace)) l.slot) (take l.armed-index l.self.armed.items) ≡ false
