@@ -25,7 +25,7 @@ use Rattle.vcd_read.specs.Changes.{Change}
 use Rattle.vcd_read.specs.Meaning.{Meaning}
 use Rattle.vcd_samples.specs.Samples.{sample_of, last_digits, before, rises_of, rises_by, rises, var_named, sample_before}
 use Rattle.vcd_trace.specs.declared.found.Found.{Found}
-use Rattle.vcd_trace.specs.Kept.{found_of, var_of, value_before, value_at, samples_by, IsFound, IsSampled, IsTrace}
+use Rattle.vcd_trace.specs.Kept.{found_of, var_of, value_before, value_at, samples_by, IsFound, IsSampled, AreFirst, IsTrace}
 use Rattle.vcd_trace.specs.Named.{is_at, cell_names, row_names, slot_names, is_named, node_names}
 use Rattle.vcd_trace.specs.Over.{samples_over}
 use Rattle.vcd_trace.specs.Bound.{signal_of, found_named, IsBound}
@@ -151,8 +151,8 @@ module _ (m : Meaning) (parts : TableParts) (scope : List ℕ) (clock : Found) (
       by true h = h
       by false h = absurd (none-some found h)
 
-  pub is_trace : (times : List ℕ) → IsTrace m times signals None
-  is_trace times = record { sampled = signal_sampled; within = λ t e. absurd (none-some t e) }
+  pub is_trace : (rises : List ℕ) → AreFirst m.changes rises → IsTrace m rises signals None
+  is_trace rises first = record { first = first; sampled = signal_sampled; within = λ t e. absurd (none-some t e) }
 
   -- ---- the samples
 

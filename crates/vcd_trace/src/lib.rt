@@ -6,6 +6,7 @@
 
 mod fault;
 mod found;
+mod groups;
 mod laws;
 mod marks;
 mod signals;

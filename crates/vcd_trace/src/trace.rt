@@ -20,23 +20,24 @@ use vcd_read::Vcd;
 /// A value change dump file as the trace of a table's nodes, in one of its scopes. A cycle ends where the variable `clk` of the scope
 /// rises, and its samples are the values before.
 ///
-/// It keeps the file, 4 bytes and room to grow for each of its changes, and 8 bytes for each cycle. No call on it takes memory; a
-/// sample is found by halving the changes of its variable.
+/// It keeps the file, 4 bytes for each of its changes, 4 bytes and room to grow for each cycle, and a list for each code. No call on it
+/// takes memory; a sample is found by halving the changes of its variable.
 #[derive(Drop)]
 pub struct VcdTrace {
     waves: Waves,
-    rises: Vec<u64>,
+    /// For each cycle the place of the first change at the time at which it ends.
+    rises: Vec<u32>,
     /// For each node its variable, where a cell or an enable names the node.
     signals: Vec<Option<Found>>,
     cursor: Option<u64>,
 }
 
 impl Model for VcdTrace {
-    ghost use Rattle.vcd_trace.specs.Kept.{Replayed, IsTrace};
+    ghost use Rattle.vcd_trace.specs.Kept.{Replayed, IsTrace, times_at};
 
     ghost Value = { Replayed };
 
-    ghost view = { λ v. record { changes = v.waves.changes; rises = v.rises.items; signals = v.signals.items; cursor = v.cursor } };
+    ghost view = { λ v. record { changes = v.waves.changes; rises = times_at v.waves.changes v.rises.items; signals = v.signals.items; cursor = v.cursor } };
 
     ghost invariant = { λ v. IsTrace v.waves v.rises.items v.signals.items v.cursor };
 }
@@ -49,8 +50,8 @@ fn signal_at(signals: &[Option<Found>], n: usize) -> Option<Found>
     signals[n]
 }
 
-/// The time at which a cycle ends.
-fn time_at(rises: &[u64], t: usize) -> u64
+/// The place of the first change at the time at which a cycle ends.
+fn rise_at(rises: &[u32], t: usize) -> u32
     requires { t < length rises.now }
     ensures { result ≡ get_or rises.now t 0 }
 {
@@ -68,7 +69,7 @@ impl VcdTrace {
     /// nodes that a cell or an enable names, in the order of their numbers, the first whose variable is missing, `MissingSignal`, or
     /// has another size, `SizeDiffers`. `NoMemory` is the one answer that no clause ties to a cause.
     ///
-    /// Takes time linear in the table, and in the file but for a logarithm of it for each different time of a change.
+    /// Takes time linear in the table and in the file.
     pub fn over(alloc: Global, vcd: Vcd, table: &Table, scope: &str) -> Result<VcdTrace, BindFault>
         ensures ok { IfOk result (λ trace. samples_of trace ≡ samples_over vcd table.now scope.now) }
         ensures placed { IfOk result (λ trace. trace.cursor ≡ None) }
@@ -115,7 +116,7 @@ impl Trace for VcdTrace {
         let Some(found) = signal_at(&self.signals, n.0 as usize) else {
             return Sample::Unknown;
         };
-        let time = time_at(&self.rises, cycle as usize);
-        self.waves.value_before(found, u128::from(time))
+        let rise = rise_at(&self.rises, cycle as usize);
+        self.waves.value_before(found, rise)
     }
 }
