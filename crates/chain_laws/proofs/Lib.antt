@@ -1,2 +1,6 @@
 pub mod Tokens
 pub mod Tree
+pub mod Walks
+pub mod Cells
+pub mod Spans
+pub mod Elaborated
