@@ -1,9 +1,9 @@
 -- The walk over the chain's modules, for each number of cells.
 use Rattle.std.proofs.Common.{◌≡◌, ℕ, zero, suc, ◌+◌, ◌-◌, ◌<◌, ◌≤◌, Bool, true, false, cond, List, [], ◌∷◌, ◌++◌, length, Option, Some, None, refl, sym, ap, ◌∙◌, arith, ltb}
 use Rattle.std.proofs.lemmas.Bool.Decides.{nat_tests}
-use Rattle.std.specs.Prelude.{ℤ, pos, negsuc, ◌+ℤ◌, ◌-ℤ◌, codes, decimal}
+use Rattle.std.specs.Prelude.{nat_le, ℤ, pos, negsuc, ◌+ℤ◌, ◌-ℤ◌, codes, decimal}
 use Rattle.gen_tree.specs.Tree as tree
-use Rattle.gen_tree.specs.Tree.{var, Fam, inst}
+use Rattle.gen_tree.specs.Tree.{num, var, Fam, inst, comb, repeat_items, no_item, item}
 use Rattle.elab_core.specs.declared.fault.Count.TheVariants.{Instances, Turns, Statements, Signals, Parts, Cells}
 use Rattle.elab_core.specs.Walk.{Walk, Gives, Counted, and_then, Seen, none_seen, one_more}
 use Rattle.elab_core.specs.Numbers.{number, index_name, fam_name, two_numbers, ranged, find, bound, in_range}
@@ -12,11 +12,11 @@ use Rattle.design_core.specs.declared.Kind.TheVariants.{Input, Output, ChildOut}
 use Rattle.design_core.specs.declared.Signal.{Signal}
 use Rattle.design_core.specs.Design.{Gens, Expr, Out, Conn}
 use Rattle.elab_core.specs.Elaborated.{Child, Instance}
-use Rattle.elab_core.specs.Elab.{literal, expr, turns, statement, distinct, arguments, parameters, values, ports, conns, Asked, asked, count_outputs, register, wire_signal, Made, Here, with_child, item_walk, items_walk, module_walk, instance, top_arguments, top_values, top_walk}
-use Rattle.chain_laws.proofs.Tree.{plainly, member, before, cell_module, top_module, cell_item, output_before, loop_body, top_comb, chain_modules}
+use Rattle.elab_core.specs.Elab.{literal, expr, turns, statement, distinct, arguments, parameters, values, ports, conns, Asked, asked, count_outputs, register, wire_signal, Made, Here, with_child, with_block, instances_of, item_walk, items_walk, module_walk, instance, top_arguments, top_values, top_walk}
+use Rattle.chain_laws.proofs.Tree.{plainly, member, reads, top_items, before, cell_module, top_module, cell_item, output_before, loop_body, top_comb, chain_modules}
 use Rattle.chain_laws.proofs.Walks.{ended, ends_then}
 use Rattle.chain_laws.proofs.Spans.{length_span, span_more}
-use Rattle.chain_laws.proofs.Cells.{span, signal, cell_name, cell_line, cell_value, cell_content, cell_child, cell_output, cell_path, cell_instance, top_gens, chain_signals}
+use Rattle.chain_laws.proofs.Cells.{span, signal, cell_name, cell_line, cell_value, cell_content, cell_child, cell_output, cell_path, cell_instance, top_gens, chain_signals, top_block, chain_instances}
 
 abbrev here : Here
 here = record { path = codes "Chain"; number = 0 }
@@ -109,3 +109,49 @@ turns_made n (suc c) j m seen e h =
     ends_then (one_more Turns seen) (cell_seen (one_more Turns seen)) (turn_of n (pos (suc j)) (chain_made (suc j))) (λ more. turns 17 (turn_of n) (pos (suc j) +ℤ pos 1) c more) (chain_made (suc (suc j))) _
     (turn_made n j (one_more Turns seen) (omega arith))
     (ap (λ i. ended (cell_seen (one_more Turns seen)) (turns 17 (turn_of n) i c (chain_made (suc (suc j))))) (after_is j) ∙ turns_made n c (suc j) m (cell_seen (one_more Turns seen)) (omega arith) h)
+
+-- ---- the top
+
+few_turns : (k : ℕ) → k ≤ 4000 → nat_le k 4096 ≡ true
+few_turns k h = let le : k ≤ 4096 = omega arith in grind (arith, nat_tests)
+
+loop_made : (k : ℕ) (seen : Seen) → k ≤ 4000
+    → ended seen (item_walk chain_modules (instance chain_modules 32) here (repeat_items 17 (codes "i") (num 1) (var (codes "N")) loop_body) (top_gens (suc k)) (chain_made 1)) ≡ Some (chain_made (suc k), turns_seen k seen)
+unfolding item_walk two_numbers number and_then
+loop_made k seen h = rw (before_is k, few_turns k h) (turns_made (suc k) k 0 k seen (omega arith) h)
+
+abbrev top_made : ℕ → Made
+top_made k = with_block (chain_made (suc k)) (top_block 0 k)
+
+abbrev block_seen : Seen → Seen
+block_seen seen = record { instances = seen.instances; turns = seen.turns; statements = seen.statements + 1; signals = seen.signals; parts = seen.parts + 1 }
+
+block_made : (k : ℕ) (seen : Seen) → k ≤ 4000 → ended seen (item_walk chain_modules (instance chain_modules 32) here (comb 20 top_comb) (top_gens (suc k)) (chain_made (suc k))) ≡ Some (top_made k, block_seen seen)
+unfolding item_walk statement index_name and_then ended
+block_made k seen h = rw (output_walk 20 (top_gens (suc k)) (codes "N") k h refl) refl
+
+abbrev items_seen : ℕ → Seen → Seen
+items_seen k seen = block_seen (turns_seen k (cell_seen seen))
+
+items_made : (k : ℕ) (seen : Seen) → k ≤ 4000 → ended seen (items_walk chain_modules (instance chain_modules 32) here top_items (top_gens (suc k)) (chain_made 0)) ≡ Some (top_made k, items_seen k seen)
+unfolding items_walk number index_name expr and_then ended
+items_made k seen h =
+    ends_then seen (cell_seen seen) (item_walk chain_modules (instance chain_modules 32) here (cell_item 16 (num 0) (reads (codes "x"))) (top_gens (suc k)) (chain_made 0))
+    (λ more. items_walk chain_modules (instance chain_modules 32) here (item (repeat_items 17 (codes "i") (num 1) (var (codes "N")) loop_body) (item (comb 20 top_comb) no_item)) (top_gens (suc k)) more) (chain_made 1) _
+    (cell_made 0 (top_gens (suc k)) (member (codes "c") (num 0)) (reads (codes "x")) seen refl refl)
+    (ends_then (cell_seen seen) (turns_seen k (cell_seen seen)) (item_walk chain_modules (instance chain_modules 32) here (repeat_items 17 (codes "i") (num 1) (var (codes "N")) loop_body) (top_gens (suc k)) (chain_made 1))
+    (λ more. items_walk chain_modules (instance chain_modules 32) here (item (comb 20 top_comb) no_item) (top_gens (suc k)) more) (chain_made (suc k)) _
+    (loop_made k (cell_seen seen) h)
+    (ends_then (turns_seen k (cell_seen seen)) (items_seen k seen) (item_walk chain_modules (instance chain_modules 32) here (comb 20 top_comb) (top_gens (suc k)) (chain_made (suc k))) (λ more. Gives more) (top_made k) _
+    (block_made k (turns_seen k (cell_seen seen)) h)
+    refl))
+
+-- the top itself, and its two ports
+abbrev top_seen : Seen
+top_seen = record { instances = 1; turns = 0; statements = 0; signals = 2; parts = 0 }
+
+pub walk_ends : (k : ℕ) → k ≤ 4000 → ended none_seen (top_walk chain_modules (codes "Chain") (top_gens (suc k))) ≡ Some (chain_instances k, items_seen k top_seen)
+unfolding top_walk top_values top_arguments distinct parameters module_walk ports number and_then ended
+walk_ends k h =
+    ends_then top_seen (items_seen k top_seen) (items_walk chain_modules (instance chain_modules 32) here top_items (top_gens (suc k)) (chain_made 0))
+    (λ made. Gives (instances_of (codes "Chain") None 1 (top_gens (suc k)) made)) (top_made k) _ (items_made k top_seen h) refl
