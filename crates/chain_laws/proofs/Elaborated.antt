@@ -29,7 +29,7 @@ abbrev cell_below : Name → List Instance
 cell_below name = record { path = codes "Chain" ++ (codes "." ++ name); parent = Some 0; place = 0; params = []; content = cell_content } ∷ []
 
 -- a cell counts itself, its output twice, its two other signals, four statements and seven parts, and one of its connection
-abbrev cell_seen : Seen → Seen
+abbrev pub cell_seen : Seen → Seen
 cell_seen seen = record {
   instances = seen.instances + 1;
   turns = seen.turns;
@@ -98,7 +98,7 @@ turn_made n j seen h =
     (cell_made (suc j) (bound (codes "i") (pos (suc j)) (top_gens n)) (member (codes "c") (var (codes "i"))) (output_before (codes "i")) seen refl (output_walk 18 (bound (codes "i") (pos (suc j)) (top_gens n)) (codes "i") j h refl))
     refl
 
-abbrev turns_seen : ℕ → Seen → Seen
+abbrev pub turns_seen : ℕ → Seen → Seen
 turns_seen zero seen = seen
 turns_seen (suc c) seen = turns_seen c (cell_seen (one_more Turns seen))
 
@@ -123,14 +123,14 @@ loop_made k seen h = rw (before_is k, few_turns k h) (turns_made (suc k) k 0 k s
 abbrev top_made : ℕ → Made
 top_made k = with_block (chain_made (suc k)) (top_block 0 k)
 
-abbrev block_seen : Seen → Seen
+abbrev pub block_seen : Seen → Seen
 block_seen seen = record { instances = seen.instances; turns = seen.turns; statements = seen.statements + 1; signals = seen.signals; parts = seen.parts + 1 }
 
 block_made : (k : ℕ) (seen : Seen) → k ≤ 4000 → ended seen (item_walk chain_modules (instance chain_modules 32) here (comb 20 top_comb) (top_gens (suc k)) (chain_made (suc k))) ≡ Some (top_made k, block_seen seen)
 unfolding item_walk statement index_name and_then ended
 block_made k seen h = rw (output_walk 20 (top_gens (suc k)) (codes "N") k h refl) refl
 
-abbrev items_seen : ℕ → Seen → Seen
+abbrev pub items_seen : ℕ → Seen → Seen
 items_seen k seen = block_seen (turns_seen k (cell_seen seen))
 
 items_made : (k : ℕ) (seen : Seen) → k ≤ 4000 → ended seen (items_walk chain_modules (instance chain_modules 32) here top_items (top_gens (suc k)) (chain_made 0)) ≡ Some (top_made k, items_seen k seen)
@@ -147,7 +147,7 @@ items_made k seen h =
     refl))
 
 -- the top itself, and its two ports
-abbrev top_seen : Seen
+abbrev pub top_seen : Seen
 top_seen = record { instances = 1; turns = 0; statements = 0; signals = 2; parts = 0 }
 
 pub walk_ends : (k : ℕ) → k ≤ 4000 → ended none_seen (top_walk chain_modules (codes "Chain") (top_gens (suc k))) ≡ Some (chain_instances k, items_seen k top_seen)

@@ -4,3 +4,4 @@ pub mod Walks
 pub mod Cells
 pub mod Spans
 pub mod Elaborated
+pub mod Designed
