@@ -5,3 +5,4 @@ pub mod Cells
 pub mod Spans
 pub mod Elaborated
 pub mod Designed
+pub mod Names
