@@ -6,3 +6,4 @@ pub mod Spans
 pub mod Elaborated
 pub mod Designed
 pub mod Names
+pub mod Checked
