@@ -7,3 +7,4 @@ pub mod Elaborated
 pub mod Designed
 pub mod Names
 pub mod Checked
+pub mod Ranks
