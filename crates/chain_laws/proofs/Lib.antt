@@ -8,3 +8,4 @@ pub mod Designed
 pub mod Names
 pub mod Checked
 pub mod Ranks
+pub mod Ordered
