@@ -9,3 +9,4 @@ pub mod Names
 pub mod Checked
 pub mod Ranks
 pub mod Ordered
+pub mod Stimuli

@@ -7,7 +7,7 @@ use Rattle.gen_token.specs.declared.Mark.{Mark}
 use Rattle.gen_token.specs.declared.Mark.TheVariants as mark
 use Rattle.gen_token.specs.Words.{Word, Name, Number, Literal, Reserved, Sign, Tok}
 use Rattle.gen_token.specs.Tokens.{name_at, digits_at, value_at, after_digits, number_at, mark_at, token_at, skip, TokensFrom, AreTokens}
-use Rattle.chain_laws.specs.Text.{chain_source}
+use Rattle.demo_run.specs.Chain.{chain_source}
 
 -- ---- tokens, read one after another
 

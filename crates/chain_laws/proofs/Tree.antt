@@ -9,7 +9,7 @@ use Rattle.gen_tree.specs.Tree.{Int, num, var, bin, Fam, plain, Expr, read, out,
 use Rattle.gen_text.specs.Source.{Reads}
 use Rattle.gen_text.specs.Reading.{source_by, source_at, module_at, item_at, stmt_at, expr_at, int_at, each_by, until_by}
 use Rattle.gen_text.proofs.Law.{read_found}
-use Rattle.chain_laws.specs.Text.{chain_source}
+use Rattle.demo_run.specs.Chain.{chain_source}
 use Rattle.chain_laws.proofs.Tokens.{chain_tokens, chain_tokens_are}
 
 abbrev pub plainly : List ℕ → Fam
