@@ -56,7 +56,7 @@ before_is j = sub_one (ltb (suc j) 1) (negsuc (1 - suc (suc j))) (suc j - 1) j (
 after_is : (j : ℕ) → pos (suc j) +ℤ pos 1 ≡ pos (suc (suc j))
 after_is j = ap pos (omega arith)
 
-small_in_range : (j : ℕ) → j ≤ 4000 → in_range (pos j) ≡ true
+pub small_in_range : (j : ℕ) → j ≤ 4000 → in_range (pos j) ≡ true
 small_in_range j h = let lt : j < 4611686018427387904 = omega arith in grind (arith, nat_tests)
 
 before_number : (line : ℕ) (gens : Gens) (x : Name) (j : ℕ) → j ≤ 4000 → find gens x ≡ Some (pos (suc j)) → number line gens (before x) ≡ Gives (pos j)

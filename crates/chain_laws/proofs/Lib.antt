@@ -10,3 +10,5 @@ pub mod Checked
 pub mod Ranks
 pub mod Ordered
 pub mod Stimuli
+pub mod Accepted
+pub mod Demos
