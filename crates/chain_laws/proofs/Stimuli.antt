@@ -18,6 +18,9 @@ use Rattle.chain_laws.proofs.Cells.{span, cell_output, design_cell, chain_design
 abbrev pub inputs : List Input
 inputs = (codes "x", 16) ∷ []
 
+abbrev pub outputs : List Input
+outputs = (codes "y", 16) ∷ []
+
 abbrev pub row_at : ℕ → List Bits
 row_at t = record { width = 16; value = t } ∷ []
 
@@ -77,6 +80,9 @@ no_ports output i (suc n) = no_ports output (suc i) n
 
 pub chain_inputs : (k : ℕ) → ports_in false (top_signals (chain_design k)) ≡ inputs
 chain_inputs k = ap (λ more. (codes "x", 16) ∷ more) (no_ports false 0 (suc k))
+
+pub chain_outputs : (k : ℕ) → ports_in true (top_signals (chain_design k)) ≡ outputs
+chain_outputs k = ap (λ more. (codes "y", 16) ∷ more) (no_ports true 0 (suc k))
 
 no_registers : (i n : ℕ) → regs (span cell_output i n) ≡ 0
 no_registers i zero = refl
