@@ -1,14 +1,13 @@
 -- The source of the chain is accepted, for each number of cells.
-use Rattle.std.proofs.Common.{◌≡◌, ℕ, zero, suc, ◌≤◌, Ok, arith}
+use Rattle.std.proofs.Common.{◌≡◌, ℕ, zero, suc, ◌≤◌, arith}
 use Rattle.std.specs.Prelude.{codes}
 use Rattle.design_core.specs.Design.{Design, AreInRange}
-use Rattle.design_core.specs.WellFormed.{IsDesign}
 use Rattle.elab_laws.proofs.Kept.{elaboration_keeps}
 use Rattle.check_exec.specs.Premises.{IsSound}
 use Rattle.design_judge.specs.Judgement.{Describes, HasOrder, IsAccepted}
 use Rattle.design_judge.proofs.OneJudgement.{one_design}
 use Rattle.demo_run.specs.Chain.{chain_source, chain_top}
-use Rattle.chain_laws.specs.Laws.{IsCellCount, ChainsAreAccepted}
+use Rattle.chain_laws.specs.Laws.{ChainsAreAccepted}
 use Rattle.chain_laws.proofs.Tree.{chain_modules, chain_is_read}
 use Rattle.chain_laws.proofs.Cells.{top_gens, chain_design}
 use Rattle.chain_laws.proofs.Elaborated.{small_in_range}
@@ -19,13 +18,13 @@ use Rattle.chain_laws.proofs.Ordered.{chain_has_order}
 describes : (k : ℕ) → suc k ≤ 4000 → Describes (chain_top (suc k)) chain_source (chain_design k)
 describes k h = record { modules = chain_modules; reads = chain_is_read; elaborates = elaborated_so k (omega arith) }
 
-in_range : (k : ℕ) → suc k ≤ 4000 → AreInRange (top_gens (suc k))
-in_range k h = (small_in_range (suc k) h, tt)
+number_in_range : (k : ℕ) → suc k ≤ 4000 → AreInRange (top_gens (suc k))
+number_in_range k h = (small_in_range (suc k) h, tt)
 
 -- the design is well formed, and no check refuses it
 pub chain_is_sound : (k : ℕ) → suc k ≤ 4000 → IsSound (chain_design k)
 chain_is_sound k h = record {
-  kept = elaboration_keeps chain_modules (codes "Chain") (top_gens (suc k)) (chain_design k) chain_source chain_is_read (in_range k h) (elaborated_so k (omega arith));
+  kept = elaboration_keeps chain_modules (codes "Chain") (top_gens (suc k)) (chain_design k) chain_source chain_is_read (number_in_range k h) (elaborated_so k (omega arith));
   accepted = no_check_refuses k h;
 }
 

@@ -21,20 +21,20 @@ span f k (suc n) = f k ∷ span f (suc k) n
 
 -- ---- a cell
 
-abbrev pub literal : ℕ → Literal
-literal n = record { width = pos 16; negative = false; value = n }
+abbrev pub literal_16 : ℕ → Literal
+literal_16 n = record { width = pos 16; negative = false; value = n }
 
-abbrev pub signal : ℕ → Name → Kind → Signal
-signal line name kind = record { line = line; name = name; kind = kind; width = pos 16 }
+abbrev pub signal_16 : ℕ → Name → Kind → Signal
+signal_16 line name kind = record { line = line; name = name; kind = kind; width = pos 16 }
 
 abbrev pub cell_signals : List Signal
-cell_signals = signal 2 (codes "x") Input ∷ signal 3 (codes "y") Output ∷ signal 4 (codes "s") (Reg (literal 0)) ∷ []
+cell_signals = signal_16 2 (codes "x") Input ∷ signal_16 3 (codes "y") Output ∷ signal_16 4 (codes "s") (Reg (literal_16 0)) ∷ []
 
 -- its statements, with slots
 abbrev pub comb_body : (a b c : ℕ) → Body
 comb_body a b c =
     Then (Assign a 6 [] (codes "y") (Read (codes "s")))
-    (Then (If b 7 [] (Slice (Read (codes "s")) (pos 0) (pos 0)) (Then (Assign c 8 [] (codes "y") (Binary Xor (Read (codes "s")) (Value (literal 32768)))) Done) NoElse) Done)
+    (Then (If b 7 [] (Slice (Read (codes "s")) (pos 0) (pos 0)) (Then (Assign c 8 [] (codes "y") (Binary Xor (Read (codes "s")) (Value (literal_16 32768)))) Done) NoElse) Done)
 
 abbrev pub ff_body : ℕ → Body
 ff_body a = Then (Assign a 11 [] (codes "s") (Read (codes "x"))) Done
@@ -56,19 +56,19 @@ cell_line zero = 16
 cell_line (suc k) = 18
 
 -- what its input is connected to
-abbrev pub cell_value : ℕ → Expr
-cell_value zero = Read (codes "x")
-cell_value (suc k) = Out (cell_name k) (codes "y")
+abbrev pub cell_source : ℕ → Expr
+cell_source zero = Read (codes "x")
+cell_source (suc k) = Out (cell_name k) (codes "y")
 
 abbrev pub cell_conns : ℕ → List Conn
-cell_conns k = record { line = cell_line k; port = codes "x"; value = cell_value k } ∷ []
+cell_conns k = record { line = cell_line k; port = codes "x"; value = cell_source k } ∷ []
 
 abbrev pub cell_child : ℕ → Child
 cell_child k = record { line = cell_line k; name = cell_name k; place = 0; params = []; conns = cell_conns k }
 
 -- its output, as a signal of the top
 abbrev pub cell_output : ℕ → Signal
-cell_output k = signal (cell_line k) (cell_name k ++ (codes "." ++ codes "y")) (ChildOut k (codes "y"))
+cell_output k = signal_16 (cell_line k) (cell_name k ++ (codes "." ++ codes "y")) (ChildOut k (codes "y"))
 
 abbrev pub cell_path : ℕ → Name
 cell_path k = codes "Chain" ++ (codes "." ++ cell_name k)
@@ -83,14 +83,14 @@ top_gens n = (codes "N", pos n) ∷ []
 
 -- with so many cells
 abbrev pub chain_signals : ℕ → List Signal
-chain_signals k = signal 14 (codes "x") Input ∷ signal 15 (codes "y") Output ∷ span cell_output 0 k
+chain_signals k = signal_16 14 (codes "x") Input ∷ signal_16 15 (codes "y") Output ∷ span cell_output 0 k
 
 -- the output of the last cell, where there are one more than k
-abbrev pub top_body : (slot k : ℕ) → Body
-top_body slot k = Then (Assign slot 20 (top_gens (suc k)) (codes "y") (Out (cell_name k) (codes "y"))) Done
+abbrev pub output_body : (slot k : ℕ) → Body
+output_body slot k = Then (Assign slot 20 (top_gens (suc k)) (codes "y") (Out (cell_name k) (codes "y"))) Done
 
-abbrev pub top_block : (slot k : ℕ) → Block
-top_block slot k = record { line = 20; clocked = false; body = top_body slot k }
+abbrev pub output_block : (slot k : ℕ) → Block
+output_block slot k = record { line = 20; clocked = false; body = output_body slot k }
 
 abbrev pub top_instance : ℕ → Instance
 top_instance k = record {
@@ -98,7 +98,7 @@ top_instance k = record {
   parent = None;
   place = 1;
   params = top_gens (suc k);
-  content = record { signals = chain_signals (suc k); children = span cell_child 0 (suc k); blocks = top_block 0 k ∷ [] };
+  content = record { signals = chain_signals (suc k); children = span cell_child 0 (suc k); blocks = output_block 0 k ∷ [] };
 }
 
 -- the instances of a chain of k + 1 cells
@@ -116,7 +116,7 @@ top_variant k = record {
   params = top_gens (suc k);
   signals = chain_signals (suc k);
   children = span design_child 0 (suc k);
-  blocks = top_block 4 k ∷ [];
+  blocks = output_block 4 k ∷ [];
 }
 
 abbrev pub cell_variant : Variant

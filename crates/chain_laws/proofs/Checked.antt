@@ -1,44 +1,40 @@
 -- No check refuses the chain's design.
-use Rattle.std.proofs.Common.{◌≡◌, ℕ, zero, suc, ◌+◌, ◌<◌, ◌≤◌, Bool, true, false, not, ◌&&◌, ◌||◌, List, [], ◌∷◌, ◌++◌, map, Option, Some, None, refl, sym, ap, ap₂, subst, ◌∙◌, arith, inl, inr}
+use Rattle.std.proofs.Common.{◌≡◌, ℕ, zero, suc, ◌+◌, ◌<◌, ◌≤◌, Bool, true, false, ◌&&◌, ◌||◌, List, [], ◌∷◌, ◌++◌, map, Option, Some, None, refl, sym, ap, ap₂, subst, ◌∙◌, arith, inl, inr}
 use Rattle.std.proofs.lemmas.Bool.{cases_lt}
 use Rattle.std.proofs.lemmas.List.{map-append}
-use Rattle.std.specs.Prelude.{codes, slice_get, bytes_eq, if◌then◌else◌, option_map}
-use Rattle.std.specs.List.{list_any}
-use Rattle.list_core.specs.Lists.{EachOf, IsIn, IsNotIn, AreApart}
+use Rattle.std.specs.Prelude.{codes, bytes_eq, if◌then◌else◌, option_map}
+use Rattle.list_core.specs.Lists.{EachOf, IsNotIn, AreApart}
 use Rattle.exec_core.specs.Block.{Name}
 use Rattle.design_core.specs.declared.Signal.{Signal}
-use Rattle.design_core.specs.declared.Instance.{Instance}
 use Rattle.design_core.specs.Design as design
 use Rattle.design_core.specs.Design.{Design, Variant}
-use Rattle.check_core.specs.declared.fault.CheckFault.{CheckFault}
-use Rattle.check_core.specs.declared.fault.CheckFault.TheVariants as faults
 use Rattle.check_core.specs.declared.fault.Refusal.{Refusal}
 use Rattle.check_core.specs.declared.fault.Refusal.TheVariants.{UnknownName, DuplicateName, BadWidth, UnknownPort, UnboundInput, WidthMismatch, TwoDrivers, Undriven, Latch, ReadBeforeWrite}
 use Rattle.check_core.specs.Faults.{earlier, first_of, fault_in}
-use Rattle.check_core.specs.Names.{named, any_kind, is_child_output, child_named, scope_of, unknown_in_child, unknown_in_block, signal_thing, child_thing, things, taken_twice, duplicate_in_block, taken_in}
-use Rattle.check_core.specs.Ports.{unknown_port_in_child, unknown_port_in_block, unbound_in_child}
-use Rattle.check_core.specs.Widths.{bad_signal, bad_in_child, bad_in_block, Widths, put_signals, put_signal, no_width, widths_of, signal_mismatch, mismatch_in_child, mismatch_in_block}
+use Rattle.check_core.specs.Names.{named, any_kind, is_child_output, child_named, scope_of, unknown_in_child, signal_thing, child_thing, things, taken_twice}
+use Rattle.check_core.specs.Ports.{unknown_port_in_child, unbound_in_child}
+use Rattle.check_core.specs.Widths.{bad_signal, bad_in_child, Widths, put_signals, put_signal, no_width, widths_of, signal_mismatch, mismatch_in_child}
 use Rattle.check_core.specs.Drivers.{twice_in_child, undriven_at, is_assigned}
 use Rattle.check_core.specs.Verdict.{refused, refused_at, refused_by, in_order, verdict}
 use Rattle.names.specs.Known.{Known, none, with}
 use Rattle.check_exec.proofs.Facts.{name_same, same_name, in_any}
 use Rattle.chain_laws.proofs.Spans.{map_span, in_span}
-use Rattle.chain_laws.proofs.Cells.{span, cell_name, cell_output, chain_signals, top_block, design_child, top_variant, cell_variant, design_cell, design_top, chain_design}
-use Rattle.chain_laws.proofs.Names.{output_name, chain_names, names_apart}
+use Rattle.chain_laws.proofs.Cells.{span, cell_name, cell_output, chain_signals, output_block, design_child, top_variant, cell_variant, design_cell, chain_design}
+use Rattle.chain_laws.proofs.Names.{cell_output_name, chain_names, names_apart}
 
 -- ---- lists
 
-none_found : {X A : Type 0} (find : X → Option A) (f : ℕ → X) (k n : ℕ) → ((i : ℕ) → k ≤ i → i < k + n → find (f i) ≡ None) → first_of find (span f k n) ≡ None
-none_found find f k zero h = refl
-none_found find f k (suc n) h = rw (h k (omega arith) (omega arith)) (none_found find f (suc k) n (λ i l m. h i (omega arith) (omega arith)))
+none_in_span : {X A : Type 0} (find : X → Option A) (f : ℕ → X) (k n : ℕ) → ((i : ℕ) → k ≤ i → i < k + n → find (f i) ≡ None) → first_of find (span f k n) ≡ None
+none_in_span find f k zero h = refl
+none_in_span find f k (suc n) h = rw (h k (omega arith) (omega arith)) (none_in_span find f (suc k) n (λ i l m. h i (omega arith) (omega arith)))
 
 two_none : {A : Type 0} (a b : Option A) → a ≡ None → b ≡ None → earlier a b ≡ None
 two_none a b e f = rw (e, f) refl
 
 -- ---- names
 
-signal_there : (k i : ℕ) → i ≤ k → named is_child_output (chain_signals (suc k)) (output_name i) ≡ true
-signal_there k i h = in_any (λ (s : Signal). is_child_output s.kind && bytes_eq (output_name i) s.name) (chain_signals (suc k)) (cell_output i) (inr (inr (in_span cell_output 0 (suc k) i (omega arith) (omega arith)))) (name_same (output_name i) (output_name i) refl)
+signal_there : (k i : ℕ) → i ≤ k → named is_child_output (chain_signals (suc k)) (cell_output_name i) ≡ true
+signal_there k i h = in_any (λ (s : Signal). is_child_output s.kind && bytes_eq (cell_output_name i) s.name) (chain_signals (suc k)) (cell_output i) (inr (inr (in_span cell_output 0 (suc k) i (omega arith) (omega arith)))) (name_same (cell_output_name i) (cell_output_name i) refl)
 
 child_there : (k i : ℕ) → i ≤ k → child_named (span design_child 0 (suc k)) (cell_name i) ≡ true
 child_there k i h = in_any (λ (c : design.Child). bytes_eq (cell_name i) c.name) (span design_child 0 (suc k)) (design_child i) (in_span design_child 0 (suc k) i (omega arith) (omega arith)) (name_same (cell_name i) (cell_name i) refl)
@@ -48,7 +44,7 @@ known_in_child k zero h = refl
 known_in_child k (suc i) h = rw (child_there k i (omega arith)) refl
 
 no_unknown : (k : ℕ) → refused UnknownName (top_variant k ∷ cell_variant ∷ []) (top_variant k) ≡ None
-no_unknown k = two_none _ _ (none_found (unknown_in_child (scope_of (top_variant k))) design_child 0 (suc k) (λ i l m. known_in_child k i (omega arith))) (rw (child_there k k (omega arith)) refl)
+no_unknown k = two_none _ _ (none_in_span (unknown_in_child (scope_of (top_variant k))) design_child 0 (suc k) (λ i l m. known_in_child k i (omega arith))) (rw (child_there k k (omega arith)) refl)
 
 -- ---- each name once
 
@@ -78,8 +74,8 @@ all_free [] = tt
 all_free (x ∷ names) = (refl, all_free names)
 
 -- the names of the things of the top
-names_of : (k : ℕ) → map (λ p. p.1) (things (top_variant k)) ≡ chain_names (suc k)
-names_of k =
+things_named : (k : ℕ) → map (λ p. p.1) (things (top_variant k)) ≡ chain_names (suc k)
+things_named k =
     ap (λ ps. codes "x" ∷ codes "y" ∷ ps)
     (map-append (λ (p : ℕ × Name). p.1) (map signal_thing (span cell_output 0 (suc k))) (map child_thing (span design_child 0 (suc k)))
     ∙ ap₂ (λ xs ys. xs ++ ys)
@@ -87,7 +83,7 @@ names_of k =
     (ap (map (λ (p : ℕ × Name). p.1)) (map_span child_thing design_child 0 (suc k)) ∙ map_span (λ (p : ℕ × Name). p.1) (λ i. child_thing (design_child i)) 0 (suc k)))
 
 no_duplicate : (k : ℕ) → suc k ≤ 4000 → refused DuplicateName (top_variant k ∷ cell_variant ∷ []) (top_variant k) ≡ None
-no_duplicate k h = two_none _ _ (none_twice none (things (top_variant k)) (subst AreApart (sym (names_of k)) (names_apart (suc k) h)) (all_free (map (λ p. p.1) (things (top_variant k))))) refl
+no_duplicate k h = two_none _ _ (none_twice none (things (top_variant k)) (subst AreApart (sym (things_named k)) (names_apart (suc k) h)) (all_free (map (λ p. p.1) (things (top_variant k))))) refl
 
 -- ---- widths
 
@@ -96,7 +92,7 @@ sized_child zero = refl
 sized_child (suc i) = refl
 
 no_bad_width : (k : ℕ) → refused BadWidth (top_variant k ∷ cell_variant ∷ []) (top_variant k) ≡ None
-no_bad_width k = two_none _ _ (none_found bad_signal cell_output 0 (suc k) (λ i l m. refl)) (two_none _ _ (none_found bad_in_child design_child 0 (suc k) (λ i l m. sized_child i)) refl)
+no_bad_width k = two_none _ _ (none_in_span bad_signal cell_output 0 (suc k) (λ i l m. refl)) (two_none _ _ (none_in_span bad_in_child design_child 0 (suc k) (λ i l m. sized_child i)) refl)
 
 abbrev Is16 : Option ℕ → Type 0
 Is16 o = o ≡ Some 16
@@ -107,16 +103,16 @@ chosen false o e = e
 
 stays_16 : (j n : ℕ) (w : Widths) (x : Name) → Is16 (w x) → Is16 (put_signals any_kind (span cell_output j n) w x)
 stays_16 j zero w x e = e
-stays_16 j (suc n) w x e = stays_16 (suc j) n (put_signal any_kind (cell_output j) w) x (chosen (bytes_eq x (output_name j)) (w x) e)
+stays_16 j (suc n) w x e = stays_16 (suc j) n (put_signal any_kind (cell_output j) w) x (chosen (bytes_eq x (cell_output_name j)) (w x) e)
 
 chosen_so : (b : Bool) (o : Option ℕ) → b ≡ true → Is16 (if b then Some 16 else o)
 chosen_so b o e = rw e refl
 
-output_16 : (j n : ℕ) (w : Widths) (i : ℕ) → j ≤ i → i < j + n → Is16 (put_signals any_kind (span cell_output j n) w (output_name i))
+output_16 : (j n : ℕ) (w : Widths) (i : ℕ) → j ≤ i → i < j + n → Is16 (put_signals any_kind (span cell_output j n) w (cell_output_name i))
 output_16 j zero w i l m = absurd (omega arith)
 output_16 j (suc n) w i l m = elim (cases_lt j i) [
   | inl lt ↦ output_16 (suc j) n (put_signal any_kind (cell_output j) w) i (omega arith) (omega arith)
-  | inr ge ↦ stays_16 (suc j) n (put_signal any_kind (cell_output j) w) (output_name i) (chosen_so (bytes_eq (output_name i) (output_name j)) (w (output_name i)) (name_same (output_name i) (output_name j) (ap output_name (omega arith))))
+  | inr ge ↦ stays_16 (suc j) n (put_signal any_kind (cell_output j) w) (cell_output_name i) (chosen_so (bytes_eq (cell_output_name i) (cell_output_name j)) (w (cell_output_name i)) (name_same (cell_output_name i) (cell_output_name j) (ap cell_output_name (omega arith))))
 ]
 
 abbrev chain_widths : ℕ → Widths
@@ -128,7 +124,7 @@ width_x k = stays_16 0 (suc k) (put_signals any_kind (chain_signals 0) no_width)
 width_y : (k : ℕ) → Is16 (chain_widths k (codes "y"))
 width_y k = stays_16 0 (suc k) (put_signals any_kind (chain_signals 0) no_width) (codes "y") refl
 
-width_out : (k i : ℕ) → i ≤ k → Is16 (chain_widths k (output_name i))
+width_out : (k i : ℕ) → i ≤ k → Is16 (chain_widths k (cell_output_name i))
 width_out k i h = output_16 0 (suc k) (put_signals any_kind (chain_signals 0) no_width) i (omega arith) (omega arith)
 
 abbrev both_variants : ℕ → List Variant
@@ -140,8 +136,8 @@ matching_child k (suc i) h = rw (width_out k i (omega arith)) refl
 
 no_mismatch : (k : ℕ) → refused WidthMismatch (top_variant k ∷ cell_variant ∷ []) (top_variant k) ≡ None
 no_mismatch k =
-    two_none _ _ (none_found signal_mismatch cell_output 0 (suc k) (λ i l m. refl))
-    (two_none _ _ (none_found (mismatch_in_child (chain_widths k) (both_variants k)) design_child 0 (suc k) (λ i l m. matching_child k i (omega arith)))
+    two_none _ _ (none_in_span signal_mismatch cell_output 0 (suc k) (λ i l m. refl))
+    (two_none _ _ (none_in_span (mismatch_in_child (chain_widths k) (both_variants k)) design_child 0 (suc k) (λ i l m. matching_child k i (omega arith)))
     (rw (width_y k, width_out k k (omega arith)) refl))
 
 -- ---- ports
@@ -152,19 +148,19 @@ ports_known k (suc i) h = rw (signal_there k i (omega arith)) refl
 
 no_unknown_port : (k : ℕ) → refused UnknownPort (top_variant k ∷ cell_variant ∷ []) (top_variant k) ≡ None
 no_unknown_port k =
-    two_none _ _ (none_found (unknown_port_in_child (named is_child_output (chain_signals (suc k))) (both_variants k)) design_child 0 (suc k) (λ i l m. ports_known k i (omega arith)))
+    two_none _ _ (none_in_span (unknown_port_in_child (named is_child_output (chain_signals (suc k))) (both_variants k)) design_child 0 (suc k) (λ i l m. ports_known k i (omega arith)))
     (rw (signal_there k k (omega arith)) refl)
 
 no_unbound : (k : ℕ) → refused UnboundInput (top_variant k ∷ cell_variant ∷ []) (top_variant k) ≡ None
-no_unbound k = none_found (unbound_in_child (both_variants k)) design_child 0 (suc k) (λ i l m. refl)
+no_unbound k = none_in_span (unbound_in_child (both_variants k)) design_child 0 (suc k) (λ i l m. refl)
 
 -- ---- drivers
 
 no_second : (k : ℕ) → refused TwoDrivers (top_variant k ∷ cell_variant ∷ []) (top_variant k) ≡ None
-no_second k = two_none _ _ (none_found twice_in_child design_child 0 (suc k) (λ i l m. refl)) refl
+no_second k = two_none _ _ (none_in_span twice_in_child design_child 0 (suc k) (λ i l m. refl)) refl
 
 no_undriven : (k : ℕ) → refused Undriven (top_variant k ∷ cell_variant ∷ []) (top_variant k) ≡ None
-no_undriven k = none_found (undriven_at (is_assigned (top_block 4 k ∷ []))) cell_output 0 (suc k) (λ i l m. refl)
+no_undriven k = none_in_span (undriven_at (is_assigned (output_block 4 k ∷ []))) cell_output 0 (suc k) (λ i l m. refl)
 
 -- ---- the verdict
 
@@ -195,7 +191,7 @@ cell_passes k ReadBeforeWrite = refl
 not_refused : (k : ℕ) → suc k ≤ 4000 → (r : Refusal) → refused_by (chain_design k) r ≡ None
 not_refused k h r =
     two_none _ _ (ap (option_map (fault_in (codes "Chain"))) (top_passes k h r))
-    (none_found (refused_at r (chain_design k)) design_cell 0 (suc k) (λ i l m. ap (option_map (fault_in (design_cell i).path)) (cell_passes k r)))
+    (none_in_span (refused_at r (chain_design k)) design_cell 0 (suc k) (λ i l m. ap (option_map (fault_in (design_cell i).path)) (cell_passes k r)))
 
 all_none : (d : Design) (rs : List Refusal) → ((r : Refusal) → refused_by d r ≡ None) → first_of (refused_by d) rs ≡ None
 all_none d [] h = refl

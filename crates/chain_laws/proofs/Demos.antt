@@ -1,5 +1,5 @@
 -- What a demo asks for, where its design and its stimulus are accepted.
-use Rattle.std.proofs.Common.{◌≡◌, ℕ, zero, suc, ◌<◌, ◌≤◌, Bool, true, false, ◌⊎◌, inl, inr, List, length, Some, Result, Ok, Err, refl, sym, ap, subst, ◌∙◌, arith}
+use Rattle.std.proofs.Common.{◌≡◌, ℕ, zero, suc, ◌<◌, ◌≤◌, Bool, true, false, inl, inr, List, length, Some, Result, Ok, Err, refl, sym, ap, subst, ◌∙◌, arith}
 use Rattle.std.proofs.lemmas.Bool.Decides.{nat_tests}
 use Rattle.std.specs.Prelude.{codes, nat_le, if◌then◌else◌}
 use Rattle.bv_core.specs.Value.{Bits}
@@ -16,16 +16,16 @@ use Rattle.trim_laws.specs.Runs.{RunsOver}
 use Rattle.trim_laws.proofs.Running.{designs_run}
 use Rattle.machine_core.proofs.Readers.{some_reader}
 use Rattle.batch_run.specs.Texts.{most_requests, requests_fault}
-use Rattle.demo_run.specs.Chain.{chain_source, chain_stimulus, chain_top, row_count}
+use Rattle.demo_run.specs.Chain.{chain_source, chain_top}
 use Rattle.demo_run.specs.Asked.{Given, Contents, HasRows, RefusesDesign, RefusesStimulus, RefusesRequests, Held, ShowsLine, line_of, AsksDemo, NoDesign, NoStimulus, NoRequests, Accepted}
-use Rattle.chain_laws.specs.Laws.{IsCellCount, StimuliAreAccepted, status_for, AsksForStatus, RequestsDecide, NoneIsRefused}
+use Rattle.chain_laws.specs.Laws.{IsCellCount, StimuliAreAccepted, RequestsDecide, NoneIsRefused}
 use Rattle.chain_laws.proofs.Cells.{chain_design}
 use Rattle.chain_laws.proofs.Accepted.{chain_is_sound, chain_is_accepted, only_chain}
-use Rattle.chain_laws.proofs.Stimuli.{inputs, chain_rows, chain_rows_are, is_stimulus, chain_inputs, chain_outputs, chain_registers, outputs}
+use Rattle.chain_laws.proofs.Stimuli.{x_input, chain_rows, chain_rows_are, is_stimulus, chain_inputs, chain_outputs, chain_registers, y_output}
 
 -- ---- the stimulus
 
-inputs_are : (k : ℕ) (ports : Ports) → ArePortsOf (chain_design k) ports → ports.inputs ≡ inputs
+inputs_are : (k : ℕ) (ports : Ports) → ArePortsOf (chain_design k) ports → ports.inputs ≡ x_input
 inputs_are k ports are = are.inputs ∙ chain_inputs k
 
 rows_for : (k : ℕ) → suc k ≤ 4000 → (ports : Ports) → ArePortsOf (chain_design k) ports → HasRows ports (Ok chain_rows)
@@ -66,8 +66,8 @@ chain_ports : ℕ → Ports
 unfolding is_name
 chain_ports k = record {
   «module» = codes "Chain";
-  inputs = inputs;
-  outputs = outputs;
+  inputs = x_input;
+  outputs = y_output;
   registers = suc k;
   widths = refl;
   names = refl;

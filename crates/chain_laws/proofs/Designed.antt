@@ -1,40 +1,39 @@
 -- The design that the chain is elaborated to, for each number of cells.
-use Rattle.std.proofs.Common.{◌≡◌, ℕ, zero, suc, ◌+◌, ◌*◌, ◌<◌, ◌≤◌, Bool, true, false, List, [], ◌∷◌, ◌++◌, length, map, Option, Some, None, Result, Ok, Err, refl, sym, ap, ◌∙◌, arith, append-nil}
+use Rattle.std.proofs.Common.{◌≡◌, ℕ, zero, suc, ◌+◌, ◌*◌, ◌≤◌, true, false, List, [], ◌∷◌, ◌++◌, length, map, Ok, refl, ap, ◌∙◌, arith, append-nil}
 use Rattle.std.proofs.lemmas.Bool.Decides.{nat_tests, Decides-int_eq}
-use Rattle.std.specs.Prelude.{pos, codes, nat_lt, ◌==◌}
+use Rattle.std.specs.Prelude.{pos, codes, nat_lt}
 use Rattle.std.specs.List.{enumerate_from}
 use Rattle.std.specs.Ordering.{int_eq}
-use Rattle.exec_core.specs.Block.{Name}
 use Rattle.design_core.specs.declared.Signal.{Signal}
 use Rattle.design_core.specs.declared.Instance as design_instance
 use Rattle.design_core.specs.Design as design
 use Rattle.design_core.specs.Design.{Design}
 use Rattle.elab_core.specs.declared.fault.Count.TheVariants.{Turns, Cells}
-use Rattle.elab_core.specs.Walk.{Seen, none_seen, one_more, limit, judge}
+use Rattle.elab_core.specs.Walk.{Seen, none_seen, one_more, limit}
 use Rattle.elab_core.specs.Elaborated.{Instance}
 use Rattle.elab_core.specs.Elab.{top_walk}
-use Rattle.elab_core.specs.Design.{firsts, variants_of, cells, unless_large, elab, numbered_variant, instance_in, designed, design_from, elaborated, child_in}
+use Rattle.elab_core.specs.Design.{firsts, variants_of, cells, unless_large, numbered_variant, instance_in, designed, design_from, elaborated, child_in}
 use Rattle.chain_laws.proofs.Tree.{chain_modules}
-use Rattle.chain_laws.proofs.Walks.{AreWithin, judged_so}
+use Rattle.chain_laws.proofs.Walks.{AreUnderLimits, judged_so}
 use Rattle.chain_laws.proofs.Spans.{length_span, map_span}
-use Rattle.chain_laws.proofs.Cells.{span, cell_child, cell_output, cell_instance, top_gens, chain_signals, top_block, top_instance, chain_instances, design_child, top_variant, cell_variant, design_cell, design_top, chain_design}
+use Rattle.chain_laws.proofs.Cells.{span, cell_child, cell_output, cell_instance, top_gens, top_instance, chain_instances, design_child, top_variant, cell_variant, design_top, chain_design}
 use Rattle.chain_laws.proofs.Elaborated.{cell_seen, turns_seen, items_seen, top_seen, walk_ends}
 
 -- ---- the counts
 
-record Adds (c : ℕ) (seen after : Seen) : Type 0 where
+record Grows (c : ℕ) (seen after : Seen) : Type 0 where
   instances : after.instances ≡ seen.instances + c
   turns : after.turns ≡ seen.turns + c
   statements : after.statements ≡ seen.statements + 4 * c
   signals : after.signals ≡ seen.signals + 4 * c
   parts : after.parts ≡ seen.parts + 8 * c
 
-turns_add : (c : ℕ) (seen : Seen) → Adds c seen (turns_seen c seen)
+turns_add : (c : ℕ) (seen : Seen) → Grows c seen (turns_seen c seen)
 turns_add zero seen = omega arith
 turns_add (suc c) seen = let h = turns_add c (cell_seen (one_more Turns seen)) in omega (arith, h)
 
-within : (k : ℕ) → k ≤ 4000 → AreWithin (items_seen k top_seen)
-within k h = let a = turns_add k (cell_seen top_seen) in omega (arith, a)
+counts_under : (k : ℕ) → k ≤ 4000 → AreUnderLimits (items_seen k top_seen)
+counts_under k h = let a = turns_add k (cell_seen top_seen) in omega (arith, a)
 
 -- ---- the cells
 
@@ -92,5 +91,5 @@ designed_so k =
 
 pub elaborated_so : (k : ℕ) → k ≤ 4000 → elaborated chain_modules (codes "Chain") (top_gens (suc k)) ≡ Ok (chain_design k)
 elaborated_so k h =
-    ap (λ r. design_from chain_modules (codes "Chain") (unless_large r)) (judged_so none_seen (items_seen k top_seen) (top_walk chain_modules (codes "Chain") (top_gens (suc k))) (chain_instances k) (walk_ends k h) (within k h))
+    ap (λ r. design_from chain_modules (codes "Chain") (unless_large r)) (judged_so none_seen (items_seen k top_seen) (top_walk chain_modules (codes "Chain") (top_gens (suc k))) (chain_instances k) (walk_ends k h) (counts_under k h))
     ∙ rw (few_cells k h) (ap Ok (designed_so k))

@@ -1,9 +1,8 @@
 -- The driven signals of the chain's design have an order.
-use Rattle.std.proofs.Common.{◌≡◌, ℕ, zero, suc, ◌+◌, ◌<◌, ◌≤◌, ◌==◌, Bool, true, false, true≢false, ◌&&◌, ◌||◌, List, [], ◌∷◌, ◌++◌, map, Option, Some, None, ◌⊎◌, inl, inr, refl, sym, ap, subst, ◌∙◌, arith, lit<}
-use Rattle.std.proofs.lemmas.Option.{none-some}
-use Rattle.std.specs.Prelude.{codes, bytes_eq, slice_get, if◌then◌else◌}
+use Rattle.std.proofs.Common.{◌≡◌, ℕ, zero, suc, ◌+◌, ◌<◌, Bool, true, false, true≢false, ◌||◌, [], ◌∷◌, map, Option, Some, None, inl, inr, refl, sym, subst, ◌∙◌, arith, lit<}
+use Rattle.std.specs.Prelude.{codes, bytes_eq, if◌then◌else◌}
 use Rattle.std.specs.List.{enumerate_from, flat_map}
-use Rattle.list_core.specs.Lists.{EachOf, IsIn}
+use Rattle.list_core.specs.Lists.{EachOf}
 use Rattle.list_core.proofs.Lists.{each_member, each_append}
 use Rattle.list_core.proofs.Listing.{got_in}
 use Rattle.tree_core.specs.Tree.{Leaf}
@@ -12,33 +11,25 @@ use Rattle.exec_core.specs.Trees.{block_trees}
 use Rattle.exec_core.specs.Leaves.{EachLeaf}
 use Rattle.exec_core.specs.Whole.{Place}
 use Rattle.exec_core.specs.Design.{Process, place, driver_of}
-use Rattle.design_core.specs.declared.Instance.{Instance}
 use Rattle.design_core.specs.declared.Signal.{Signal}
-use Rattle.design_core.specs.Design as design
-use Rattle.design_exec.specs.Processes.{Numbered, Link, process, processes_of, instances_of, processes_at, links_at, none_or, conn_link, child_links, output_link, numbers_below, child_at, kept_below}
+use Rattle.design_exec.specs.Processes.{Numbered, process, processes_of, instances_of, processes_at, links_at, none_or, conn_link, child_links, output_link, numbers_below, child_at, kept_below}
 use Rattle.check_exec.specs.Premises.{IsSound}
-use Rattle.check_exec.proofs.Facts.{same_name, each_flat, each_map}
-use Rattle.place_core.specs.Orders.{Pair, TellsOrder}
-use Rattle.dep_order.specs.Results.{TellsLoop}
+use Rattle.check_exec.proofs.Facts.{same_name, each_flat}
 use Rattle.dep_order.specs.Either.{HasOrder, HasLoop}
 use Rattle.dep_order.proofs.Found.{order_or_loop}
-use Rattle.chain_laws.proofs.Spans.{each_span}
-use Rattle.chain_laws.proofs.Cells.{span, cell_signals, comb_body, cell_output, cell_blocks, chain_signals, top_block, design_child, design_cell, design_top, chain_design}
-use Rattle.chain_laws.proofs.Names.{output_name}
-use Rattle.chain_laws.proofs.Ranks.{LinkLower, IfTree, ProcessLower, all_lower, no_loop}
+use Rattle.chain_laws.proofs.Cells.{span, cell_signals, comb_body, cell_output, cell_blocks, chain_signals, output_block, design_child, design_cell, design_top, chain_design}
+use Rattle.chain_laws.proofs.Names.{cell_output_name}
+use Rattle.chain_laws.proofs.Ranks.{LinkLower, IfTree, ProcessLower, all_lower, ranks_rule_out}
 
 -- an input of the top, a register, an output of a cell, that output in the top, and what is driven from there
 abbrev rank_in : ℕ → Name → ℕ
 rank_in zero x = if bytes_eq x (codes "x") then 0 else if bytes_eq x (codes "y") then 3 else 2
 rank_in (suc i) x = if bytes_eq x (codes "s") then 0 else if bytes_eq x (codes "y") then 1 else 3
 
-abbrev rank : Place → ℕ
-rank p = rank_in p.instance p.name
+abbrev signal_rank : Place → ℕ
+signal_rank p = rank_in p.instance p.name
 
 -- ---- the instances, with their numbers
-
-abbrev NumberedCells : (Numbered → Type 0) → ℕ → ℕ → Type 0
-NumberedCells P n k = EachOf P (enumerate_from n (span design_cell k 0))
 
 cells_numbered : (P : Numbered → Type 0) → ((i : ℕ) (j : ℕ) → P (suc i, design_cell j)) → (i n j : ℕ) → EachOf P (enumerate_from (suc i) (span design_cell j n))
 cells_numbered P h i zero j = tt
@@ -57,54 +48,54 @@ below_top k =
     each_flat (λ (j : ℕ). 0 < j) (kept_below 0) (instances_of (chain_design k))
     (λ a m. each_member (λ (r : Numbered). EachOf (λ (j : ℕ). 0 < j) (kept_below 0 r)) (instances_of (chain_design k)) (all_numbered (λ r. EachOf (λ (j : ℕ). 0 < j) (kept_below 0 r)) k tt (λ i j. (omega arith, tt))) a m)
 
-abbrev Behind : Option ℕ → Type 0
-Behind None = Unit {0}
-Behind (Some j) = 0 < j
+abbrev BehindTop : Option ℕ → Type 0
+BehindTop None = Unit {0}
+BehindTop (Some j) = 0 < j
 
-child_behind : (k i : ℕ) → Behind (child_at (chain_design k) 0 i)
+child_behind : (k i : ℕ) → BehindTop (child_at (chain_design k) 0 i)
 child_behind k i = by (child_at (chain_design k) 0 i) refl
   where
-    by : (o : Option ℕ) → child_at (chain_design k) 0 i ≡ o → Behind o
+    by : (o : Option ℕ) → child_at (chain_design k) 0 i ≡ o → BehindTop o
     by None e = tt
     by (Some j) e = each_member (λ (n : ℕ). 0 < n) (numbers_below (chain_design k) 0) (below_top k) j (got_in (numbers_below (chain_design k) 0) i j e)
 
 -- ---- links
 
-conns_lower : (i : ℕ) (o : Option ℕ) → Behind o → EachOf (LinkLower rank) (none_or (λ j. map (conn_link 0 j) (design_child i).conns) o)
+conns_lower : (i : ℕ) (o : Option ℕ) → BehindTop o → EachOf (LinkLower signal_rank) (none_or (λ j. map (conn_link 0 j) (design_child i).conns) o)
 conns_lower i None h = tt
 conns_lower i (Some zero) h = absurd (omega arith)
 conns_lower zero (Some (suc j)) h = (lit< tt, tt)
 conns_lower (suc i) (Some (suc j)) h = (lit< tt, tt)
 
-output_lower : (i : ℕ) (o : Option ℕ) → Behind o → EachOf (LinkLower rank) (none_or (λ j. (place 0 (output_name i), Leaf (place j (codes "y"))) ∷ []) o)
+output_lower : (i : ℕ) (o : Option ℕ) → BehindTop o → EachOf (LinkLower signal_rank) (none_or (λ j. (place 0 (cell_output_name i), Leaf (place j (codes "y"))) ∷ []) o)
 output_lower i None h = tt
 output_lower i (Some zero) h = absurd (omega arith)
 output_lower i (Some (suc j)) h = (lit< tt, tt)
 
-children_lower : (k m i n : ℕ) → EachOf (LinkLower rank) (flat_map (child_links (chain_design k) 0) (enumerate_from m (span design_child i n)))
+children_lower : (k m i n : ℕ) → EachOf (LinkLower signal_rank) (flat_map (child_links (chain_design k) 0) (enumerate_from m (span design_child i n)))
 children_lower k m i zero = tt
-children_lower k m i (suc n) = each_append (LinkLower rank) (child_links (chain_design k) 0 (m, design_child i)) (flat_map (child_links (chain_design k) 0) (enumerate_from (m + 1) (span design_child (suc i) n))) (conns_lower i (child_at (chain_design k) 0 m) (child_behind k m)) (children_lower k (m + 1) (suc i) n)
+children_lower k m i (suc n) = each_append (LinkLower signal_rank) (child_links (chain_design k) 0 (m, design_child i)) (flat_map (child_links (chain_design k) 0) (enumerate_from (m + 1) (span design_child (suc i) n))) (conns_lower i (child_at (chain_design k) 0 m) (child_behind k m)) (children_lower k (m + 1) (suc i) n)
 
-outputs_lower : (k i n : ℕ) → EachOf (LinkLower rank) (flat_map (λ (s : Signal). output_link (chain_design k) 0 s.name s.kind) (span cell_output i n))
+outputs_lower : (k i n : ℕ) → EachOf (LinkLower signal_rank) (flat_map (λ (s : Signal). output_link (chain_design k) 0 s.name s.kind) (span cell_output i n))
 outputs_lower k i zero = tt
-outputs_lower k i (suc n) = each_append (LinkLower rank) (output_link (chain_design k) 0 (output_name i) (cell_output i).kind) (flat_map (λ (s : Signal). output_link (chain_design k) 0 s.name s.kind) (span cell_output (suc i) n)) (output_lower i (child_at (chain_design k) 0 i) (child_behind k i)) (outputs_lower k (suc i) n)
+outputs_lower k i (suc n) = each_append (LinkLower signal_rank) (output_link (chain_design k) 0 (cell_output_name i) (cell_output i).kind) (flat_map (λ (s : Signal). output_link (chain_design k) 0 s.name s.kind) (span cell_output (suc i) n)) (output_lower i (child_at (chain_design k) 0 i) (child_behind k i)) (outputs_lower k (suc i) n)
 
-top_links : (k : ℕ) → EachOf (LinkLower rank) (links_at (chain_design k) (0, design_top))
-top_links k = each_append (LinkLower rank) (flat_map (child_links (chain_design k) 0) (enumerate_from 0 (span design_child 0 (suc k)))) (flat_map (λ (s : Signal). output_link (chain_design k) 0 s.name s.kind) (chain_signals (suc k))) (children_lower k 0 0 (suc k)) (outputs_lower k 0 (suc k))
+top_links : (k : ℕ) → EachOf (LinkLower signal_rank) (links_at (chain_design k) (0, design_top))
+top_links k = each_append (LinkLower signal_rank) (flat_map (child_links (chain_design k) 0) (enumerate_from 0 (span design_child 0 (suc k)))) (flat_map (λ (s : Signal). output_link (chain_design k) 0 s.name s.kind) (chain_signals (suc k))) (children_lower k 0 0 (suc k)) (outputs_lower k 0 (suc k))
 
-links_lower : (k : ℕ) → EachOf (LinkLower rank) (processes_of (chain_design k)).links
+links_lower : (k : ℕ) → EachOf (LinkLower signal_rank) (processes_of (chain_design k)).links
 links_lower k =
-    each_flat (LinkLower rank) (links_at (chain_design k)) (instances_of (chain_design k))
-    (λ a m. each_member (λ (r : Numbered). EachOf (LinkLower rank) (links_at (chain_design k) r)) (instances_of (chain_design k)) (all_numbered (λ r. EachOf (LinkLower rank) (links_at (chain_design k) r)) k (top_links k) (λ i j. tt)) a m)
+    each_flat (LinkLower signal_rank) (links_at (chain_design k)) (instances_of (chain_design k))
+    (λ a m. each_member (λ (r : Numbered). EachOf (LinkLower signal_rank) (links_at (chain_design k) r)) (instances_of (chain_design k)) (all_numbered (λ r. EachOf (LinkLower signal_rank) (links_at (chain_design k) r)) k (top_links k) (λ i j. tt)) a m)
 
 -- ---- processes
 
-abbrev Ends : Process → Name → Type 0
-Ends b x = IfTree rank (λ t. EachLeaf (λ y. rank (place b.instance y) < rank (place b.instance x)) t) (block_trees b.body (Now x))
+abbrev EndsLower : Process → Name → Type 0
+EndsLower b x = IfTree signal_rank (λ t. EachLeaf (λ y. signal_rank (place b.instance y) < signal_rank (place b.instance x)) t) (block_trees b.body (Now x))
 
 -- its only own name is `y`
-only_y : (b : Process) → Ends b (codes "y") → (x : Name) (c : Bool) → bytes_eq (codes "y") x ≡ c → (c ≡ false → own b.body x ≡ false) → own b.body x ≡ true → Ends b x
-only_y b h x true e f g = subst (Ends b) (same_name (codes "y") x e) h
+only_y : (b : Process) → EndsLower b (codes "y") → (x : Name) (c : Bool) → bytes_eq (codes "y") x ≡ c → (c ≡ false → own b.body x ≡ false) → own b.body x ≡ true → EndsLower b x
+only_y b h x true e f g = subst (EndsLower b) (same_name (codes "y") x e) h
 only_y b h x false e f g = absurd (true≢false (sym g ∙ f refl))
 
 when_false : (c : Bool) → c ≡ false → (c || false) ≡ false
@@ -113,23 +104,24 @@ when_false c e = rw e refl
 when_all_false : (c : Bool) → c ≡ false → (c || (((c || false) || false) || false)) ≡ false
 when_all_false c e = rw e refl
 
-top_process : (k : ℕ) → ProcessLower rank (process 0 (chain_signals (suc k)) (top_block 4 k))
-top_process k x e = only_y (process 0 (chain_signals (suc k)) (top_block 4 k)) (lit< tt) x (bytes_eq (codes "y") x) refl (when_false (bytes_eq (codes "y") x)) e
+top_process : (k : ℕ) → ProcessLower signal_rank (process 0 (chain_signals (suc k)) (output_block 4 k))
+top_process k x e = only_y (process 0 (chain_signals (suc k)) (output_block 4 k)) (lit< tt) x (bytes_eq (codes "y") x) refl (when_false (bytes_eq (codes "y") x)) e
 
-cell_processes : (i : ℕ) → EachOf (ProcessLower rank) (map (process (suc i) cell_signals) (cell_blocks 0 1 2 3))
-cell_processes i =
-    (λ x e. only_y (process (suc i) cell_signals (record { line = 5; clocked = false; body = comb_body 0 1 2 })) (lit< tt, (lit< tt, tt), lit< tt) x (bytes_eq (codes "y") x) refl (when_all_false (bytes_eq (codes "y") x)) e,
-    (λ x e. absurd (true≢false (sym e)), tt))
+cell_processes : (i : ℕ) → EachOf (ProcessLower signal_rank) (map (process (suc i) cell_signals) (cell_blocks 0 1 2 3))
+cell_processes i = (
+  λ x e. only_y (process (suc i) cell_signals (record { line = 5; clocked = false; body = comb_body 0 1 2 })) (lit< tt, (lit< tt, tt), lit< tt) x (bytes_eq (codes "y") x) refl (when_all_false (bytes_eq (codes "y") x)) e,
+  (λ x e. absurd (true≢false (sym e)), tt),
+)
 
-processes_lower : (k : ℕ) → EachOf (ProcessLower rank) (processes_of (chain_design k)).processes
+processes_lower : (k : ℕ) → EachOf (ProcessLower signal_rank) (processes_of (chain_design k)).processes
 processes_lower k =
-    each_flat (ProcessLower rank) (processes_at (chain_design k)) (instances_of (chain_design k))
-    (λ a m. each_member (λ (r : Numbered). EachOf (ProcessLower rank) (processes_at (chain_design k) r)) (instances_of (chain_design k)) (all_numbered (λ r. EachOf (ProcessLower rank) (processes_at (chain_design k) r)) k (top_process k, tt) (λ i j. cell_processes i)) a m)
+    each_flat (ProcessLower signal_rank) (processes_at (chain_design k)) (instances_of (chain_design k))
+    (λ a m. each_member (λ (r : Numbered). EachOf (ProcessLower signal_rank) (processes_at (chain_design k) r)) (instances_of (chain_design k)) (all_numbered (λ r. EachOf (ProcessLower signal_rank) (processes_at (chain_design k) r)) k (top_process k, tt) (λ i j. cell_processes i)) a m)
 
 -- ---- the order
 
 no_loop_told : (k : ℕ) → HasLoop (chain_design k) → ⊥
-no_loop_told k h = no_loop rank (driver_of (processes_of (chain_design k))) (all_lower rank (chain_design k) (links_lower k) (processes_lower k)) h.tells.loop h.tells.depend
+no_loop_told k h = ranks_rule_out signal_rank (driver_of (processes_of (chain_design k))) (all_lower signal_rank (chain_design k) (links_lower k) (processes_lower k)) h.tells.loop h.tells.depend
 
 pub chain_has_order : (k : ℕ) → IsSound (chain_design k) → HasOrder (chain_design k)
 chain_has_order k sound = elim (order_or_loop (chain_design k) sound) [ inl order ↦ order | inr loop ↦ absurd (no_loop_told k loop) ]

@@ -1,22 +1,20 @@
 -- The driven signals of the chain depend on one another in no loop: each has a rank above those of all that it reads.
-use Rattle.std.proofs.Common.{◌≡◌, ℕ, zero, suc, ◌+◌, ◌<◌, ◌≤◌, ◌==◌, Bool, true, false, true≢false, ◌&&◌, ◌||◌, List, [], ◌∷◌, ◌++◌, map, Option, Some, None, find, ◌⊎◌, inl, inr, refl, sym, ap, subst, ◌∙◌, arith, lit<}
+use Rattle.std.proofs.Common.{◌≡◌, ℕ, ◌<◌, ◌==◌, Bool, true, false, true≢false, ◌&&◌, List, [], ◌∷◌, Option, Some, None, find, inl, inr, refl, sym, subst, arith}
 use Rattle.std.proofs.lemmas.Option.{none-some}
 use Rattle.std.proofs.lemmas.Bool.Decides.{nat_tests}
-use Rattle.std.specs.Prelude.{codes, bytes_eq, slice_get, option_map, option_and_then, if◌then◌else◌}
-use Rattle.std.specs.List.{enumerate_from, flat_map}
-use Rattle.list_core.specs.Lists.{EachOf, IsIn}
-use Rattle.list_core.proofs.Lists.{each_member, each_from, find_member, each_append}
-use Rattle.list_core.proofs.Listing.{got_in}
+use Rattle.std.specs.Prelude.{bytes_eq, option_map, option_and_then}
+use Rattle.list_core.specs.Lists.{EachOf}
+use Rattle.list_core.proofs.Lists.{each_member, find_member}
 use Rattle.list_core.proofs.Options.{some_same}
 use Rattle.tree_core.specs.Tree.{Tree, Const, Leaf, One, Two, Mux}
-use Rattle.exec_core.specs.Block.{Name, Now, own, body_assigns}
+use Rattle.exec_core.specs.Block.{Name, Now, own}
 use Rattle.exec_core.specs.Trees.{block_trees}
 use Rattle.exec_core.specs.Leaves.{EachLeaf}
 use Rattle.exec_core.specs.Whole.{Place, Drivers}
-use Rattle.exec_core.specs.Design.{Process, place, same_place, moved, links_to, assigns_to, process_tree, or_else, driver_of}
+use Rattle.exec_core.specs.Design.{Process, place, moved, links_to, assigns_to, process_tree, or_else, driver_of}
 use Rattle.design_core.specs.Design as design
-use Rattle.design_exec.specs.Processes.{Numbered, Link, processes_of, instances_of, processes_at, links_at, child_links, output_link, numbers_below, child_at, kept_below}
-use Rattle.check_exec.proofs.Facts.{same_name, each_flat, each_map}
+use Rattle.design_exec.specs.Processes.{Link, processes_of}
+use Rattle.check_exec.proofs.Facts.{same_name}
 use Rattle.dep_order.specs.Standing.{SomeLeaf}
 use Rattle.dep_order.specs.Results.{DependsOn, Depend, IsLoop}
 
@@ -47,9 +45,9 @@ module _ (rank : Place → ℕ) where
   along d h p [] q s = one_lower d h p q s
   along d h p (r ∷ rs) q s = let first : rank r < rank p = one_lower d h p r s.0 in let rest : rank q < rank r = along d h r rs q s.1 in omega arith
 
-  pub no_loop : (d : Drivers) → AllLower d → (loop : List Place) → IsLoop d loop → ⊥
-  no_loop d h [] s = s
-  no_loop d h (p ∷ ps) s = let lt : rank p < rank p = along d h p ps p s.0 in omega arith
+  pub ranks_rule_out : (d : Drivers) → AllLower d → (loop : List Place) → IsLoop d loop → ⊥
+  ranks_rule_out d h [] s = s
+  ranks_rule_out d h (p ∷ ps) s = let lt : rank p < rank p = along d h p ps p s.0 in omega arith
 
   -- ---- links and processes
 

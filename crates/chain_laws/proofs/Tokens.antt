@@ -1,9 +1,7 @@
 -- The tokens of the chain's text, computed.
 use Rattle.std.proofs.Common.{◌≡◌, ℕ, zero, suc, List, [], ◌∷◌, ◌++◌, map, Option, Some, None, refl, sym, subst}
 use Rattle.std.specs.Prelude.{codes, option_map, IsSomeAnd, false}
-use Rattle.gen_token.specs.declared.Keyword.{Keyword}
 use Rattle.gen_token.specs.declared.Keyword.TheVariants as keyword
-use Rattle.gen_token.specs.declared.Mark.{Mark}
 use Rattle.gen_token.specs.declared.Mark.TheVariants as mark
 use Rattle.gen_token.specs.Words.{Word, Name, Number, Literal, Reserved, Sign, Tok}
 use Rattle.gen_token.specs.Tokens.{name_at, digits_at, value_at, after_digits, number_at, mark_at, token_at, skip, TokensFrom, AreTokens}
@@ -15,13 +13,13 @@ abbrev tok : ℕ → Word → Tok
 tok line word = record { line = line; word = word }
 
 -- a token with those behind it
-abbrev behind : (ℕ × List ℕ → Option (List Tok)) → ℕ → Option (Word × List ℕ) → Option (List Tok)
-behind more line None = None
-behind more line (Some found) = option_map (λ toks. tok line found.0 ∷ toks) (more (skip false line found.1))
+abbrev put_before : (ℕ × List ℕ → Option (List Tok)) → ℕ → Option (Word × List ℕ) → Option (List Tok)
+put_before more line None = None
+put_before more line (Some found) = option_map (λ toks. tok line found.0 ∷ toks) (more (skip false line found.1))
 
 tokens_step : (ℕ × List ℕ → Option (List Tok)) → ℕ → List ℕ → Option (List Tok)
 tokens_step more line [] = Some []
-tokens_step more line (byte ∷ bytes) = behind more line (token_at (byte ∷ bytes))
+tokens_step more line (byte ∷ bytes) = put_before more line (token_at (byte ∷ bytes))
 
 -- the tokens of a text that has fewer than so many
 tokens_by : ℕ → ℕ × List ℕ → Option (List Tok)
@@ -71,7 +69,7 @@ TokensOf line text None = Unit {0}
 TokensOf line text (Some toks) = TokensFrom (line, text) toks None
 
 step_tokens : (line : ℕ) (text : List ℕ) (found : Option (Word × List ℕ)) → token_at text ≡ found → (more : ℕ × List ℕ → Option (List Tok))
-    → ((line : ℕ) (text : List ℕ) → TokensOf line text (more (line, text))) → TokensOf line text (behind more line found)
+    → ((line : ℕ) (text : List ℕ) → TokensOf line text (more (line, text))) → TokensOf line text (put_before more line found)
 step_tokens line text None e more h = tt
 step_tokens line text (Some found) e more h = by (more (skip false line found.1)) (h (skip false line found.1).0 (skip false line found.1).1)
   where

@@ -1,11 +1,9 @@
 -- The modules that the chain's text is read as.
-use Rattle.std.proofs.Common.{◌≡◌, ℕ, Bool, true, false, List, [], ◌∷◌, Option, Some, None, Ok, refl, lit≤}
+use Rattle.std.proofs.Common.{◌≡◌, ℕ, Bool, true, false, List, [], ◌∷◌, Some, None, Ok, refl, lit≤}
 use Rattle.std.specs.Prelude.{codes}
-use Rattle.std.specs.List.{list_all}
-use Rattle.gen_token.specs.Bytes.{is_text_byte}
 use Rattle.gen_tree.specs.declared.IntOp.TheVariants as int_op
 use Rattle.gen_tree.specs.declared.Op.TheVariants as op
-use Rattle.gen_tree.specs.Tree.{Int, num, var, bin, Fam, plain, Expr, read, out, value, binary, slice, assign, choose, Stmts, no_stmt, stmt, no_else, Param, Conn, Item, reg, inst, comb, ff, repeat_items, Items, no_item, item, Port, Module}
+use Rattle.gen_tree.specs.Tree.{Int, num, var, bin, Fam, plain, Expr, read, out, value, binary, slice, assign, choose, Stmts, no_stmt, stmt, no_else, Item, reg, inst, comb, ff, repeat_items, Items, no_item, item, Port, Module}
 use Rattle.gen_text.specs.Source.{Reads}
 use Rattle.gen_text.specs.Reading.{source_by, source_at, module_at, item_at, stmt_at, expr_at, int_at, each_by, until_by}
 use Rattle.gen_text.proofs.Law.{read_found}
@@ -18,11 +16,11 @@ plainly x = record { name = x; index = None }
 abbrev pub member : List ℕ → Int → Fam
 member x i = record { name = x; index = Some i }
 
-abbrev pub reads : List ℕ → Expr
-reads x = read (plainly x)
+abbrev pub reads_name : List ℕ → Expr
+reads_name x = read (plainly x)
 
-abbrev pub port_at : ℕ → Bool → List ℕ → Port
-port_at line output x = record { line = line; output = output; name = x; width = num 16 }
+abbrev pub port_16 : ℕ → Bool → List ℕ → Port
+port_16 line output x = record { line = line; output = output; name = x; width = num 16 }
 
 -- ---- the cell
 
@@ -31,18 +29,18 @@ cell_register = reg 4 (plainly (codes "s")) (num 16) (plain 16 0)
 
 abbrev pub cell_comb : Stmts
 cell_comb =
-    stmt (assign 6 (plainly (codes "y")) (reads (codes "s")))
-    (stmt (choose 7 (slice (reads (codes "s")) (num 0) (num 0)) (stmt (assign 8 (plainly (codes "y")) (binary op.Xor (reads (codes "s")) (value (plain 16 32768)))) no_stmt) no_else) no_stmt)
+    stmt (assign 6 (plainly (codes "y")) (reads_name (codes "s")))
+    (stmt (choose 7 (slice (reads_name (codes "s")) (num 0) (num 0)) (stmt (assign 8 (plainly (codes "y")) (binary op.Xor (reads_name (codes "s")) (value (plain 16 32768)))) no_stmt) no_else) no_stmt)
 
 abbrev pub cell_ff : Stmts
-cell_ff = stmt (assign 11 (plainly (codes "s")) (reads (codes "x"))) no_stmt
+cell_ff = stmt (assign 11 (plainly (codes "s")) (reads_name (codes "x"))) no_stmt
 
 abbrev pub cell_module : Module
 cell_module = record {
   line = 1;
   name = codes "Cell";
   params = [];
-  ports = port_at 2 false (codes "x") ∷ port_at 3 true (codes "y") ∷ [];
+  ports = port_16 2 false (codes "x") ∷ port_16 3 true (codes "y") ∷ [];
   items = item cell_register (item (comb 5 cell_comb) (item (ff 11 cell_ff) no_item));
 }
 
@@ -52,12 +50,12 @@ cell_module = record {
 abbrev pub cell_item : ℕ → Int → Expr → Item
 cell_item line i e = inst line (member (codes "c") i) (codes "Cell") [] (record { line = line; port = codes "x"; value = e } ∷ [])
 
-abbrev pub before : List ℕ → Int
-before x = bin int_op.Sub (var x) (num 1)
+abbrev pub one_before : List ℕ → Int
+one_before x = bin int_op.Sub (var x) (num 1)
 
 -- the output of the cell before the one of this number
 abbrev pub output_before : List ℕ → Expr
-output_before x = out (member (codes "c") (before x)) (codes "y")
+output_before x = out (member (codes "c") (one_before x)) (codes "y")
 
 abbrev pub loop_body : Items
 loop_body = item (cell_item 18 (var (codes "i")) (output_before (codes "i"))) no_item
@@ -66,14 +64,14 @@ abbrev pub top_comb : Stmts
 top_comb = stmt (assign 20 (plainly (codes "y")) (output_before (codes "N"))) no_stmt
 
 abbrev pub top_items : Items
-top_items = item (cell_item 16 (num 0) (reads (codes "x"))) (item (repeat_items 17 (codes "i") (num 1) (var (codes "N")) loop_body) (item (comb 20 top_comb) no_item))
+top_items = item (cell_item 16 (num 0) (reads_name (codes "x"))) (item (repeat_items 17 (codes "i") (num 1) (var (codes "N")) loop_body) (item (comb 20 top_comb) no_item))
 
 abbrev pub top_module : Module
 top_module = record {
   line = 13;
   name = codes "Chain";
   params = record { name = codes "N"; value = num 1 } ∷ [];
-  ports = port_at 14 false (codes "x") ∷ port_at 15 true (codes "y") ∷ [];
+  ports = port_16 14 false (codes "x") ∷ port_16 15 true (codes "y") ∷ [];
   items = top_items;
 }
 
