@@ -18,7 +18,7 @@ use Rattle.machine_core.proofs.Readers.{some_reader}
 use Rattle.batch_run.specs.Texts.{most_requests, requests_fault}
 use Rattle.demo_run.specs.Chain.{chain_source, chain_top}
 use Rattle.demo_run.specs.Asked.{Given, Contents, HasRows, RefusesDesign, RefusesStimulus, RefusesRequests, Held, ShowsLine, line_of, AsksDemo, NoDesign, NoStimulus, NoRequests, Accepted}
-use Rattle.chain_laws.specs.Laws.{IsCellCount, StimuliAreAccepted, RequestsDecide, NoneIsRefused}
+use Rattle.chain_laws.specs.Laws.{IsCellCount, StimuliAreAccepted, RequestsDecide, NoneIsRefused, NoneEndsRefused}
 use Rattle.chain_laws.proofs.Cells.{chain_design}
 use Rattle.chain_laws.proofs.Accepted.{chain_is_sound, chain_is_accepted, only_chain}
 use Rattle.chain_laws.proofs.Stimuli.{x_input, chain_rows, chain_rows_are, is_stimulus, chain_inputs, chain_outputs, chain_registers, y_output}
@@ -59,6 +59,9 @@ none_is_refused heard files given status text h (NoDesign r) = let at = more_tha
 none_is_refused heard files given status text h (NoStimulus r) = let at = more_than_none given.number h in absurd (no_stimulus_refused at.0 (omega arith) given at.1 status text r)
 none_is_refused heard files given status text h (NoRequests r) = inr r.status_is
 none_is_refused heard files given status text h (Accepted s) = inl s.status_is
+
+pub none_ends_refused : NoneEndsRefused
+none_ends_refused heard files given status old new h e = none_is_refused heard files given status e.text h e.asked
 
 -- ---- what is asked for instead
 

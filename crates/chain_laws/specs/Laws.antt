@@ -1,5 +1,5 @@
 -- The demo's design and its stimulus are accepted for each number of cells that a demo may have, so that none of its demos is refused for them.
-use Rattle.std.specs.Prelude.{◌≡◌, ℕ, ◌≤◌, List, length, Some, Ok, ◌⊎◌, nat_le, if◌then◌else◌}
+use Rattle.std.specs.Prelude.{◌≡◌, ℕ, ◌≤◌, List, length, Option, Some, Ok, ◌⊎◌, nat_le, if◌then◌else◌}
 use Rattle.bv_core.specs.Value.{Bits}
 use Rattle.listen.specs.Pairs.{Heard}
 use Rattle.design_core.specs.declared.Ports.{Ports}
@@ -7,7 +7,7 @@ use Rattle.design_core.specs.Design.{Design}
 use Rattle.design_judge.specs.Judgement.{IsAccepted, ArePortsOf}
 use Rattle.batch_run.specs.Texts.{most_requests}
 use Rattle.demo_run.specs.Chain.{chain_source, chain_top}
-use Rattle.demo_run.specs.Asked.{Given, Contents, HasRows, AsksDemo}
+use Rattle.demo_run.specs.Asked.{Given, Contents, HasRows, AsksDemo, EndsAsAsked}
 
 -- how many cells a demo may have
 pub record IsCellCount (n : ℕ) : Type 0 where
@@ -42,4 +42,10 @@ RequestsDecide =
 abbrev pub NoneIsRefused : Type 0
 NoneIsRefused =
     (heard : List Heard) (files : Contents) (given : Given) (status : ℕ) (text : List ℕ) → IsCellCount given.number → AsksDemo heard files given status text
+    → (status ≡ 0) ⊎ (status ≡ 6)
+
+-- so none that ends as the files ask ends with the line of a refusal
+abbrev pub NoneEndsRefused : Type 0
+NoneEndsRefused =
+    (heard : List Heard) (files : Contents) (given : Given) (status : ℕ) (old new : Option (List ℕ)) → IsCellCount given.number → EndsAsAsked heard files given status old new
     → (status ≡ 0) ⊎ (status ≡ 6)

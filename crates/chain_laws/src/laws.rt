@@ -1,6 +1,6 @@
 //! The laws of the demo's design, of its stimulus, and of what its demos ask for.
 
-ghost use Rattle.chain_laws.specs.Laws.{ChainsAreAccepted, StimuliAreAccepted, RequestsDecide, NoneIsRefused};
+ghost use Rattle.chain_laws.specs.Laws.{ChainsAreAccepted, StimuliAreAccepted, RequestsDecide, NoneIsRefused, NoneEndsRefused};
 
 /// The law that the source of the chain is accepted as a design for each number of cells from 1 to 4,000, and the stimulus for the
 /// ports of that design. Computes nothing.
@@ -10,8 +10,9 @@ pub fn chains_are_accepted()
 {}
 
 /// The law that a demo of so many cells asks for status 0 where its requests have at most 16 MiB, for 6 where they have more, and for
-/// no other. Computes nothing.
+/// no other; and that none which ends as its files ask ends with another. Computes nothing.
 pub fn requests_decide()
     ensures status { RequestsDecide }
     ensures no_refusal { NoneIsRefused }
+    ensures ends { NoneEndsRefused }
 {}
