@@ -31,6 +31,9 @@ none_in_span find f k (suc n) h = rw (h k (omega arith) (omega arith)) (none_in_
 two_none : {A : Type 0} (a b : Option A) → a ≡ None → b ≡ None → earlier a b ≡ None
 two_none a b e f = rw (e, f) refl
 
+abbrev both_variants : ℕ → List Variant
+both_variants k = top_variant k ∷ cell_variant ∷ []
+
 -- ---- names
 
 signal_there : (k i : ℕ) → i ≤ k → named is_child_output (chain_signals (suc k)) (cell_output_name i) ≡ true
@@ -43,7 +46,7 @@ known_in_child : (k i : ℕ) → i ≤ k → unknown_in_child (scope_of (top_var
 known_in_child k zero h = refl
 known_in_child k (suc i) h = rw (child_there k i (omega arith)) refl
 
-no_unknown : (k : ℕ) → refused UnknownName (top_variant k ∷ cell_variant ∷ []) (top_variant k) ≡ None
+no_unknown : (k : ℕ) → refused UnknownName (both_variants k) (top_variant k) ≡ None
 no_unknown k = two_none _ _ (none_in_span (unknown_in_child (scope_of (top_variant k))) design_child 0 (suc k) (λ i l m. known_in_child k i (omega arith))) (rw (child_there k k (omega arith)) refl)
 
 -- ---- each name once
@@ -82,7 +85,7 @@ things_named k =
     (ap (map (λ (p : ℕ × Name). p.1)) (map_span signal_thing cell_output 0 (suc k)) ∙ map_span (λ (p : ℕ × Name). p.1) (λ i. signal_thing (cell_output i)) 0 (suc k))
     (ap (map (λ (p : ℕ × Name). p.1)) (map_span child_thing design_child 0 (suc k)) ∙ map_span (λ (p : ℕ × Name). p.1) (λ i. child_thing (design_child i)) 0 (suc k)))
 
-no_duplicate : (k : ℕ) → suc k ≤ 4000 → refused DuplicateName (top_variant k ∷ cell_variant ∷ []) (top_variant k) ≡ None
+no_duplicate : (k : ℕ) → suc k ≤ 4000 → refused DuplicateName (both_variants k) (top_variant k) ≡ None
 no_duplicate k h = two_none _ _ (none_twice none (things (top_variant k)) (subst AreApart (sym (things_named k)) (names_apart (suc k) h)) (all_free (map (λ p. p.1) (things (top_variant k))))) refl
 
 -- ---- widths
@@ -91,7 +94,7 @@ sized_child : (i : ℕ) → bad_in_child (design_child i) ≡ None
 sized_child zero = refl
 sized_child (suc i) = refl
 
-no_bad_width : (k : ℕ) → refused BadWidth (top_variant k ∷ cell_variant ∷ []) (top_variant k) ≡ None
+no_bad_width : (k : ℕ) → refused BadWidth (both_variants k) (top_variant k) ≡ None
 no_bad_width k = two_none _ _ (none_in_span bad_signal cell_output 0 (suc k) (λ i l m. refl)) (two_none _ _ (none_in_span bad_in_child design_child 0 (suc k) (λ i l m. sized_child i)) refl)
 
 abbrev Is16 : Option ℕ → Type 0
@@ -127,14 +130,11 @@ width_y k = stays_16 0 (suc k) (put_signals any_kind (chain_signals 0) no_width)
 width_out : (k i : ℕ) → i ≤ k → Is16 (chain_widths k (cell_output_name i))
 width_out k i h = output_16 0 (suc k) (put_signals any_kind (chain_signals 0) no_width) i (omega arith) (omega arith)
 
-abbrev both_variants : ℕ → List Variant
-both_variants k = top_variant k ∷ cell_variant ∷ []
-
 matching_child : (k i : ℕ) → i ≤ k → mismatch_in_child (chain_widths k) (both_variants k) (design_child i) ≡ None
 matching_child k zero h = rw (width_x k) refl
 matching_child k (suc i) h = rw (width_out k i (omega arith)) refl
 
-no_mismatch : (k : ℕ) → refused WidthMismatch (top_variant k ∷ cell_variant ∷ []) (top_variant k) ≡ None
+no_mismatch : (k : ℕ) → refused WidthMismatch (both_variants k) (top_variant k) ≡ None
 no_mismatch k =
     two_none _ _ (none_in_span signal_mismatch cell_output 0 (suc k) (λ i l m. refl))
     (two_none _ _ (none_in_span (mismatch_in_child (chain_widths k) (both_variants k)) design_child 0 (suc k) (λ i l m. matching_child k i (omega arith)))
@@ -146,20 +146,20 @@ ports_known : (k i : ℕ) → i ≤ k → unknown_port_in_child (named is_child_
 ports_known k zero h = refl
 ports_known k (suc i) h = rw (signal_there k i (omega arith)) refl
 
-no_unknown_port : (k : ℕ) → refused UnknownPort (top_variant k ∷ cell_variant ∷ []) (top_variant k) ≡ None
+no_unknown_port : (k : ℕ) → refused UnknownPort (both_variants k) (top_variant k) ≡ None
 no_unknown_port k =
     two_none _ _ (none_in_span (unknown_port_in_child (named is_child_output (chain_signals (suc k))) (both_variants k)) design_child 0 (suc k) (λ i l m. ports_known k i (omega arith)))
     (rw (signal_there k k (omega arith)) refl)
 
-no_unbound : (k : ℕ) → refused UnboundInput (top_variant k ∷ cell_variant ∷ []) (top_variant k) ≡ None
+no_unbound : (k : ℕ) → refused UnboundInput (both_variants k) (top_variant k) ≡ None
 no_unbound k = none_in_span (unbound_in_child (both_variants k)) design_child 0 (suc k) (λ i l m. refl)
 
 -- ---- drivers
 
-no_second : (k : ℕ) → refused TwoDrivers (top_variant k ∷ cell_variant ∷ []) (top_variant k) ≡ None
+no_second : (k : ℕ) → refused TwoDrivers (both_variants k) (top_variant k) ≡ None
 no_second k = two_none _ _ (none_in_span twice_in_child design_child 0 (suc k) (λ i l m. refl)) refl
 
-no_undriven : (k : ℕ) → refused Undriven (top_variant k ∷ cell_variant ∷ []) (top_variant k) ≡ None
+no_undriven : (k : ℕ) → refused Undriven (both_variants k) (top_variant k) ≡ None
 no_undriven k = none_in_span (undriven_at (is_assigned (output_block 4 k ∷ []))) cell_output 0 (suc k) (λ i l m. refl)
 
 -- ---- the verdict

@@ -1,7 +1,7 @@
 -- Lists of members with numbers.
 use Rattle.std.proofs.Common.{◌≡◌, ℕ, zero, suc, ◌+◌, ◌<◌, ◌≤◌, inl, inr, [], ◌∷◌, ◌++◌, length, map, refl, ap, arith}
 use Rattle.std.proofs.lemmas.Bool.{cases_lt}
-use Rattle.list_core.specs.Lists.{EachOf, IsIn, IsNotIn, AreApart}
+use Rattle.list_core.specs.Lists.{IsIn, IsNotIn, AreApart}
 use Rattle.chain_laws.proofs.Cells.{span}
 
 pub length_span : {A : Type 0} (f : ℕ → A) (k n : ℕ) → length (span f k n) ≡ n
@@ -16,11 +16,6 @@ span_more f k (suc n) m e = ap (λ xs. f k ∷ xs) (span_more f (suc k) n m (ome
 pub map_span : {A B : Type 0} (g : A → B) (f : ℕ → A) (k n : ℕ) → map g (span f k n) ≡ span (λ i. g (f i)) k n
 map_span g f k zero = refl
 map_span g f k (suc n) = ap (λ xs. g (f k) ∷ xs) (map_span g f (suc k) n)
-
--- a fact of each
-pub each_span : {A : Type 0} (P : A → Type 0) (f : ℕ → A) (k n : ℕ) → ((i : ℕ) → k ≤ i → i < k + n → P (f i)) → EachOf P (span f k n)
-each_span P f k zero h = tt
-each_span P f k (suc n) h = (h k (omega arith) (omega arith), each_span P f (suc k) n (λ i l m. h i (omega arith) (omega arith)))
 
 pub in_span : {A : Type 0} (f : ℕ → A) (k n i : ℕ) → k ≤ i → i < k + n → IsIn (f i) (span f k n)
 in_span f k zero i l m = absurd (omega arith)
