@@ -9,7 +9,7 @@ use Rattle.vcd_read.specs.Changes.{Change}
 use Rattle.vcd_read.specs.Kept.{IsVcd}
 use Rattle.vcd_read.specs.Meaning.{Meaning}
 use Rattle.vcd_samples.specs.Samples.{before, up_to, is_rise, times_behind, times_of}
-use Rattle.vcd_trace.specs.Kept.{no_change, change_at, Divides, AreFirst, is_first, rises_at, times_at}
+use Rattle.vcd_trace.specs.Kept.{no_change, change_at, Divides, AreFirst, is_first, is_rise_place, times_at}
 
 -- a time is not later where it is before the next
 not_later : (a b : ℕ) → nat_lt a (b + 1) ≡ nat_le a b
@@ -80,7 +80,7 @@ filtered test true time = refl
 filtered test false time = refl
 
 rises_more : (changes : List Change) (clock : Var) (place : ℕ) → place < length changes
-    → filter (is_rise changes clock) (times_of (take (place + 1) changes)) ≡ filter (is_rise changes clock) (times_of (take place changes)) ++ cond (rises_at changes clock place) ((change_at changes place).time ∷ []) []
+    → filter (is_rise changes clock) (times_of (take (place + 1) changes)) ≡ filter (is_rise changes clock) (times_of (take place changes)) ++ cond (is_rise_place changes clock place) ((change_at changes place).time ∷ []) []
 rises_more changes clock place l =
     let time = (change_at changes place).time in
     ap (filter (is_rise changes clock)) (times_more changes place l)
@@ -89,15 +89,15 @@ rises_more changes clock place l =
     (filtered (is_rise changes clock) (is_first changes place) time ∙ kept_by (is_first changes place) (is_rise changes clock time) time)
 
 -- so many of these places have changes before the time of each change from a place on
-pub record ArePassed (changes : List Change) (places : List ℕ) (front place : ℕ) : Type 0 where
+pub record AreClockPassed (changes : List Change) (places : List ℕ) (front place : ℕ) : Type 0 where
   pub within : front ≤ length places
   pub early : (k p : ℕ) → k < front → place ≤ p → p < length changes → (change_at changes (get_or places k 0)).time < (change_at changes p).time
 
 -- of the changes in front of a place, the places of those that are the first of a time at which the clock rises
-pub record Walked (changes : List Change) (clock : Var) (places : List ℕ) (front place : ℕ) (rises : List ℕ) : Type 0 where
+pub record RisesWalked (changes : List Change) (clock : Var) (places : List ℕ) (front place : ℕ) (rises : List ℕ) : Type 0 where
   pub count : length rises ≤ place
   pub first : AreFirst changes rises
-  pub passed : ArePassed changes places front place
+  pub passed : AreClockPassed changes places front place
   pub times : times_at changes rises ≡ filter (is_rise changes clock) (times_of (take place changes))
 
 put_by : (rise : Bool) (changes : List Change) (place : ℕ) (places : List ℕ) → times_at changes (places ++ cond rise (place ∷ []) []) ≡ times_at changes places ++ cond rise ((change_at changes place).time ∷ []) []
@@ -128,14 +128,14 @@ left false c e = cc
 
 -- one change more
 module _ (m : Meaning) (kept : IsVcd m) (clock : Var) (places : List ℕ) (front old place : ℕ) (rises : List ℕ) (within : place < length m.changes)
-    (divides : Divides m.changes places (change_at m.changes place).time front) (walked : Walked m.changes clock places old place rises) where
-  passed : ArePassed m.changes places front (place + 1)
+    (divides : Divides m.changes places (change_at m.changes place).time front) (walked : RisesWalked m.changes clock places old place rises) where
+  passed : AreClockPassed m.changes places front (place + 1)
   passed = record {
     within = divides.within;
     early = λ k p f o w. let before = divides.early k f in let next = kept.rising place p no_change (omega (arith, o)) w in omega (arith, before, next);
   }
 
-  pub walked_on : (rise : Bool) → rise ≡ rises_at m.changes clock place → Walked m.changes clock places front (place + 1) (rises ++ cond rise (place ∷ []) [])
+  pub walked_on : (rise : Bool) → rise ≡ is_rise_place m.changes clock place → RisesWalked m.changes clock places front (place + 1) (rises ++ cond rise (place ∷ []) [])
   walked_on rise is = record {
     count = (let most = count_by rise place rises in let had = walked.count in omega (arith, most, had));
     first = record {

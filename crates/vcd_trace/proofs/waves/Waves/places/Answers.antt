@@ -5,5 +5,5 @@ use Rattle.vcd_trace.proofs.waves.Waves.places.Goals as goal
 
 pub returns-clause-rising : goal.returns-clause-rising
 returns-clause-rising c =
-    let are : c.group_at.result.now ≡ places_of c.args.code c.args.self.now.changes = search rules in
-    rising_of c.args.self.now c.args.code c.group_at.result.now are
+    let are : c.places_by.result.now ≡ places_of c.args.code c.args.self.now.changes = search rules in
+    rising_of c.args.self.now c.args.code c.places_by.result.now are

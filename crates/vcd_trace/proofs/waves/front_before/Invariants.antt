@@ -1,5 +1,5 @@
 use Rattle.std.proofs.Common.{ℕ, ◌-◌, ◌<◌, ◌≤◌, List, length, get_or}
-use Rattle.vcd_trace.proofs.waves.front_of.Given as goal
+use Rattle.vcd_trace.proofs.waves.front_before.Given as goal
 
 -- the places in front of low are below the bound, and those from high on are not
 pub record AreHalved (places : List ℕ) (bound low high : ℕ) : Type 0 where
