@@ -25,6 +25,8 @@ WORDS = {
     "stim": ", ; # // - x".split(),
     "json": "{ } [ ] , : \" null true false {} [] \\ \\u0000 \\ud800 //".split(),
 }
+# Values of which many stand in few bytes.
+DENSE = [b"0", b"[]", b"{}", b'""', b"[0]", b'{"":0}', b"[" * 100 + b"]" * 100, b'{"":' * 100 + b"0" + b"}" * 100]
 STRINGS = ["", "unset", "removed", "1'h1", "1'h0", "8'h05", "2'h1", "129'h0", "8'h5", "8'H05", "1'd1", "A", "A.u", "clk", "break", "step", "bye", "\0", "\u00e9", "\U0001f4a9", " ", "\n", "."]
 
 
@@ -137,8 +139,13 @@ def grown_symbols(data, chance, most):
         return data
     holder = chance.choice(found)
     at = chance.randrange(len(holder))
-    text = text_of(holder[at], chance)
-    holder[at] = Raw(again(text + b",", some_size(chance, most) - len(data)) + text)
+    text, size = text_of(holder[at], chance), some_size(chance, most) - len(data)
+    if isinstance(value, Pairs) and chance.random() < 0.3:
+        # A key that is passed over.
+        piece = chance.choice(DENSE)
+        value.append(("more", Raw(b"[" + again(piece + b",", size) + piece + b"]")))
+    else:
+        holder[at] = Raw(again(text + b",", size) + text)
     return text_of(value, chance)
 
 

@@ -9,13 +9,13 @@ import built
 answers = built.other("answers")
 # By example the file and the name of each of its cases.
 CASES = {
-    "break-and-continue": (("debug.txt", "debug: a breakpoint, and on to it twice"),),
-    "outputs-of-A": (
+    "a session": (("debug.txt", "debug: a breakpoint, and on to it twice"),),
+    "the texts of a design": (
         ("verilog.txt", "printed: a register, where what is needed is kept"),
         ("symbols.txt", "symbols: a register that adds while it is enabled"),
         ("waves.txt", "waves: a register that adds while it is enabled"),
     ),
-    "round-robin": (("debug.txt", "debug: lanes that count their grants"),),
+    "a session of lanes": (("debug.txt", "debug: lanes that count their grants"),),
 }
 
 
@@ -28,7 +28,7 @@ def run_of(file, name):
 
 
 def replay():
-    """The replay of the run of `outputs-of-A`: to its stops and back."""
+    """The replay of the run of that design: to its stops and back."""
     _, session, text = run_of("debug.txt", "debug: back to each breakpoint and to the start")
     files = {"A.req": session["P.req"]}
     for name, at in (("A.json", "own.json"), ("A.vcd", "own.vcd")):
@@ -40,5 +40,5 @@ def replay():
 def runs():
     """Each example with its runs."""
     found = {name: [run_of(*it) for it in cases] for name, cases in CASES.items()}
-    found["own-trace"] = [replay()]
+    found["a replay"] = [replay()]
     return found
