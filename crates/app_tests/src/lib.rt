@@ -5,6 +5,8 @@
 #![tactic(auto)]
 
 #[cfg(test)]
+mod round_robin;
+#[cfg(test)]
 mod runs;
 #[cfg(test)]
 mod services;

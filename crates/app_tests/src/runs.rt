@@ -49,7 +49,7 @@ struct Case {
     asked: &'static [&'static str],
 }
 
-static CASES: [Case; 24] = [
+static CASES: [Case; 26] = [
     Case {
         words: &["trail", "keep", "P.hg", "P.stim", "P"],
         reads: &[],
@@ -233,6 +233,26 @@ static CASES: [Case; 24] = [
         least: 22,
         front: "table fault 1 NotJson\n",
         asked: &["T.vcd"],
+    },
+    Case {
+        words: &["debug", "keep", "P.hg", "P.stim", "P.req", "P"],
+        reads: &[0],
+        puts: &[],
+        room: AMPLE,
+        status: 7,
+        least: 0,
+        front: "",
+        asked: &["P.hg"],
+    },
+    Case {
+        words: &["debug", "keep", "P.hg", "P.stim", "P.req", "P"],
+        reads: &[1],
+        puts: &[],
+        room: AMPLE,
+        status: 7,
+        least: 0,
+        front: "",
+        asked: &["P.hg", "P.stim"],
     },
     Case {
         words: &["debug", "keep", "P.hg", "P.stim", "P.req", "P"],
