@@ -13,7 +13,7 @@ same : {A : Type 0} (a b : A) → Some a ≡ Some b → a ≡ b
 same a b e = cc
 
 -- what an `if` lets through
-let_through : {A : Type 0} (b : Bool) (a found : A) → (if b then Some a else None) ≡ Some found → (b ≡ true) × (a ≡ found)
+pub let_through : {A : Type 0} (b : Bool) (a found : A) → (if b then Some a else None) ≡ Some found → (b ≡ true) × (a ≡ found)
 let_through true a found e = (refl, same a found e)
 let_through false a found e = cc
 

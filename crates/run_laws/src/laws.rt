@@ -1,11 +1,13 @@
-//! The law of replay.
+//! The laws of replay and of demos.
 
 ghost use Rattle.std.specs.Prelude.{◌≡◌, None, OnOk};
 ghost use Rattle.check_core.specs.Verdict.{verdict};
 ghost use Rattle.design_core.specs.DesignView.{design_of};
 ghost use Rattle.place_core.specs.Orders.{TellsOrder};
 ghost use Rattle.run_laws.specs.Replayed.{IsReplayed};
+ghost use Rattle.run_laws.specs.Demos.{CountsCells, AsksByRequests, EndsUnrefused};
 
+use chain_laws::requests_decide;
 use design_core::Design;
 use headline_laws::debugged_is_replayed;
 use lower_core::Mode;
@@ -29,4 +31,14 @@ pub fn debug_is_replayed(
 {
     stim.rows();
     debugged_is_replayed(alloc, design, order, mode, stim)
+}
+
+/// The law of words that are a demo: they give from 1 to 4,000 cells; where their file is there, the answer that they ask for has status 0 where its
+/// requests have at most 16 MiB, and 6 where they have more, and there is none with another; and none ends as one that is refused. Computes nothing.
+pub fn demos_are_answered()
+    ensures count { CountsCells }
+    ensures status { AsksByRequests }
+    ensures ends { EndsUnrefused }
+{
+    requests_decide();
 }
