@@ -15,7 +15,7 @@ use Rattle.cond_lang.specs.declared.text.CondText.{CondText}
 use Rattle.slot_sched.specs.declared.armed.Trap.{Trap}
 use Rattle.slot_sched.specs.declared.armed.Armed.{Armed}
 use Rattle.slot_sched.specs.declared.spans.Span.{Span}
-use Rattle.slot_sched.specs.Spans.{no_span, holds, covers, are_covered, are_spanned, AreBelow, AreWithin}
+use Rattle.slot_sched.specs.Spans.{no_span, holds, covers, are_covered, are_spanned, WaitBelow, AllWaitBelow}
 use Rattle.slot_sched.specs.Armed.{IsTrap}
 use Rattle.slot_sched.specs.Waiting.{trap_stops, armed_stops, any_stops}
 
@@ -100,13 +100,13 @@ covers_below spans k j e = elim ((slice_get_cases spans k).1) [
   | inr none ↦ absurd (nowhere j (subst (λ (o : Option Span). holds (unwrap_or o no_span) j ≡ true) none.1 e))
 ]
 
-covered_below : (spans : List Span) (j : ℕ) (traps : List Trap) → are_covered spans j traps ≡ true → AreBelow (length spans) traps
+covered_below : (spans : List Span) (j : ℕ) (traps : List Trap) → are_covered spans j traps ≡ true → WaitBelow (length spans) traps
 covered_below spans j [] e = tt
 covered_below spans j (t ∷ traps) e =
     let parts = and_parts (covers spans t.slot j) (are_covered spans j traps) e in
     (covers_below spans t.slot j parts.0, covered_below spans j traps parts.1)
 
-pub spanned_within : (spans : List Span) (j : ℕ) (armed : List Armed) → are_spanned spans j armed ≡ true → AreWithin (length spans) armed
+pub spanned_within : (spans : List Span) (j : ℕ) (armed : List Armed) → are_spanned spans j armed ≡ true → AllWaitBelow (length spans) armed
 spanned_within spans j [] e = tt
 spanned_within spans j (a ∷ armed) e =
     let parts = and_parts (are_covered spans j a.traps.items) (are_spanned spans (j + 1) armed) e in
@@ -117,24 +117,24 @@ all_each P [] h = tt
 all_each P (x ∷ xs) h = (h 0 x (let l : 0 < suc (length xs) = omega arith in l), all_each P xs (λ i d l. h (suc i) d (let m : suc i < suc (length xs) = omega (arith, l) in m)))
 
 -- what was armed for a table waits at its slots
-pub trap_below : (parts : TableParts) (text : Option CondText) (count : ℕ) (traps : List Trap) → length parts.slots ≤ count → All (IsTrap parts text) traps → AreBelow count traps
+pub trap_below : (parts : TableParts) (text : Option CondText) (count : ℕ) (traps : List Trap) → length parts.slots ≤ count → All (IsTrap parts text) traps → WaitBelow count traps
 trap_below parts text count traps long h =
     each_map (IsTrap parts text) (λ t. t.slot < count) traps (λ t is. let l = is.slot in let m : t.slot < count = omega (arith, l, long) in m) (all_each (IsTrap parts text) traps h)
 
-pub within_push : (spans : List Span) (armed items : List Armed) (a : Armed) → items ≡ armed ++ a ∷ [] → are_spanned spans 0 armed ≡ true → AreBelow (length spans) a.traps.items → AreWithin (length spans) items
+pub within_push : (spans : List Span) (armed items : List Armed) (a : Armed) → items ≡ armed ++ a ∷ [] → are_spanned spans 0 armed ≡ true → WaitBelow (length spans) a.traps.items → AllWaitBelow (length spans) items
 within_push spans armed items a is e h =
-    subst (λ (l : List Armed). AreWithin (length spans) l) (sym is)
-    (each_append (λ (b : Armed). AreBelow (length spans) b.traps.items) armed (a ∷ []) (spanned_within spans 0 armed e) (h, tt))
+    subst (λ (l : List Armed). AllWaitBelow (length spans) l) (sym is)
+    (each_append (λ (b : Armed). WaitBelow (length spans) b.traps.items) armed (a ∷ []) (spanned_within spans 0 armed e) (h, tt))
 
-pub within_filtered : (spans : List Span) (test : Armed → Bool) (armed items : List Armed) → items ≡ filter test armed → are_spanned spans 0 armed ≡ true → AreWithin (length spans) items
+pub within_filtered : (spans : List Span) (test : Armed → Bool) (armed items : List Armed) → items ≡ filter test armed → are_spanned spans 0 armed ≡ true → AllWaitBelow (length spans) items
 within_filtered spans test armed items is e =
-    let P = λ (b : Armed). AreBelow (length spans) b.traps.items in
-    subst (λ (l : List Armed). AreWithin (length spans) l) (sym is)
+    let P = λ (b : Armed). WaitBelow (length spans) b.traps.items in
+    subst (λ (l : List Armed). AllWaitBelow (length spans) l) (sym is)
     (each_from P (filter test armed) (λ x i. each_member P armed (spanned_within spans 0 armed e) x (filter_from test armed x i).0))
 
-pub within_taken : (spans : List Span) (n : ℕ) (armed items : List Armed) → items ≡ take n armed → are_spanned spans 0 armed ≡ true → AreWithin (length spans) items
+pub within_taken : (spans : List Span) (n : ℕ) (armed items : List Armed) → items ≡ take n armed → are_spanned spans 0 armed ≡ true → AllWaitBelow (length spans) items
 within_taken spans n armed items is e =
-    subst (λ (l : List Armed). AreWithin (length spans) l) (sym is) (each_take (λ (b : Armed). AreBelow (length spans) b.traps.items) n armed (spanned_within spans 0 armed e))
+    subst (λ (l : List Armed). AllWaitBelow (length spans) l) (sym is) (each_take (λ (b : Armed). WaitBelow (length spans) b.traps.items) n armed (spanned_within spans 0 armed e))
 
 -- ---- what no instance offers
 pub none_offered : {A : Type 0} (p q : A → Bool) (xs : List A) → list_any p xs ≡ false → list_any (λ x. p x && q x) xs ≡ false

@@ -28,8 +28,8 @@ are_spanned spans j [] = true
 are_spanned spans j (a ∷ armed) = are_covered spans j a.traps.items && are_spanned spans (j + 1) armed
 
 -- they wait at slots below this one
-abbrev pub AreBelow : ℕ → List Trap → Type 0
-AreBelow count traps = EachOf (λ t. t.slot < count) traps
+abbrev pub WaitBelow : ℕ → List Trap → Type 0
+WaitBelow count traps = EachOf (λ t. t.slot < count) traps
 
-abbrev pub AreWithin : ℕ → List Armed → Type 0
-AreWithin count armed = EachOf (λ a. AreBelow count a.traps.items) armed
+abbrev pub AllWaitBelow : ℕ → List Armed → Type 0
+AllWaitBelow count armed = EachOf (λ a. WaitBelow count a.traps.items) armed

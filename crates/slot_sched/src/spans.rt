@@ -2,7 +2,7 @@
 //! none waits, and looks at few breakpoints elsewhere; and what is disarmed is taken out of it without memory.
 
 ghost use Rattle.std.specs.Prelude.{◌≡◌, ℕ, ◌<◌, ◌≤◌, ◌-◌, ◌^◌, true, List, [], ◌∷◌, ◌++◌, OnOk, length, slice_get, unwrap_or};
-ghost use Rattle.slot_sched.specs.Spans.{holds, covers, no_span, are_covered, are_spanned, AreBelow, AreWithin};
+ghost use Rattle.slot_sched.specs.Spans.{holds, covers, no_span, are_covered, are_spanned, WaitBelow, AllWaitBelow};
 ghost use Rattle.slot_sched.specs.declared.armed.Armed.{Armed};
 
 use crate::armed::{Armed, Trap};
@@ -75,7 +75,7 @@ fn widen_at(spans: &mut Vec<Span>, slot: u32, place: u32)
 /// Puts the place of a breakpoint to those of each slot at which it waits.
 pub(crate) fn widen(spans: &mut Vec<Span>, traps: &[Trap], place: u32)
     requires place { place < 2 ^ 32 - 1 }
-    requires slots { AreBelow (length spans.old.items) traps.now }
+    requires slots { WaitBelow (length spans.old.items) traps.now }
     ensures long { length spans.new.items ≡ length spans.old.items }
     ensures has { are_covered spans.new.items place traps.now ≡ true }
     ensures keeps { (k j : ℕ) → covers spans.old.items k j ≡ true → covers spans.new.items k j ≡ true }
@@ -95,7 +95,7 @@ fn clear(spans: &mut Vec<Span>)
 /// The places of these breakpoints, and no others. Takes no memory.
 pub(crate) fn rebuild(spans: &mut Vec<Span>, armed: &[Armed])
     requires few { length armed.now < 2 ^ 32 - 1 }
-    requires within { AreWithin (length spans.old.items) armed.now }
+    requires within { AllWaitBelow (length spans.old.items) armed.now }
     ensures { are_spanned spans.new.items 0 armed.now ≡ true }
 {
     clear(spans);
@@ -109,7 +109,7 @@ pub(crate) fn rebuild(spans: &mut Vec<Span>, armed: &[Armed])
 /// Puts the place of the last breakpoint to those of each slot at which it waits.
 pub(crate) fn widen_last(spans: &mut Vec<Span>, armed: &[Armed])
     requires few { length armed.now < 2 ^ 32 - 1 }
-    requires within { AreWithin (length spans.old.items) armed.now }
+    requires within { AllWaitBelow (length spans.old.items) armed.now }
     ensures { (front : List Armed) (last : Armed) → armed.now ≡ front ++ last ∷ [] → are_spanned spans.old.items 0 front ≡ true → are_spanned spans.new.items 0 armed.now ≡ true }
 {
     if let Some(last) = armed.last() {
