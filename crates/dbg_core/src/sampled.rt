@@ -12,7 +12,7 @@ ghost use Rattle.dbg_core.specs.Shown.{IsAmong, IsCellAmong, slot_threads, cell_
 use bv_core::{Binding, Ref, Sample};
 use machine_core::Shown;
 use std::alloc::Global;
-use symtab::Table;
+use symtab::{Cells, Table};
 use text_core::{NoMemory, Text};
 use trace_core::Trace;
 
@@ -139,7 +139,7 @@ pub(crate) fn values_of<T: Trace>(
     alloc: Global,
     trace: &T,
     names: &[Text],
-    cells: &[Binding],
+    cells: &Cells,
 ) -> Result<Vec<(Text, Shown)>, NoMemory>
     requires set { IsSet (T.samples trace.now) (T.cursor trace.now) }
     requires long { length names.now ≡ length cells.now }
@@ -148,7 +148,7 @@ pub(crate) fn values_of<T: Trace>(
 {
     let mut values = Vec::new(alloc);
     for (place, name) in names.iter().enumerate() {
-        let value = named(alloc, trace, name, cells[place])?;
+        let value = named(alloc, trace, name, cells.at(place))?;
         values.push(value)?;
     }
     Ok(values)
@@ -167,11 +167,11 @@ fn place_of(instances: &[u32], instance: u32) -> usize
 }
 
 /// What the names of a slot stand for, for an instance that has it, in their order.
-pub(crate) fn cells_of(table: &Table, slot: u32, instance: u32) -> &[Binding]
+pub(crate) fn cells_of(table: &Table, slot: u32, instance: u32) -> &Cells
     requires { Contains (instances_of table.now slot) instance }
     ensures { option_map (λ row. row.cells) (row_of table.now slot instance) ≡ Some result.now }
 {
     let _parts = table.parts();
     let place = place_of(table.instances_of(slot), instance);
-    table.slot(slot).rows.items()[place].cells.items()
+    &table.slot(slot).rows.items()[place].cells
 }

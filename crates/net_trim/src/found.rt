@@ -10,8 +10,8 @@ use bv_core::{Binding, Bv, NodeId, Ref};
 use lower_core::FullRow;
 use net_core::{Net, Node};
 use std::alloc::Global;
-use symtab::Row;
-use text_core::{Listed, NoMemory};
+use symtab::{Cells, Row};
+use text_core::NoMemory;
 
 /// The value of a constant.
 fn constant_of(node: &Node) -> Option<Bv>
@@ -38,14 +38,14 @@ fn found(net: &Net, ids: &[Option<NodeId>], id: NodeId) -> Option<Ref>
 
 /// Puts what a name stands for last.
 fn push_binding(
-    made: &mut Vec<Binding>,
+    made: &mut Cells,
     net: &Net,
     ids: &[Option<NodeId>],
     cell: Option<NodeId>,
 ) -> Result<(), NoMemory>
     requires within { ForSome cell (λ id. id.0 < length net.now.nodes) }
     requires long { length ids.now ≡ length net.now.nodes }
-    ensures { OnOk result (made.new.items ≡ made.old.items ++ cell_made net.now.nodes ids.now cell ∷ []) }
+    ensures { OnOk result (made.new ≡ made.old ++ cell_made net.now.nodes ids.now cell ∷ []) }
 {
     let stands_for = match cell {
         Some(id) => match found(net, ids, id) {
@@ -64,12 +64,12 @@ fn bindings(
     net: &Net,
     ids: &[Option<NodeId>],
     cells: &[Option<NodeId>],
-) -> Result<Vec<Binding>, NoMemory>
+) -> Result<Cells, NoMemory>
     requires within { All (λ cell. ForSome cell (λ id. id.0 < length net.now.nodes)) cells.now }
     requires long { length ids.now ≡ length net.now.nodes }
-    ensures { IfOk result (λ made. made.items ≡ map (cell_made net.now.nodes ids.now) cells.now) }
+    ensures { IfOk result (λ made. made ≡ map (cell_made net.now.nodes ids.now) cells.now) }
 {
-    let mut made = Vec::new(alloc);
+    let mut made = Cells::with_capacity(alloc, cells.len())?;
     for cell in cells {
         push_binding(&mut made, net, ids, *cell)?;
     }
@@ -91,8 +91,5 @@ pub(crate) fn row_of(
 {
     let on = found(net, ids, row.on).unwrap();
     let cells = bindings(alloc, net, ids, row.cells.items())?;
-    Ok(Row {
-        on,
-        cells: Listed::new(cells),
-    })
+    Ok(Row { on, cells })
 }

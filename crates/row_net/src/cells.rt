@@ -97,7 +97,8 @@ pub(crate) fn cells_of(
     ensures fits { OnOk result (Fits builder.new (value_of places.now) nodes.now block.now.terms memo.new) }
     ensures grown { OnOk result (Grown builder.old builder.new) }
 {
-    let mut cells = Vec::new(alloc);
+    let room = signals.len().saturating_add(lets.len());
+    let mut cells = Vec::with_capacity(alloc, room)?;
     put_cells(
         alloc, builder, block, places, nodes, memo, held, signals, &mut cells,
     )?;

@@ -5,3 +5,4 @@ pub mod Positions
 pub mod Rows
 pub mod SlotLemmas
 pub mod Standing
+pub mod Listing

@@ -5,3 +5,4 @@ pub mod Shape
 pub mod Checked
 pub mod Lookups
 pub mod Indexed
+pub mod Cells

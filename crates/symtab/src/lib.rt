@@ -1,12 +1,14 @@
 //! The symbol table of a compiled design: what a debugger asks at each statement.
 #![tactic(auto)]
 
+mod cells;
 mod named;
 mod parts;
 mod places;
 mod shape;
 mod table;
 
+pub use cells::Cells;
 pub use parts::{
     GenVariable, InstanceParts, NodeName, Row, Slot, TableEnd, TableParts, VariantParts,
 };

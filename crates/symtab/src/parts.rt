@@ -1,4 +1,5 @@
-use bv_core::{Binding, Ref};
+use crate::Cells;
+use bv_core::Ref;
 use std::alloc::AllocError;
 use text_core::{Listed, NoMemory, Text};
 
@@ -34,7 +35,7 @@ pub struct InstanceParts {
 #[derive(Drop)]
 pub struct Row {
     pub on: Ref,
-    pub cells: Listed<Binding>,
+    pub cells: Cells,
 }
 
 /// A statement of a variant: its line, its generator variables, the names in scope, and a row for each instance of the

@@ -3,7 +3,7 @@ ghost use Rattle.symtab.specs.Shape.{IsShort, IsWidth, AreGens, IsFound, IsCell,
 ghost use Rattle.symtab.specs.Checked.{IsPlaced, AreRows, IsNumbered};
 
 use crate::places::Places;
-use crate::{GenVariable, InstanceParts, NodeName, Row, Slot, TableParts, VariantParts};
+use crate::{Cells, GenVariable, InstanceParts, NodeName, Row, Slot, TableParts, VariantParts};
 use bv_core::{Binding, Ref};
 use text_core::Text;
 
@@ -85,16 +85,28 @@ pub fn is_cell(nodes: &[NodeName], cell: Binding) -> bool
     }
 }
 
+/// Whether each cell's value, where it has one, is found.
+fn are_cells(nodes: &[NodeName], cells: &Cells) -> bool
+    ensures { IsTrue result ↔ All (IsCell nodes.now) cells.now }
+{
+    for place in 0..cells.len() {
+        if !is_cell(nodes, cells.at(place)) {
+            return false;
+        }
+    }
+    true
+}
+
 /// Whether this is a row over these nodes, for these names.
 pub fn is_row(nodes: &[NodeName], names: &[Text], row: &Row) -> bool
     ensures { IsTrue result ↔ IsRow nodes.now names.now row.now }
 {
-    let cells = row.cells.items();
+    let cells = &row.cells;
     is_found(nodes, row.on)
         && width_of(row.on) == 1
-        && is_short(cells)
+        && cells.len() < 1 << 32
         && cells.len() == names.len()
-        && cells.iter().all(|cell| is_cell(nodes, *cell))
+        && are_cells(nodes, cells)
 }
 
 /// Whether a slot keeps the rules on its rows, over these nodes, where the list has the variant of each instance.

@@ -240,6 +240,6 @@ impl Table {
         ensures scope { IsSome result ↔ IsInScope self.now k name.now }
     {
         let place = self.names[k as usize].place_of(name.as_bytes())?;
-        Some(self.row(k, instance).cells.items()[place])
+        Some(self.row(k, instance).cells.at(place))
     }
 }

@@ -85,7 +85,7 @@ fn has_rows(variants: usize, counts: &HashMap<u64, u64>, variant: u64, rows: usi
 fn have_cells(count: usize, rows: &[Row]) -> bool
     ensures { result ≡ list_all (has_cells count) rows.now }
 {
-    rows.iter().all(|row| row.cells.items().len() == count)
+    rows.iter().all(|row| row.cells.len() == count)
 }
 
 /// Whether a slot has all its rows and cells, and its names differ.

@@ -8,7 +8,7 @@ ghost use Rattle.symtab_json.specs.Judged.{cell_outside, entries_outside, first_
 use crate::entries::{Entries, InstanceEntry, Outside, SlotEntry};
 use bv_core::{Binding, Ref};
 use std::alloc::Global;
-use symtab::{InstanceParts, Row, Slot};
+use symtab::{Cells, InstanceParts, Row, Slot};
 use text_core::{Listed, NoMemory};
 
 /// A number, if it is outside a list of this size.
@@ -44,11 +44,11 @@ fn cell_outside(nodes: usize, cell: Binding) -> Option<Outside>
 }
 
 /// The first number of a node in cells that is outside so many.
-fn cells_outside(nodes: usize, cells: &[Binding]) -> Option<Outside>
+fn cells_outside(nodes: usize, cells: &Cells) -> Option<Outside>
     ensures { result ≡ first_outside (cell_outside nodes) cells.now }
 {
-    for cell in cells {
-        if let Some(outside) = cell_outside(nodes, *cell) {
+    for place in 0..cells.len() {
+        if let Some(outside) = cell_outside(nodes, cells.at(place)) {
             return Some(outside);
         }
     }
@@ -59,7 +59,7 @@ fn cells_outside(nodes: usize, cells: &[Binding]) -> Option<Outside>
 fn row_outside(nodes: usize, row: &Row) -> Option<Outside>
     ensures { result ≡ row_outside nodes row.now }
 {
-    match cells_outside(nodes, row.cells.items()) {
+    match cells_outside(nodes, &row.cells) {
         Some(outside) => Some(outside),
         None => ref_outside(nodes, row.on),
     }

@@ -1,6 +1,8 @@
 //! How each kind of part is written.
 
-ghost use Rattle.std.specs.Prelude.{List, ℕ, ℤ};
+ghost use Rattle.std.specs.Prelude.{◌≡◌, ◌++◌, List, ℕ, ℤ, false, map, OnOk};
+ghost use Rattle.serde_json.specs.View.{items_of};
+ghost use Rattle.serde_json.specs.Written.{items_text};
 ghost use Rattle.bv_core.specs.declared.Ref.{Ref};
 ghost use Rattle.bv_core.specs.declared.Binding.{Binding};
 ghost use Rattle.symtab.specs.declared.parts.Row.{Row};
@@ -9,11 +11,11 @@ ghost use Rattle.serde_json.specs.Find.{of_integer};
 ghost use Rattle.symtab_json.specs.Files.{count_json, list_json, node_json, gen_json, variant_json, instance_json, ref_json, cell_json, row_json, slot_json, table_json};
 
 use crate::quoted::push_quoted;
-use crate::written::{Written, push_count, push_list, push_member, push_pair};
+use crate::written::{Written, push_comma, push_count, push_list, push_member, push_pair};
 use bv_core::{Binding, Ref, text_of};
 use itoa::Buffer;
 use std::alloc::Global;
-use symtab::{GenVariable, InstanceParts, NodeName, Row, Slot, TableParts, VariantParts};
+use symtab::{Cells, GenVariable, InstanceParts, NodeName, Row, Slot, TableParts, VariantParts};
 use text_core::{Listed, NoMemory, Text};
 
 impl Written for u8 {
@@ -109,6 +111,27 @@ impl Written for Binding {
             Binding::Unset => push_quoted(text, b"unset"),
             Binding::Removed => push_quoted(text, b"removed"),
         }
+    }
+}
+
+/// Adds cells, with commas between, and the bracket that closes their list.
+fn push_cells(alloc: Global, text: &mut Vec<u8>, cells: &Cells) -> Result<(), NoMemory>
+    ensures { OnOk result (text.new.items ≡ text.old.items ++ items_text false (items_of (map cell_json cells.now))) }
+{
+    for place in 0..cells.len() {
+        push_comma(text, place > 0)?;
+        cells.at(place).write(alloc, text)?;
+    }
+    text.push(b']')?;
+    Ok(())
+}
+
+impl Written for Cells {
+    ghost tree = { λ cells. list_json cell_json cells };
+
+    fn write(&self, alloc: Global, text: &mut Vec<u8>) -> Result<(), NoMemory> {
+        text.push(b'[')?;
+        push_cells(alloc, text, self)
     }
 }
 

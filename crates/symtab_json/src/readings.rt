@@ -2,7 +2,7 @@
 
 ghost use Rattle.std.specs.Prelude.{◌≡◌, IfOk, codes};
 ghost use Rattle.serde_json.specs.View.{view};
-ghost use Rattle.symtab_json.specs.Entries.{told_mark, told_cell, told_gen, told_instance, told_line, told_member, told_node, told_on, told_ref, told_row, told_slot, told_variant, told_width_at};
+ghost use Rattle.symtab_json.specs.Entries.{told_short, told_mark, told_cell, told_gen, told_instance, told_line, told_member, told_node, told_on, told_ref, told_row, told_slot, told_variant, told_width_at};
 
 use crate::entries::{InstanceEntry, SlotEntry};
 use crate::literal::literal;
@@ -10,7 +10,7 @@ use crate::told::{Told, count_member, gen_number, line, member, two, width};
 use bv_core::{Binding, NodeId, Ref};
 use serde_json::Value;
 use std::alloc::Global;
-use symtab::{GenVariable, NodeName, Row, VariantParts};
+use symtab::{Cells, GenVariable, NodeName, Row, VariantParts};
 use text_core::{Listed, NoMemory, Text};
 
 impl Told for NodeName {
@@ -130,6 +130,18 @@ impl Told for Binding {
             return Ok(Some(mark));
         }
         Ok(Ref::read(alloc, nodes, value)?.map(Binding::Value))
+    }
+}
+
+impl Told for Cells {
+    ghost told = { λ nodes d. told_short (told_cell nodes) d };
+
+    fn read(alloc: Global, nodes: &[NodeName], value: &Value) -> Result<Option<Self>, NoMemory> {
+        let found: Option<Listed<Binding>> = Told::read(alloc, nodes, value)?;
+        match found {
+            Some(cells) => Ok(Some(Cells::of(alloc, cells.items())?)),
+            None => Ok(None),
+        }
     }
 }
 

@@ -11,7 +11,7 @@ ghost use Rattle.trail_out.specs.Written.{samples_at, RefStands, CellStands};
 
 use bv_core::{Binding, Ref, Sample, text_of};
 use std::alloc::Global;
-use symtab::{GenVariable, Slot};
+use symtab::{Cells, GenVariable, Slot};
 use text_core::{NoMemory, Text};
 use trace_core::Trace;
 
@@ -109,7 +109,7 @@ fn push_cells<T: Trace>(
     text: &mut Vec<u8>,
     trace: &T,
     names: &[Text],
-    cells: &[Binding],
+    cells: &Cells,
 ) -> Result<(), NoMemory>
     requires placed { IsSome (T.cursor trace.now) }
     requires long { length names.now ≡ length cells.now }
@@ -117,7 +117,7 @@ fn push_cells<T: Trace>(
     ensures { OnOk result (text.new.items ≡ text.old.items ++ cells_text (samples_at (T.samples trace.now) (T.cursor trace.now)) names.now cells.now) }
 {
     for (place, name) in names.iter().enumerate() {
-        push_cell(alloc, text, trace, name, cells[place])?;
+        push_cell(alloc, text, trace, name, cells.at(place))?;
     }
     Ok(())
 }
@@ -139,7 +139,7 @@ pub(crate) fn push_line<T: Trace>(
     cycle: u64,
     slot: &Slot,
     path: &Text,
-    cells: &[Binding],
+    cells: &Cells,
 ) -> Result<(), NoMemory>
     requires placed { IsSome (T.cursor trace.now) }
     requires long { length slot.now.names ≡ length cells.now }

@@ -52,7 +52,7 @@ fn push_row<T: Trace>(
         return Ok(());
     }
     let path = &parts.instances.items()[instance as usize].path;
-    push_line(alloc, text, trace, cycle, slot, path, row.cells.items())?;
+    push_line(alloc, text, trace, cycle, slot, path, &row.cells)?;
     Ok(())
 }
 

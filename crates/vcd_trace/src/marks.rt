@@ -7,7 +7,7 @@ ghost use Rattle.vcd_trace.specs.Marked.{Marks};
 
 use bv_core::{Binding, Ref};
 use std::alloc::Global;
-use symtab::{Row, Slot, Table};
+use symtab::{Cells, Row, Slot, Table};
 use text_core::NoMemory;
 
 /// Marks the node at which something is found.
@@ -22,12 +22,12 @@ fn mark_ref(marks: &mut [bool], at: Ref)
 }
 
 /// Marks the nodes that cells name.
-fn mark_cells(marks: &mut [bool], cells: &[Binding])
+fn mark_cells(marks: &mut [bool], cells: &Cells)
     ensures { Marks marks.old marks.new (λ n. list_any (cell_names n) cells.now) }
 {
-    for cell in cells {
-        if let Binding::Value(at) = cell {
-            mark_ref(marks, *at);
+    for place in 0..cells.len() {
+        if let Binding::Value(at) = cells.at(place) {
+            mark_ref(marks, at);
         }
     }
 }
@@ -38,7 +38,7 @@ fn mark_rows(marks: &mut [bool], rows: &[Row])
 {
     for row in rows {
         mark_ref(marks, row.on);
-        mark_cells(marks, row.cells.items());
+        mark_cells(marks, &row.cells);
     }
 }
 

@@ -20,8 +20,8 @@ pub returns-clause-have : goal.returns-clause-have
 returns-clause-have c =
     let places = value_of c.args.places.now in
     let trees = names_by c.args.block.now.terms (value_of c.args.held.now) in
-    cells_then c.args.builder.now c.put_cells.new.builder c.put_cells-2.new.builder places c.args.nodes.now trees (names_at c.args.signals.now) (names_at c.args.lets.now) c.new-cells.result.items c.put_cells.new.cells.items c.put_cells-2.new.cells.items
-    c.in_ok-put_cells.ensures.put c.in_ok-put_cells-2.ensures.put [] (subst (CellsHave c.args.builder.now (leaf_tree c.args.builder.now places c.args.nodes.now) trees []) (sym c.new-cells.ensures.items) tt)
+    cells_then c.args.builder.now c.put_cells.new.builder c.put_cells-2.new.builder places c.args.nodes.now trees (names_at c.args.signals.now) (names_at c.args.lets.now) c.in_ok-cells.cells.items c.put_cells.new.cells.items c.put_cells-2.new.cells.items
+    c.in_ok-put_cells.ensures.put c.in_ok-put_cells-2.ensures.put [] (subst (CellsHave c.args.builder.now (leaf_tree c.args.builder.now places c.args.nodes.now) trees []) (sym c.in_ok-cells.ensures.items) tt)
 
 pub returns-clause-grown : goal.returns-clause-grown
 returns-clause-grown c = grown_twice c.args.builder.now c.put_cells.new.builder c.put_cells-2.new.builder c.in_ok-put_cells.ensures.grown c.in_ok-put_cells-2.ensures.grown

@@ -5,5 +5,5 @@ use Rattle.vcd_trace.specs.Marked.{Marks}
 use Rattle.vcd_trace.proofs.marks.mark_cells.Given as goal
 
 -- the nodes of the front are marked
-abbrev pub invariant-loop-cell : goal.invariant-loop-cell
-invariant-loop-cell l = Marks l.initial.marks l.marks (λ n. list_any (cell_names n) (take l.cell-index l.cells))
+abbrev pub invariant-loop-place : goal.invariant-loop-place
+invariant-loop-place l = Marks l.initial.marks l.marks (λ n. list_any (cell_names n) (take l.place l.cells))
