@@ -36,11 +36,13 @@ fn vertices(alloc: Global, count: usize) -> Result<Graph, NoMemory>
 fn marked_in(alloc: Global, marks: &[bool], vertices: &[u32]) -> Result<Vec<u32>, AllocError>
     ensures { IfOk result (λ kept. kept.items ≡ marked_in marks.now vertices.now) }
 {
-    vertices
-        .iter()
-        .copied()
-        .filter(|v| marks.get(*v as usize).copied().unwrap_or(false))
-        .collect(alloc)
+    let mut kept = Vec::new(alloc);
+    for v in vertices {
+        if marks.get(*v as usize).copied().unwrap_or(false) {
+            kept.push(*v)?;
+        }
+    }
+    Ok(kept)
 }
 
 /// The pairs of some numbers.
@@ -51,10 +53,11 @@ fn pairs_of(
 ) -> Result<Vec<(u32, u32)>, AllocError>
     ensures { IfOk result (λ list. list.items ≡ pairs_of pairs.now numbers.now) }
 {
-    numbers
-        .iter()
-        .map(|n| pairs.get(*n as usize).copied().unwrap_or((0, 0)))
-        .collect(alloc)
+    let mut list = Vec::new(alloc);
+    for n in numbers {
+        list.push(pairs.get(*n as usize).copied().unwrap_or((0, 0)))?;
+    }
+    Ok(list)
 }
 
 /// Drives the signals of a design by its links and blocks, in a graph in which nothing drives them yet.

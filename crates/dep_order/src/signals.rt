@@ -9,11 +9,13 @@ use std::alloc::{AllocError, Global};
 fn signals_in(alloc: Global, signals: u32, vertices: &[u32]) -> Result<Vec<u32>, AllocError>
     ensures { IfOk result (λ kept. kept.items ≡ signals_in signals vertices.now) }
 {
-    vertices
-        .iter()
-        .copied()
-        .filter(|v| *v < signals)
-        .collect(alloc)
+    let mut kept = Vec::new(alloc);
+    for v in vertices {
+        if *v < signals {
+            kept.push(*v)?;
+        }
+    }
+    Ok(kept)
 }
 
 /// The signals of a graph of signals and versions, each once and after those that are reached from it through versions

@@ -29,7 +29,7 @@ heads_numbered : (n : ℕ) (w : Variant) (b : Block) (hs : List Head)
 heads_numbered n w b [] = refl
 heads_numbered n w b (h ∷ hs) = ap (λ l. numbered_head n (scope w b) h ∷ l) (heads_numbered n w b hs)
 
-blocks_numbered : (n : ℕ) (w : Variant) (bs : List Block) → flat_map (block_slots n w.signals) bs ≡ map numbered_site (flat_map (sites_in_block n w) bs)
+blocks_numbered : (n : ℕ) (w : Variant) (bs : List Block) → flat_map (block_slots n (map signal_name w.signals)) bs ≡ map numbered_site (flat_map (sites_in_block n w) bs)
 blocks_numbered n w [] = refl
 blocks_numbered n w (b ∷ bs) =
     ap₂ (λ (p q : List NumberedSlot). p ++ q) (heads_numbered n w b (heads b.body)) (blocks_numbered n w bs)
@@ -50,18 +50,18 @@ heads_numbers : (n : ℕ) (names : List (List ℕ)) (hs : List Head) → map num
 heads_numbers n names [] = refl
 heads_numbers n names (h ∷ hs) = ap (λ l. h.slot ∷ l) (heads_numbers n names hs)
 
-blocks_numbers : (n : ℕ) (signals : List Signal) (bs : List Block) → map number_of (flat_map (block_slots n signals) bs) ≡ slots_of (flat_map (λ (b : Block). heads b.body) bs)
+blocks_numbers : (n : ℕ) (signals : List (List ℕ)) (bs : List Block) → map number_of (flat_map (block_slots n signals) bs) ≡ slots_of (flat_map (λ (b : Block). heads b.body) bs)
 blocks_numbers n signals [] = refl
 blocks_numbers n signals (b ∷ bs) =
     map-append number_of (block_slots n signals b) (flat_map (block_slots n signals) bs)
-    ∙ ap₂ (λ (p q : List ℕ). p ++ q) (heads_numbers n (map signal_name signals ++ lets_of b.body) (heads b.body)) (blocks_numbers n signals bs)
+    ∙ ap₂ (λ (p q : List ℕ). p ++ q) (heads_numbers n (signals ++ lets_of b.body) (heads b.body)) (blocks_numbers n signals bs)
     ∙ sym (map-append (λ (h : Head). h.slot) (heads b.body) (flat_map (λ (c : Block). heads c.body) bs))
 
 pub design_numbers : (n : ℕ) (ws : List Variant) → map number_of (design_slots n ws) ≡ all_slots ws
 design_numbers n [] = refl
 design_numbers n (w ∷ ws) =
     map-append number_of (variant_slots n w) (design_slots (n + 1) ws)
-    ∙ ap₂ (λ (p q : List ℕ). p ++ q) (blocks_numbers n w.signals w.blocks) (design_numbers (n + 1) ws)
+    ∙ ap₂ (λ (p q : List ℕ). p ++ q) (blocks_numbers n (map signal_name w.signals) w.blocks) (design_numbers (n + 1) ws)
 
 below_each : (count : ℕ) (all : List NumberedSlot) → EachOf (λ k. k < count) (map number_of all) → AreNumbersBelow count all
 below_each count [] h = tt

@@ -3,7 +3,6 @@ use Rattle.std.proofs.Common.{◌≡◌, ℕ, ◌+◌, ◌<◌, List, [], ◌∷
 use Rattle.std.specs.List.{flat_map}
 use Rattle.std.proofs.lemmas.List.{append-nil, map-append, drop_more}
 use Rattle.exec_core.specs.Block.{Name}
-use Rattle.design_core.specs.declared.variant.Signal.{Signal}
 use Rattle.design_core.specs.declared.variant.Variant as code_variant
 use Rattle.design_core.specs.declared.expr.Expr as code_expr
 use Rattle.design_core.specs.declared.statement.Stmt as code_stmt
@@ -14,7 +13,7 @@ use Rattle.design_core.specs.View.{stmt_of, variant_of}
 use Rattle.design_core.proofs.Views.{stmt_assign, stmt_if}
 use Rattle.design_core.specs.Statements.{inside, statements, else_statements}
 use Rattle.shape_net.specs.declared.ordered.NumberedSlot.{NumberedSlot}
-use Rattle.shape_net.specs.Heads.{head_of, let_name, signal_name}
+use Rattle.shape_net.specs.Heads.{head_of, let_name}
 use Rattle.shape_net.specs.Numbered.{numbered_head, numbered_stmt, block_slots, variant_slots, design_slots}
 
 flat_both : {A B : Type 0} (f : A → List B) (xs ys : List A) → flat_map f (xs ++ ys) ≡ flat_map f xs ++ flat_map f ys
@@ -57,12 +56,12 @@ by_heads v names [] = refl
 by_heads v names (s ∷ stmts) = ap (λ l. numbered_stmt v names s ∷ l) (by_heads v names stmts)
 
 -- the statements of a block, with its lets
-pub block_numbered : (v : ℕ) (signals : List Signal) (b : Block) (stmts : List Stmt) (lets : List Name) → stmts ≡ statements b.body → lets ≡ flat_map let_name stmts
-    → map (numbered_stmt v (map signal_name signals ++ lets)) stmts ≡ block_slots v signals b
+pub block_numbered : (v : ℕ) (signals : List Name) (b : Block) (stmts : List Stmt) (lets : List Name) → stmts ≡ statements b.body → lets ≡ flat_map let_name stmts
+    → map (numbered_stmt v (signals ++ lets)) stmts ≡ block_slots v signals b
 block_numbered v signals b stmts lets are named =
-    ap₂ (λ (l : List Name) (s : List Stmt). map (numbered_stmt v (map signal_name signals ++ l)) s) (named ∙ ap (flat_map let_name) are ∙ body_lets b.body) are
-    ∙ by_heads v (map signal_name signals ++ lets_of b.body) (statements b.body)
-    ∙ ap (map (numbered_head v (map signal_name signals ++ lets_of b.body))) (body_heads b.body)
+    ap₂ (λ (l : List Name) (s : List Stmt). map (numbered_stmt v (signals ++ l)) s) (named ∙ ap (flat_map let_name) are ∙ body_lets b.body) are
+    ∙ by_heads v (signals ++ lets_of b.body) (statements b.body)
+    ∙ ap (map (numbered_head v (signals ++ lets_of b.body))) (body_heads b.body)
 
 -- a variant more
 pub variants_next : (slots after all : List NumberedSlot) (variants : List code_variant.Variant) (i : ℕ) (w : code_variant.Variant) → i < length variants → w ≡ get_or variants i w

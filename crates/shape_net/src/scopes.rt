@@ -8,7 +8,8 @@ ghost use Rattle.shape_net.specs.Heads.{let_name, signal_name};
 
 use design_core::{Signal, Stmt};
 use std::alloc::Global;
-use text_core::{Listed, NoMemory, Text};
+use symtab::Names;
+use text_core::{NoMemory, Text};
 
 /// Puts the name of a statement behind others, if it is a let.
 #[tactic(auto, using(design_core::proofs::Views::design_views))]
@@ -37,14 +38,14 @@ pub(crate) fn lets_among(alloc: Global, stmts: &[&Stmt]) -> Result<Vec<Text>, No
 }
 
 /// The names of signals, in order.
-fn signal_names(alloc: Global, signals: &[Signal]) -> Result<Vec<Text>, NoMemory>
-    ensures { IfOk result (λ names. names.items ≡ map signal_name signals.now) }
+pub(crate) fn signal_names(alloc: Global, signals: &[Signal]) -> Result<Names, NoMemory>
+    ensures { IfOk result (λ names. names ≡ map signal_name signals.now) }
 {
     let mut names = Vec::new(alloc);
     for signal in signals {
         names.push(Text::new(alloc, signal.name.bytes())?)?;
     }
-    Ok(names)
+    Names::new(alloc, names)
 }
 
 /// Puts copies of names behind others.
@@ -57,15 +58,27 @@ fn put_names(alloc: Global, names: &mut Vec<Text>, more: &[Text]) -> Result<(), 
     Ok(())
 }
 
-/// The names in scope in a block: the signals of its variant as they were declared, then its lets.
+/// Names, and others behind them.
+fn both(alloc: Global, first: &[Text], second: &[Text]) -> Result<Names, NoMemory>
+    ensures { IfOk result (λ names. names ≡ first.now ++ second.now) }
+{
+    let mut names = Vec::new(alloc);
+    put_names(alloc, &mut names, first)?;
+    put_names(alloc, &mut names, second)?;
+    Names::new(alloc, names)
+}
+
+/// The names in scope in a block: the signals of its variant as they were declared, then its lets. A block without lets has the
+/// list of its variant.
 pub(crate) fn scope_names(
     alloc: Global,
-    signals: &[Signal],
+    signals: &Names,
     lets: &[Text],
-) -> Result<Listed<Text>, NoMemory>
-    ensures { IfOk result (λ names. names ≡ map signal_name signals.now ++ lets.now) }
+) -> Result<Names, NoMemory>
+    ensures { IfOk result (λ names. names ≡ signals.now ++ lets.now) }
 {
-    let mut names = signal_names(alloc, signals)?;
-    put_names(alloc, &mut names, lets)?;
-    Ok(Listed::new(names))
+    if lets.is_empty() {
+        return signals.share();
+    }
+    both(alloc, signals.items(), lets)
 }

@@ -3,17 +3,17 @@
 ghost use Rattle.std.specs.Prelude.{◌≡◌, ◌++◌, ◌≤◌, length, map, IfOk, OnOk};
 ghost use Rattle.design_core.specs.View.{block_of, stmt_of, variant_of};
 ghost use Rattle.design_core.specs.Statements.{stmts_at};
-ghost use Rattle.shape_net.specs.Heads.{head_of, signal_name};
+ghost use Rattle.shape_net.specs.Heads.{head_of};
 ghost use Rattle.shape_net.specs.Numbered.{block_slots, design_slots, numbered_stmt, variant_slots};
 
 use crate::ordered::NumberedSlot;
 use crate::parts::gens_of;
-use crate::scopes::{lets_among, scope_names};
-use design_core::{Block, Signal, Stmt, Variant, statements};
+use crate::scopes::{lets_among, scope_names, signal_names};
+use design_core::{Block, Stmt, Variant, statements};
 use gen_scope::Scope;
 use std::alloc::Global;
-use symtab::Slot;
-use text_core::{Listed, NoMemory, Text};
+use symtab::{Names, Slot};
+use text_core::{Listed, NoMemory};
 
 /// The number of a statement.
 #[tactic(auto, using(design_core::proofs::Views::design_views))]
@@ -51,18 +51,17 @@ fn gens_at(stmt: &Stmt) -> &Scope
     }
 }
 
-/// A statement of the variant of this number, with its own number, where these signals and lets are in scope.
+/// A statement of the variant of this number, with its own number, where these names are in scope.
 fn numbered(
     alloc: Global,
     variant: u32,
-    signals: &[Signal],
-    lets: &[Text],
+    names: &Names,
     stmt: &Stmt,
 ) -> Result<NumberedSlot, NoMemory>
-    ensures { IfOk result (λ numbered. numbered ≡ numbered_stmt variant (map signal_name signals.now ++ lets.now) (stmt_of stmt.now)) }
+    ensures { IfOk result (λ numbered. numbered ≡ numbered_stmt variant names.now (stmt_of stmt.now)) }
 {
     let gens = gens_of(alloc, gens_at(stmt))?;
-    let names = scope_names(alloc, signals, lets)?;
+    let names = names.share()?;
     Ok(NumberedSlot {
         number: number_of(stmt),
         slot: Slot {
@@ -79,24 +78,23 @@ fn numbered(
 fn put_stmts(
     alloc: Global,
     variant: u32,
-    signals: &[Signal],
-    lets: &[Text],
+    names: &Names,
     stmts: &[&Stmt],
     slots: &mut Vec<NumberedSlot>,
 ) -> Result<(), NoMemory>
-    ensures { OnOk result (slots.new.items ≡ slots.old.items ++ map (numbered_stmt variant (map signal_name signals.now ++ lets.now)) (stmts_at stmts.now)) }
+    ensures { OnOk result (slots.new.items ≡ slots.old.items ++ map (numbered_stmt variant names.now) (stmts_at stmts.now)) }
 {
     for stmt in stmts {
-        slots.push(numbered(alloc, variant, signals, lets, stmt)?)?;
+        slots.push(numbered(alloc, variant, names, stmt)?)?;
     }
     Ok(())
 }
 
-/// Puts the statements of a block of a variant with these signals behind others, in preorder.
+/// Puts the statements of a block of a variant whose signals have these names behind others, in preorder.
 fn put_block(
     alloc: Global,
     variant: u32,
-    signals: &[Signal],
+    signals: &Names,
     block: &Block,
     slots: &mut Vec<NumberedSlot>,
 ) -> Result<(), NoMemory>
@@ -104,7 +102,8 @@ fn put_block(
 {
     let stmts = statements(alloc, &block.body)?;
     let lets = lets_among(alloc, &stmts)?;
-    put_stmts(alloc, variant, signals, &lets, &stmts, slots)?;
+    let names = scope_names(alloc, signals, &lets)?;
+    put_stmts(alloc, variant, &names, &stmts, slots)?;
     Ok(())
 }
 
@@ -117,8 +116,9 @@ fn put_variant(
 ) -> Result<(), NoMemory>
     ensures { OnOk result (slots.new.items ≡ slots.old.items ++ variant_slots number (variant_of variant.now)) }
 {
+    let signals = signal_names(alloc, variant.signals.items())?;
     for block in &variant.blocks {
-        put_block(alloc, number, variant.signals.items(), block, slots)?;
+        put_block(alloc, number, &signals, block, slots)?;
     }
     Ok(())
 }

@@ -10,26 +10,25 @@ use Rattle.symtab.specs.declared.parts.TableParts.{TableParts}
 use Rattle.symtab.specs.Checked.{IsPlaced, AreRows, AreNamed}
 use Rattle.symtab.specs.Shape.{IsSlot, IsTable, variants_of}
 
--- the names of these texts are the texts that they are
-own_texts : (texts own : List (List ℕ)) → texts ≡ own → map (λ text. text) texts ≡ own
-own_texts texts own are = map-id texts ∙ are
+-- texts are their own names
+pub apart_texts : {E : Type 0} (texts : List (List ℕ)) (made : Result (Option (List (List ℕ))) E) → IfOk made (λ found. IsSome found ↔ AreApart (map (λ text. text) texts)) → IfOk made (λ found. IsSome found ↔ AreApart texts)
+apart_texts texts (Err e) tested = tt
+apart_texts texts (Ok found) tested = subst (λ (names : List (List ℕ)). IsSome found ↔ AreApart names) (map-id texts) tested
+
+pub named_texts : {E : Type 0} (texts : List (List ℕ)) (made : Result (Option (List (List ℕ))) E) → IfOk made (λ found. IfSome found (λ names. names ≡ map (λ text. text) texts)) →
+    IfOk made (λ found. IfSome found (λ names. names ≡ texts))
+named_texts texts (Err e) are = tt
+named_texts texts (Ok None) are = tt
+named_texts texts (Ok (Some names)) are = are ∙ map-id texts
 
 -- a slot whose other rules are kept fits exactly where its names are apart
-pub fits : {E : Type 0} (nodes : List NodeName) (count : ℕ) (variants : List ℕ) (slot : Slot) (texts : List (List ℕ)) → texts ≡ slot.names → IsPlaced count slot → AreRows nodes variants slot →
-    (made : Result (Option (List (List ℕ))) E) → IfOk made (λ found. IsSome found ↔ AreApart (map (λ text. text) texts)) → IfOk made (λ found. IsSome found ↔ IsSlot nodes count variants slot)
-fits nodes count variants slot texts are placed rows (Err e) tested = tt
-fits nodes count variants slot texts are placed rows (Ok found) tested =
-    let apart : IsSome found ↔ AreApart slot.names = subst (λ (names : List (List ℕ)). IsSome found ↔ AreApart names) (own_texts texts slot.names are) tested in (
-      λ some. record { variant = placed.variant; line = placed.line; gens = placed.gens; short_names = placed.short_names; names = apart.0 some; short_rows = rows.short_rows; count = rows.count; rows = rows.rows },
-      λ slot_fits. apart.1 slot_fits.names,
-    )
-
--- the names that were made are the slot's
-pub same_names : {E : Type 0} (slot : Slot) (texts : List (List ℕ)) → texts ≡ slot.names → (made : Result (Option (List (List ℕ))) E) →
-    IfOk made (λ found. IfSome found (λ names. names ≡ map (λ text. text) texts)) → IfOk made (λ found. IfSome found (λ names. names ≡ slot.names))
-same_names slot texts own (Err e) are = tt
-same_names slot texts own (Ok None) are = tt
-same_names slot texts own (Ok (Some names)) are = are ∙ own_texts texts slot.names own
+pub fits : {N E : Type 0} (nodes : List NodeName) (count : ℕ) (variants : List ℕ) (slot : Slot) → IsPlaced count slot → AreRows nodes variants slot →
+    (made : Result (Option N) E) → IfOk made (λ found. IsSome found ↔ AreApart slot.names) → IfOk made (λ found. IsSome found ↔ IsSlot nodes count variants slot)
+fits nodes count variants slot placed rows (Err e) apart = tt
+fits nodes count variants slot placed rows (Ok found) apart = (
+  λ some. record { variant = placed.variant; line = placed.line; gens = placed.gens; short_names = placed.short_names; names = apart.0 some; short_rows = rows.short_rows; count = rows.count; rows = rows.rows },
+  λ slot_fits. apart.1 slot_fits.names,
+)
 
 -- names that are not apart
 pub not_apart : {A : Type 0} (name_of : A → List ℕ) (items own : List A) (found : Option (List (List ℕ))) → items ≡ own → (IsSome found ↔ AreApart (map name_of items)) → found ≡ None → AreApart (map name_of own) → ⊥

@@ -1,4 +1,4 @@
-use crate::Cells;
+use crate::{Cells, Names};
 use bv_core::Ref;
 use std::alloc::AllocError;
 use text_core::{Listed, NoMemory, Text};
@@ -39,13 +39,14 @@ pub struct Row {
 }
 
 /// A statement of a variant: its line, its generator variables, the names in scope, and a row for each instance of the
-/// variant, in order. In a table the line is below 2^30, and a row has a cell for each name, in order.
+/// variant, in order. In a table the line is below 2^30, and a row has a cell for each name, in order. The statements of a block have one
+/// list of names.
 #[derive(Drop)]
 pub struct Slot {
     pub variant: u32,
     pub line: u32,
     pub gens: Listed<GenVariable>,
-    pub names: Listed<Text>,
+    pub names: Names,
     pub rows: Listed<Row>,
 }
 

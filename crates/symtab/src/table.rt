@@ -7,6 +7,7 @@ ghost use Rattle.symtab.specs.Shape.{IsShort, IsSlot, IsTable, IsFound, IsCell, 
 ghost use Rattle.symtab.specs.Lookups.{instances_of, row_of, enable_of, binding_of, IsInScope};
 
 use crate::named::distinct_names;
+use crate::names_in_scope::NameIndex;
 use crate::places::Places;
 use crate::shape::{are_rows, is_numbered, is_placed};
 use crate::{InstanceParts, NodeName, Row, Slot, TableEnd, TableParts};
@@ -24,7 +25,7 @@ pub struct Table {
     lines: Places,
     variants: Places,
     paths: NameSet,
-    names: Vec<NameSet>,
+    names: Vec<NameIndex>,
 }
 
 impl Model for Table {
@@ -43,35 +44,41 @@ impl Model for Table {
 fn variants_of(alloc: Global, instances: &[InstanceParts]) -> Result<Vec<u32>, AllocError>
     ensures { IfOk result (λ variants. variants.items ≡ variants_of instances.now) }
 {
-    instances
-        .iter()
-        .map(|instance| instance.variant)
-        .collect(alloc)
+    let mut variants = Vec::new(alloc);
+    for instance in instances {
+        variants.push(instance.variant)?;
+    }
+    Ok(variants)
 }
 
 /// The line of each slot.
 fn lines_of(alloc: Global, slots: &[Slot]) -> Result<Vec<u32>, AllocError>
     ensures { IfOk result (λ lines. lines.items ≡ lines_of slots.now) }
 {
-    slots.iter().map(|slot| slot.line).collect(alloc)
+    let mut lines = Vec::new(alloc);
+    for slot in slots {
+        lines.push(slot.line)?;
+    }
+    Ok(lines)
 }
 
-/// The names of a slot. None where the slot breaks a rule, over these nodes and so many variants, where the list has
-/// the variant of each instance.
+/// The names of a slot, which are those of the slot before where they are the same. None where the slot breaks a rule, over these
+/// nodes and so many variants, where the list has the variant of each instance.
 fn slot_names(
     alloc: Global,
     nodes: &[NodeName],
     count: usize,
     variants: &Places,
+    before: Option<&NameIndex>,
     slot: &Slot,
-) -> Result<Option<NameSet>, NoMemory>
+) -> Result<Option<NameIndex>, NoMemory>
     ensures fits { IfOk result (λ found. IsSome found ↔ IsSlot nodes.now count variants.now slot.now) }
     ensures names { IfOk result (λ found. IfSome found (λ names. names ≡ slot.now.names)) }
 {
     if !is_placed(count, slot) || !are_rows(nodes, variants, slot) {
         return Ok(None);
     }
-    distinct_names(alloc, slot.names.items())
+    NameIndex::of(alloc, before, &slot.names)
 }
 
 /// The names of each slot. None where a slot breaks a rule, over these nodes and so many variants, where the list has
@@ -82,13 +89,13 @@ fn all_names(
     count: usize,
     variants: &Places,
     slots: &[Slot],
-) -> Result<Option<Vec<NameSet>>, NoMemory>
+) -> Result<Option<Vec<NameIndex>>, NoMemory>
     ensures fits { IfOk result (λ found. IsSome found ↔ All (IsSlot nodes.now count variants.now) slots.now) }
     ensures names { IfOk result (λ found. IfSome found (λ names. names.items ≡ map (λ slot. slot.names) slots.now)) }
 {
-    let mut all = Vec::new(alloc);
+    let mut all: Vec<NameIndex> = Vec::new(alloc);
     for slot in slots {
-        let Some(names) = slot_names(alloc, nodes, count, variants, slot)? else {
+        let Some(names) = slot_names(alloc, nodes, count, variants, all.last(), slot)? else {
             return Ok(None);
         };
         all.push(names)?;
@@ -114,7 +121,7 @@ fn names_of(
     alloc: Global,
     parts: &TableParts,
     variants: &Places,
-) -> Result<Option<(NameSet, Vec<NameSet>)>, NoMemory>
+) -> Result<Option<(NameSet, Vec<NameIndex>)>, NoMemory>
     ensures fits { IfOk result (λ found. IsSome found ↔ AreNamed variants.now parts.now) }
     ensures paths { IfOk result (λ found. IfSome found (λ names. names.0 ≡ paths_of parts.now.instances)) }
     ensures names { IfOk result (λ found. IfSome found (λ names. names.1.items ≡ map (λ slot. slot.names) parts.now.slots)) }

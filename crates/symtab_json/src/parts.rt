@@ -15,7 +15,7 @@ use crate::written::{Written, push_comma, push_count, push_list, push_member, pu
 use bv_core::{Binding, Ref, text_of};
 use itoa::Buffer;
 use std::alloc::Global;
-use symtab::{Cells, GenVariable, InstanceParts, NodeName, Row, Slot, TableParts, VariantParts};
+use symtab::{Cells, GenVariable, InstanceParts, Names, NodeName, Row, Slot, TableParts, VariantParts};
 use text_core::{Listed, NoMemory, Text};
 
 impl Written for u8 {
@@ -53,6 +53,14 @@ impl Written for Text {
 
 impl<T: Written> Written for Listed<T> {
     ghost tree = { λ items. list_json (λ item. T.tree item) items };
+
+    fn write(&self, alloc: Global, text: &mut Vec<u8>) -> Result<(), NoMemory> {
+        push_list(alloc, text, self.items())
+    }
+}
+
+impl Written for Names {
+    ghost tree = { λ names. list_json string names };
 
     fn write(&self, alloc: Global, text: &mut Vec<u8>) -> Result<(), NoMemory> {
         push_list(alloc, text, self.items())

@@ -1,8 +1,7 @@
 use Rattle.std.proofs.Common.{◌≡◌, ◌++◌, map, take}
 use Rattle.design_core.specs.Statements.{stmts_at}
-use Rattle.shape_net.specs.Heads.{signal_name}
 use Rattle.shape_net.specs.Numbered.{numbered_stmt}
 use Rattle.shape_net.proofs.sites.put_stmts.Given as goal
 
 abbrev pub invariant-loop-stmt : goal.invariant-loop-stmt
-invariant-loop-stmt l = l.slots.items ≡ l.initial.slots.items ++ map (numbered_stmt l.variant (map signal_name l.signals ++ l.lets)) (stmts_at (take l.stmt-index l.stmts))
+invariant-loop-stmt l = l.slots.items ≡ l.initial.slots.items ++ map (numbered_stmt l.variant l.names) (stmts_at (take l.stmt-index l.stmts))

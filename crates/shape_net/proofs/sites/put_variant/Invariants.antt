@@ -5,4 +5,4 @@ use Rattle.shape_net.specs.Numbered.{block_slots}
 use Rattle.shape_net.proofs.sites.put_variant.Given as goal
 
 abbrev pub invariant-loop-block : goal.invariant-loop-block
-invariant-loop-block l = l.slots.items ≡ l.initial.slots.items ++ flat_map (block_slots l.number l.variant.signals) (map block_of (take l.block-index l.variant.blocks.items))
+invariant-loop-block l = l.slots.items ≡ l.initial.slots.items ++ flat_map (block_slots l.number l.signals) (map block_of (take l.block-index l.variant.blocks.items))

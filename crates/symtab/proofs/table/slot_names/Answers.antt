@@ -1,13 +1,10 @@
 use Rattle.std.proofs.Common.{rules}
 use Rattle.symtab.specs.Checked.{IsPlaced, AreRows}
-use Rattle.symtab.proofs.SlotLemmas.{fits, same_names}
+use Rattle.symtab.proofs.SlotLemmas.{fits}
 use Rattle.symtab.proofs.table.slot_names.Goals as goal
 
 pub returns-clause-fits : goal.returns-clause-fits
 returns-clause-fits c =
     let placed : IsPlaced c.args.count c.args.slot.now = search rules in
     let rows : AreRows c.args.nodes.now c.args.variants.now c.args.slot.now = search rules in
-    fits c.args.nodes.now c.args.count c.args.variants.now c.args.slot.now c.items.result.now c.items.ensures placed rows c.distinct_names.result c.distinct_names.ensures.apart
-
-pub returns-clause-names : goal.returns-clause-names
-returns-clause-names c = same_names c.args.slot.now c.items.result.now c.items.ensures c.distinct_names.result c.distinct_names.ensures.names
+    fits c.args.nodes.now c.args.count c.args.variants.now c.args.slot.now placed rows c.of.result c.of.ensures.apart
