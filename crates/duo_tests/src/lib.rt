@@ -14,4 +14,6 @@ mod meeting;
 #[cfg(test)]
 mod running;
 #[cfg(test)]
+mod shown;
+#[cfg(test)]
 mod steady;

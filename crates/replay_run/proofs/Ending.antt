@@ -18,7 +18,7 @@ use Rattle.machine_core.proofs.Readers.{some_reader}
 use Rattle.batch_run.specs.Texts.{batch_text, most_requests, requests_fault}
 use Rattle.replay_run.specs.Asked.{Names, Contents, HoldsTable, HoldsTrace, HoldsRequests, AsksReplay, NoTable, NoTrace, NoRequests, Accepted, TakesFileLine, EndsAsAsked, TakesFront, TakesSome, Completes, is_status}
 use Rattle.batch_run.specs.Batch.{TakesOutput, TakesOutputFront}
-use Rattle.replay_run.specs.Judged.{Judges, judged_status, IsTextOf, TakesText, TakesTextFront, TakesWalk, TakesWalkFront}
+use Rattle.replay_run.specs.Judged.{HasLine, Judges, judged_status, IsTextOf, TakesText, TakesTextFront, TakesWalk, TakesWalkFront}
 use Rattle.replay_run.specs.declared.judge.Judged.{Judged}
 use Rattle.replay_run.specs.declared.judge.Judged.TheVariants as judged
 
@@ -134,11 +134,11 @@ module _ (files : Contents) (names : Names) where
 
 -- ---- the lines of refusals
 
-pub file_line_taken : (heard : List Heard) (status : ℕ) (judged : Judged) (old new : Option (List ℕ)) → status ≡ 5 → status ≡ judged_status judged → TakesText heard judged old new → TakesFileLine old new
-file_line_taken heard status (judged.NoTable fault) old new five is t = inl (fault, t.taken (table_line fault) refl)
-file_line_taken heard status (judged.NoTrace fault) old new five is t = inr (fault, t.taken (trace_line fault) refl)
-file_line_taken heard status judged.NoRequests old new five is t = absurd (let same : 5 ≡ 6 = sym five ∙ is in cc)
-file_line_taken heard status (judged.Walked walk) old new five is t = absurd (let same : 5 ≡ 0 = sym five ∙ is in cc)
+pub file_line_taken : (heard : List Heard) (status : ℕ) (judged : Judged) (old new : Option (List ℕ)) → status ≡ 5 → status ≡ judged_status judged → HasLine judged → TakesText heard judged old new → TakesFileLine old new
+file_line_taken heard status (judged.NoTable fault) old new five is line t = inl (record { fault = fault; refuses = line; taken = t.taken (table_line fault) refl })
+file_line_taken heard status (judged.NoTrace fault) old new five is line t = inr (record { fault = fault; refuses = line; taken = t.taken (trace_line fault) refl })
+file_line_taken heard status judged.NoRequests old new five is line t = absurd (let same : 5 ≡ 6 = sym five ∙ is in cc)
+file_line_taken heard status (judged.Walked walk) old new five is line t = absurd (let same : 5 ≡ 0 = sym five ∙ is in cc)
 
 pub requests_line_taken : (heard : List Heard) (status : ℕ) (judged : Judged) (old new : Option (List ℕ)) → status ≡ 6 → status ≡ judged_status judged → TakesText heard judged old new → Appends old new requests_fault
 requests_line_taken heard status (judged.NoTable fault) old new six is t = absurd (let same : 6 ≡ 5 = sym six ∙ is in cc)

@@ -1,14 +1,15 @@
 -- What a replay asks for: the status and the text that the contents of its files give.
-use Rattle.std.specs.Prelude.{◌≡◌, ℕ, ◌<◌, ◌≤◌, ◌==◌, Bool, ◌||◌, List, [], ◌∷◌, length, Option, Some, None, Result, Ok, Err, ◌⊎◌}
+use Rattle.std.specs.Prelude.{◌≡◌, ◌≢◌, ℕ, ◌<◌, ◌≤◌, ◌==◌, Bool, ◌||◌, List, [], ◌∷◌, length, Option, Some, None, Result, Ok, Err, ◌⊎◌}
 use Rattle.io_edge.specs.Taken.{Appends, AppendsFront}
 use Rattle.listen.specs.Pairs.{Heard}
 use Rattle.symtab.specs.declared.parts.TableParts.{TableParts}
 use Rattle.symtab_json.specs.declared.fault.TableFault.{TableFault}
+use Rattle.symtab_json.specs.declared.fault.TableFault.TheVariants.{NoMemory}
 use Rattle.trace_core.specs.Samples.{Samples}
 use Rattle.trace_world.specs.TraceWorld.{trace_world}
 use Rattle.trace_judge.specs.declared.trace_fault.TraceFault.{TraceFault}
 use Rattle.trace_judge.specs.Refusals.{table_line, trace_line}
-use Rattle.trace_judge.specs.Judgement.{JudgesTable, told_trace}
+use Rattle.trace_judge.specs.Judgement.{JudgesTable, IsRefusal, told_trace}
 use Rattle.machine_core.specs.Reading.{Reader, IsReader}
 use Rattle.batch_run.specs.Texts.{batch_text, most_requests, requests_fault}
 
@@ -97,9 +98,19 @@ pub data AsksReplay (heard : List Heard) (files : Contents) (names : Names) (sta
 abbrev pub is_status : ℕ → Bool
 is_status status = status == 0 || status == 5 || status == 6 || status == 7 || status == 8 || status == 9
 
--- the line of a refusal of the symbol file, or of the dump file
+-- the line of a refused symbol file was taken, or that of a refused dump file
+pub record TakesTableLine (old new : Option (List ℕ)) : Type 0 where
+  pub fault : TableFault
+  pub refuses : fault ≢ NoMemory
+  pub taken : Appends old new (table_line fault)
+
+pub record TakesTraceLine (old new : Option (List ℕ)) : Type 0 where
+  pub fault : TraceFault
+  pub refuses : IsRefusal fault
+  pub taken : Appends old new (trace_line fault)
+
 abbrev pub TakesFileLine : Option (List ℕ) → Option (List ℕ) → Type 0
-TakesFileLine old new = ((fault : TableFault) × Appends old new (table_line fault)) ⊎ ((fault : TraceFault) × Appends old new (trace_line fault))
+TakesFileLine old new = TakesTableLine old new ⊎ TakesTraceLine old new
 
 -- with the text that is asked for, of which the whole was taken
 pub record EndsAsAsked (heard : List Heard) (files : Contents) (names : Names) (status : ℕ) (old new : Option (List ℕ)) : Type 0 where

@@ -1,11 +1,13 @@
 -- A replay, judged, and the text that goes with what was judged.
-use Rattle.std.specs.Prelude.{◌≡◌, ℕ, List, Option, Some, None, Ok, Err}
+use Rattle.std.specs.Prelude.{◌≡◌, ◌≢◌, ℕ, List, Option, Some, None, Ok, Err}
 use Rattle.io_edge.specs.Taken.{Appends, AppendsFront}
 use Rattle.listen.specs.Pairs.{Heard}
 use Rattle.symtab.specs.declared.parts.TableParts.{TableParts}
+use Rattle.symtab_json.specs.declared.fault.TableFault.TheVariants.{NoMemory}
 use Rattle.trace_core.specs.Samples.{Samples}
 use Rattle.trace_world.specs.TraceWorld.{trace_world}
 use Rattle.vcd_trace.specs.Kept.{samples_of}
+use Rattle.trace_judge.specs.Judgement.{IsRefusal}
 use Rattle.trace_judge.specs.Refusals.{table_line, trace_line}
 use Rattle.machine_core.specs.Reading.{Reader, IsReader}
 use Rattle.batch_run.specs.Texts.{batch_text, requests_fault}
@@ -25,6 +27,13 @@ Judges files names (judged.NoTrace fault) = (parts : TableParts) × HoldsTable f
 Judges files names judged.NoRequests = (parts : TableParts) × HoldsTable files names (Ok parts) × ((samples : Samples) × HoldsTrace files names parts (Ok samples)) × HoldsRequests files names None
 Judges files names (judged.Walked walk) =
     HoldsTable files names (Ok walk.table) × HoldsTrace files names walk.table (Ok (samples_of walk.trace)) × HoldsRequests files names (Some walk.requests.items)
+
+-- what was refused has a line
+abbrev pub HasLine : Judged → Type 0
+HasLine (judged.NoTable fault) = fault ≢ NoMemory
+HasLine (judged.NoTrace fault) = IsRefusal fault
+HasLine judged.NoRequests = Unit {0}
+HasLine (judged.Walked walk) = Unit {0}
 
 abbrev pub judged_status : Judged → ℕ
 judged_status (judged.NoTable fault) = 5

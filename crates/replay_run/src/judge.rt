@@ -4,7 +4,7 @@ ghost use Rattle.std.specs.Prelude.{◌≡◌, ◌≤◌, ◌<◌, [], ◌∷◌
 ghost use Rattle.io_edge.specs.Faults.{Rose};
 ghost use Rattle.io_edge.specs.Taken.{AppendsFront};
 ghost use Rattle.replay_run.specs.Asked.{names_of, HoldsTable, is_status};
-ghost use Rattle.replay_run.specs.Judged.{Judges, judged_status, names_as};
+ghost use Rattle.replay_run.specs.Judged.{HasLine, Judges, judged_status, names_as};
 
 use crate::walk::Walk;
 use io_edge::Files;
@@ -60,6 +60,7 @@ fn judge_walk<F: Files>(
     files: &mut F,
 ) -> Result<Judged, ReadEnd>
     ensures judged { IfOk result (λ judged. IfSome (F.told files.old) (λ told. HoldsTable told (names_as replay.now) (Ok table) → Judges told (names_as replay.now) judged)) }
+    ensures line { IfOk result HasLine }
     ensures front { AppendsFront (F.asked files.old) (F.asked files.new) (replay.now.dump.now ∷ replay.now.requests.now ∷ []) }
     ensures failed { IsErrOf result ReadEnd.Failed → Rose (F.fault_count files.old) (F.fault_count files.new) }
     ensures later { F.fault_count files.old ≤ F.fault_count files.new }
@@ -85,6 +86,7 @@ pub(crate) fn judge<F: Files>(
     files: &mut F,
 ) -> Result<Judged, ReadEnd>
     ensures judged { IfOk result (λ judged. IfSome (F.told files.old) (λ told. Judges told (names_as replay.now) judged)) }
+    ensures line { IfOk result HasLine }
     ensures front { AppendsFront (F.asked files.old) (F.asked files.new) (names_of (names_as replay.now)) }
     ensures failed { IsErrOf result ReadEnd.Failed → Rose (F.fault_count files.old) (F.fault_count files.new) }
     ensures later { F.fault_count files.old ≤ F.fault_count files.new }

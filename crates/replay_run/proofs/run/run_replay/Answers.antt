@@ -6,7 +6,7 @@ pub returns-in-Ok-clause-file_line : goal.returns-in-Ok-clause-file_line
 returns-in-Ok-clause-file_line g c = λ five.
     let e = c.end.ensures in
     let early : c.end.result < 7 = rw five (lit< tt) in
-    file_line_taken _ c.end.result c.in-Ok.judged _ _ five (e.status early) (e.done early)
+    file_line_taken _ c.end.result c.in-Ok.judged _ _ five (e.status early) c.in-Ok.ensures.line (e.done early)
 
 pub returns-in-Ok-clause-requests_line : goal.returns-in-Ok-clause-requests_line
 returns-in-Ok-clause-requests_line g c = λ six.
