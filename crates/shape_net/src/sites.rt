@@ -1,6 +1,7 @@
 //! The statements of a variant as slots, in preorder.
 
 ghost use Rattle.std.specs.Prelude.{◌≡◌, ◌++◌, ◌≤◌, length, map, IfOk, OnOk};
+ghost use Rattle.std.specs.List.{flat_map};
 ghost use Rattle.design_core.specs.View.{block_of, stmt_of, variant_of};
 ghost use Rattle.design_core.specs.Statements.{stmts_at};
 ghost use Rattle.shape_net.specs.Heads.{head_of};
@@ -107,7 +108,23 @@ fn put_block(
     Ok(())
 }
 
-/// Puts the statements of a variant behind others, block by block.
+/// Puts the statements of blocks of a variant whose signals have these names behind others, block by block.
+fn put_blocks(
+    alloc: Global,
+    variant: u32,
+    signals: &Names,
+    blocks: &[Block],
+    slots: &mut Vec<NumberedSlot>,
+) -> Result<(), NoMemory>
+    ensures { OnOk result (slots.new.items ≡ slots.old.items ++ flat_map (block_slots variant signals.now) (map block_of blocks.now)) }
+{
+    for block in blocks {
+        put_block(alloc, variant, signals, block, slots)?;
+    }
+    Ok(())
+}
+
+/// Puts the statements of a variant behind others.
 fn put_variant(
     alloc: Global,
     number: u32,
@@ -117,9 +134,7 @@ fn put_variant(
     ensures { OnOk result (slots.new.items ≡ slots.old.items ++ variant_slots number (variant_of variant.now)) }
 {
     let signals = signal_names(alloc, variant.signals.items())?;
-    for block in &variant.blocks {
-        put_block(alloc, number, &signals, block, slots)?;
-    }
+    put_blocks(alloc, number, &signals, &variant.blocks, slots)?;
     Ok(())
 }
 
