@@ -1,5 +1,5 @@
 -- The place that is told is the least of those that there are.
-use Rattle.std.proofs.Common.{◌≡◌, ◌≤◌, ◌<◌, ◌-◌, ◌+◌, ℕ, Bool, true, false, List, [], ◌∷◌, ◌++◌, length, get_or, length-append, Option, Some, None, Ok, Err, refl, sym, ap, subst, ◌∙◌, arith, ◌⊎◌, inl, inr, if◌then◌else◌, nat_eq, ◌==◌, ◌&&◌, ◌||◌, append-nil, not, is_none}
+use Rattle.std.proofs.Common.{◌≡◌, ◌≤◌, ◌-◌, ◌+◌, ℕ, Bool, true, false, List, [], ◌∷◌, ◌++◌, length, get_or, length-append, Option, Some, None, Ok, Err, refl, sym, ap, subst, ◌∙◌, arith, inl, inr, if◌then◌else◌, nat_eq, ◌==◌, ◌&&◌, ◌||◌, append-nil, not, is_none}
 use Rattle.std.specs.Prelude.{take, min, position}
 use Rattle.std.proofs.lemmas.Bool.{cases_lt}
 use Rattle.gen_token.specs.Bytes.{is_text_byte, is_blank, begins}

@@ -1,5 +1,8 @@
 pub mod Conditions
+pub mod Evaluated
 pub mod FirstPlace
+pub mod Forms
+pub mod Names
 pub mod Nodes
 pub mod Offsets
 pub mod Refill

@@ -1,94 +1,25 @@
--- A condition that is bound part by part over the places of its names is its tree with those places for leaves, of the width that is
--- judged; and names that are found one after another are all found, or the first is refused.
-use Rattle.std.proofs.Common.{◌≡◌, ℕ, Bool, true, false, List, [], ◌∷◌, ◌++◌, Option, Some, None, Ok, Err, refl, sym, ap, ◌∙◌, append_assoc, append-nil}
-use Rattle.std.specs.Prelude.{map, drop, option_map}
-use Rattle.std.proofs.lemmas.List.{map-append}
-use Rattle.bv_core.specs.Operators.{width1_of, width2_of}
-use Rattle.bv_core.specs.declared.Op1.{Op1}
-use Rattle.bv_core.specs.declared.Op1.TheVariants as op1
-use Rattle.bv_core.specs.declared.Op2.{Op2}
+-- Names that are found one after another are all found, or the first is refused; and a form at their places is the expression's tree over
+-- them, of the width that is judged.
+use Rattle.std.proofs.Common.{◌≡◌, ◌+◌, ◌<◌, arith, length, get_or, drop, drop-cons, suc, ℕ, List, [], ◌∷◌, ◌++◌, Option, Some, None, Ok, Err, map, refl, sym, ap, ◌∙◌, append_assoc, append-nil}
+use Rattle.std.specs.Prelude.{option_map, Result, IfOk, IfErr}
 use Rattle.bv_core.specs.declared.Ref.{Ref}
 use Rattle.bv_core.specs.declared.Binding.{Binding}
 use Rattle.bv_core.specs.declared.Binding.TheVariants as binding
-use Rattle.tree_core.specs.Tree.{Tree, Const, One, Two, Mux}
-use Rattle.gen_tree.specs.Tree.{Expr, read, out, value, unary, binary, mux, zext, slice}
-use Rattle.cond_lang.specs.Names.{Name, number}
-use Rattle.cond_lang.specs.Meaning.{literal, unary_of, binary_of, tree_of, leaves}
+use Rattle.tree_core.specs.Tree.{Tree}
+use Rattle.gen_tree.specs.Tree.{Expr}
 use Rattle.cond_lang.specs.declared.fault.BindEnd.{BindEnd}
 use Rattle.cond_lang.specs.declared.fault.BindEnd.TheVariants as ends
-use Rattle.cond_lang.specs.Faults.{Refuses, MisfitAt}
-use Rattle.cond_lang.specs.Judged.{Refusal, not_in_scope, was_removed, is_unset, misfit, Judged, ◌>>=◌, fits_one, fits_two, fits_choice, fits_literal, fitting, tokens_before, width_in, refused_name, or_else, first_refused, status_width, width_or_misfit, unless_refused, judged}
-use Rattle.cond_lang.specs.Bound.{ref_width, status_of, scope_of, ref_or_nought, mapped, bound_by}
-use Rattle.cond_lang.specs.Parts.{Part, wide, fit, fit_one, fit_two, fit_choice, part_in}
+use Rattle.cond_lang.specs.declared.form.Part.{Part}
+use Rattle.cond_lang.specs.Names.{Name}
+use Rattle.cond_lang.specs.Meaning.{tree_of, leaves}
+use Rattle.cond_lang.specs.Faults.{Refuses, MisfitAt, Makes}
+use Rattle.cond_lang.specs.Judged.{Refusal, not_in_scope, was_removed, is_unset, misfit, Judged, width_in, refused_name, or_else, first_refused, status_width, width_or_misfit, unless_refused, judged}
+use Rattle.cond_lang.specs.Bound.{ref_width, status_of, scope_of, ref_or_nought, bound_by}
+use Rattle.cond_lang.specs.Form.{names_in, form_of, first_tree}
 use Rattle.cond_lang.specs.Found.{name_ref, and_then, found_after}
-
--- what is bound of a tree, before these places, and how its width is judged
-abbrev pub Same : (Name → Ref) → Tree Name → List Ref → Part → Judged → Type 0
-Same r t more p (Ok w) = (p ≡ Ok (mapped r t, more, w.1)) × (wide (mapped r t) ≡ w.0)
-Same r t more p (Err offset) = p ≡ Err offset
-
--- the last step: whether the operator fits
-fits_so : (r : Name → Ref) (t : Tree Name) (more : List Ref) (from rest : List ℕ) (b : Bool) (w : ℕ) → wide (mapped r t) ≡ w
-    → Same r t more (fit b (mapped r t) from >>= λ made. Ok (made, more, rest)) (fitting b w from rest)
-fits_so r t more from rest true w e = (refl, e)
-fits_so r t more from rest false w e = refl
-
-one_so : (r : Name → Ref) (t : Tree Name) (more : List Ref) (from : List ℕ) (n : ℕ) (o : Op1) (p : Part) (j : Judged) → Same r t more p j
-    → Same r (One o t) more (p >>= λ a. fit_one o a.0 from >>= λ made. Ok (made, a.1, drop n a.2)) (j >>= λ a. fitting (fits_one o a.0) (width1_of o a.0) from (drop n a.1))
-one_so r t more from n o p (Ok w) s = rw (s.0, ← s.1) (fits_so r (One o t) more from (drop n w.1) (fits_one o (wide (mapped r t))) (width1_of o (wide (mapped r t))) refl)
-one_so r t more from n o p (Err offset) s = rw s refl
-
--- the last step of two operands, behind the first
-second_so : (r : Name → Ref) (a b : Tree Name) (more : List Ref) (from : List ℕ) (o : Op2) (v : ℕ) (p : Part) (j : Judged) → wide (mapped r a) ≡ v → Same r b more p j
-    → Same r (Two o a b) more (p >>= λ y. fit_two o (mapped r a) y.0 from >>= λ made. Ok (made, y.1, drop 1 y.2)) (j >>= λ y. fitting (fits_two o v y.0) (width2_of o v y.0) from (drop 1 y.1))
-second_so r a b more from o v p (Ok w) e s =
-    rw (s.0, ← e, ← s.1) (fits_so r (Two o a b) more from (drop 1 w.1) (fits_two o (wide (mapped r a)) (wide (mapped r b))) (width2_of o (wide (mapped r a)) (wide (mapped r b))) refl)
-second_so r a b more from o v p (Err offset) e s = rw s refl
-
-two_so : (r : Name → Ref) (a b : Tree Name) (more : List Ref) (from : List ℕ) (o : Op2) (q : List Ref → List ℕ → Part) (k : List ℕ → Judged) (p : Part) (j : Judged)
-    → Same r a (map r (leaves b) ++ more) p j → ((at : List ℕ) → Same r b more (q (map r (leaves b) ++ more) at) (k at))
-    → Same r (Two o a b) more (p >>= λ x. q x.1 (drop 1 x.2) >>= λ y. fit_two o x.0 y.0 from >>= λ made. Ok (made, y.1, drop 1 y.2)) (j >>= λ x. k (drop 1 x.1) >>= λ y. fitting (fits_two o x.0 y.0) (width2_of o x.0 y.0) from (drop 1 y.1))
-two_so r a b more from o q k p (Ok w) s next = rw s.0 (second_so r a b more from o w.0 (q (map r (leaves b) ++ more) (drop 1 w.1)) (k (drop 1 w.1)) s.1 (next (drop 1 w.1)))
-two_so r a b more from o q k p (Err offset) s next = rw s refl
-
--- the same of three
-third_so : (r : Name → Ref) (c a b : Tree Name) (more : List Ref) (from : List ℕ) (u v : ℕ) (p : Part) (j : Judged) → wide (mapped r c) ≡ u → wide (mapped r a) ≡ v → Same r b more p j
-    → Same r (Mux c a b) more (p >>= λ y. fit_choice (mapped r c) (mapped r a) y.0 from >>= λ made. Ok (made, y.1, drop 1 y.2)) (j >>= λ y. fitting (fits_choice u v y.0) v from (drop 1 y.1))
-third_so r c a b more from u v p (Ok w) d e s =
-    rw (s.0, ← d, ← e, ← s.1) (fits_so r (Mux c a b) more from (drop 1 w.1) (fits_choice (wide (mapped r c)) (wide (mapped r a)) (wide (mapped r b))) (wide (mapped r a)) refl)
-third_so r c a b more from u v p (Err offset) d e s = rw s refl
-
-branches_so : (r : Name → Ref) (c a b : Tree Name) (more : List Ref) (from : List ℕ) (u : ℕ) (q : List Ref → List ℕ → Part) (k : List ℕ → Judged) (p : Part) (j : Judged)
-    → wide (mapped r c) ≡ u → Same r a (map r (leaves b) ++ more) p j → ((at : List ℕ) → Same r b more (q (map r (leaves b) ++ more) at) (k at))
-    → Same r (Mux c a b) more (p >>= λ x. q x.1 (drop 1 x.2) >>= λ y. fit_choice (mapped r c) x.0 y.0 from >>= λ made. Ok (made, y.1, drop 1 y.2)) (j >>= λ x. k (drop 1 x.1) >>= λ y. fitting (fits_choice u x.0 y.0) x.0 from (drop 1 y.1))
-branches_so r c a b more from u q k p (Ok w) d s next = rw s.0 (third_so r c a b more from u w.0 (q (map r (leaves b) ++ more) (drop 1 w.1)) (k (drop 1 w.1)) d s.1 (next (drop 1 w.1)))
-branches_so r c a b more from u q k p (Err offset) d s next = rw s refl
-
-three_so : (r : Name → Ref) (c a b : Tree Name) (more : List Ref) (from : List ℕ) (q q2 : List Ref → List ℕ → Part) (k k2 : List ℕ → Judged) (p : Part) (j : Judged)
-    → Same r c (map r (leaves a) ++ (map r (leaves b) ++ more)) p j
-    → ((at : List ℕ) → Same r a (map r (leaves b) ++ more) (q (map r (leaves a) ++ (map r (leaves b) ++ more)) at) (k at))
-    → ((at : List ℕ) → Same r b more (q2 (map r (leaves b) ++ more) at) (k2 at))
-    → Same r (Mux c a b) more
-    (p >>= λ z. q z.1 (drop 1 z.2) >>= λ x. q2 x.1 (drop 1 x.2) >>= λ y. fit_choice z.0 x.0 y.0 from >>= λ made. Ok (made, y.1, drop 1 y.2))
-    (j >>= λ z. k (drop 1 z.1) >>= λ x. k2 (drop 1 x.1) >>= λ y. fitting (fits_choice z.0 x.0 y.0) x.0 from (drop 1 y.1))
-three_so r c a b more from q q2 k k2 p (Ok w) s next last = rw s.0 (branches_so r c a b more from w.0 q2 k2 (q (map r (leaves a) ++ (map r (leaves b) ++ more)) (drop 1 w.1)) (k (drop 1 w.1)) s.1 (next (drop 1 w.1)) last)
-three_so r c a b more from q q2 k k2 p (Err offset) s next last = rw s refl
-
-pub refill : (r : Name → Ref) (e : Expr) (more : List Ref) (from : List ℕ) → Same r (tree_of e) more (part_in e (map r (leaves (tree_of e)) ++ more) from) (width_in (λ x. ref_width (r x)) e from)
-refill r (read f) more from = (refl, refl)
-refill r (out f q) more from = (refl, refl)
-refill r (value l) more from = fits_so r (Const (literal l)) more from (drop 1 from) (fits_literal (literal l)) (literal l).width refl
-refill r (unary o e) more from = one_so r (tree_of e) more from 1 (unary_of o) (part_in e (map r (leaves (tree_of e)) ++ more) (drop 2 from)) (width_in (λ x. ref_width (r x)) e (drop 2 from)) (refill r e more (drop 2 from))
-refill r (binary o e f) more from =
-    rw (map-append, append_assoc) (two_so r (tree_of e) (tree_of f) more from (binary_of o) (part_in f) (width_in (λ x. ref_width (r x)) f)
-    (part_in e (map r (leaves (tree_of e)) ++ (map r (leaves (tree_of f)) ++ more)) (drop (tokens_before o) from)) (width_in (λ x. ref_width (r x)) e (drop (tokens_before o) from))
-    (refill r e (map r (leaves (tree_of f)) ++ more) (drop (tokens_before o) from)) (λ at. refill r f more at))
-refill r (mux e f g) more from =
-    rw (map-append, map-append, append_assoc, append_assoc) (three_so r (tree_of e) (tree_of f) (tree_of g) more from (part_in f) (part_in g) (width_in (λ x. ref_width (r x)) f) (width_in (λ x. ref_width (r x)) g)
-    (part_in e (map r (leaves (tree_of e)) ++ (map r (leaves (tree_of f)) ++ (map r (leaves (tree_of g)) ++ more))) (drop 2 from)) (width_in (λ x. ref_width (r x)) e (drop 2 from))
-    (refill r e (map r (leaves (tree_of f)) ++ (map r (leaves (tree_of g)) ++ more)) (drop 2 from)) (λ at. refill r f (map r (leaves (tree_of g)) ++ more) at) (λ at. refill r g more at))
-refill r (zext e w) more from = one_so r (tree_of e) more from 3 (op1.Zext (number w)) (part_in e (map r (leaves (tree_of e)) ++ more) (drop 2 from)) (width_in (λ x. ref_width (r x)) e (drop 2 from)) (refill r e more (drop 2 from))
-refill r (slice e h l) more from = one_so r (tree_of e) more from 5 (op1.Slice (number h) (number l)) (part_in e (map r (leaves (tree_of e)) ++ more) from) (width_in (λ x. ref_width (r x)) e from) (refill r e more from)
+use Rattle.cond_lang.specs.Places.{unfit, unless_unfit, bound_at}
+use Rattle.cond_lang.proofs.Forms.{trees_of, widths_of, judged_before}
+use Rattle.cond_lang.proofs.Names.{begins_itself, refused_same}
 
 -- ---- names
 
@@ -117,67 +48,90 @@ widths_same places = λ i x. by (places x) i
     by (Some binding.Unset) = refl
     by (Some binding.Removed) = refl
 
+-- one more name is found
+pub next_found : (places : Name → Option Binding) (names : List Name) (i : ℕ) (refs more : List Ref) (x y : Name) (o : Option Binding) (at : Ref)
+    → i < length names → x ≡ get_or names i x → y ≡ x → o ≡ places y → name_ref y o ≡ Ok at → more ≡ refs ++ at ∷ []
+    → found_after places more (drop (i + 1) names) ≡ found_after places refs (drop i names)
+next_found places names i refs more x y o at h is same found told more_is =
+    let first : drop i names ≡ x ∷ drop (suc i) names = drop-cons names i x h ∙ ap (λ (z : Name). z ∷ drop (suc i) names) (sym is) in
+    let here : name_ref x (places x) ≡ Ok at = ap (λ (z : Name). name_ref z (places z)) (sym same) ∙ ap (name_ref y) (sym found) ∙ told in
+    let step : i + 1 ≡ suc i = omega arith in
+    ap (λ (n : ℕ). found_after places more (drop n names)) step
+    ∙ ap (λ (l : List Ref). found_after places l (drop (suc i) names)) more_is
+    ∙ ap (λ (r : Result Ref Refusal). and_then r (λ at. found_after places (refs ++ at ∷ []) (drop (suc i) names))) (sym here)
+    ∙ ap (found_after places refs) (sym first)
+
 -- ---- all of it
 
-abbrev names_of : Expr → List Name
-names_of e = leaves (tree_of e)
+abbrev pub names_of : Expr → List Name
+names_of e = names_in [] (tree_of e)
 
--- where all names are found, the places are those of the names, and none is refused
-record AllFound (places : Name → Option Binding) (names : List Name) (refs : List Ref) : Type 0 where
-  none : first_refused (scope_of places) names ≡ None
-  are : refs ≡ map (at_name places) names
-
-all_found : (places : Name → Option Binding) (names : List Name) (refs : List Ref) → found_after places [] names ≡ Ok refs → AllFound places names refs
-all_found places names refs e = by (first_refused (scope_of places) names) refl
-  where
-    by : (o : Option Refusal) → first_refused (scope_of places) names ≡ o → AllFound places names refs
-    by None eo = record { none = eo; are = (let h : Ok refs ≡ Ok (map (at_name places) names) = sym e ∙ found_is places names [] ∙ ap (λ (o : Option Refusal). unless_refused o (Ok (map (at_name places) names))) eo in cc) }
-    by (Some refusal) eo = absurd (let h : Ok refs ≡ Err refusal = sym e ∙ found_is places names [] ∙ ap (λ (o : Option Refusal). unless_refused o (Ok (map (at_name places) names))) eo in cc)
+-- the names of a text are refused as its leaves are
+told : (places : Name → Option Binding) (e : Expr) (o : Result (List Ref) Refusal) → found_after places [] (names_of e) ≡ o
+    → unless_refused (first_refused (scope_of places) (leaves (tree_of e))) (Ok (map (at_name places) (names_of e))) ≡ o
+told places e o h =
+    ap (λ (o : Option Refusal). unless_refused o (Ok (map (at_name places) (names_of e)))) (sym (refused_same (scope_of places) (tree_of e)))
+    ∙ sym (found_is places (names_of e) []) ∙ h
 
 pub refused_so : (places : Name → Option Binding) (e : Expr) (offsets : List ℕ) (refusal : Refusal) → found_after places [] (names_of e) ≡ Err refusal → judged (scope_of places) e offsets ≡ Err refusal
-refused_so places e offsets refusal h = by (first_refused (scope_of places) (names_of e)) refl
+refused_so places e offsets refusal h = by (first_refused (scope_of places) (leaves (tree_of e))) (told places e (Err refusal) h)
   where
-    by : (o : Option Refusal) → first_refused (scope_of places) (names_of e) ≡ o → judged (scope_of places) e offsets ≡ Err refusal
-    by None eo = absurd (let bad : Err refusal ≡ Ok (map (at_name places) (names_of e)) = sym h ∙ found_is places (names_of e) [] ∙ ap (λ (o : Option Refusal). unless_refused o (Ok (map (at_name places) (names_of e)))) eo in cc)
-    by (Some other) eo =
-        let same : Err refusal ≡ Err other = sym h ∙ found_is places (names_of e) [] ∙ ap (λ (o : Option Refusal). unless_refused o (Ok (map (at_name places) (names_of e)))) eo in
-        rw eo (let is : refusal ≡ other = cc in ap Err (sym is))
+    by : (o : Option Refusal) → unless_refused o (Ok (map (at_name places) (names_of e))) ≡ Err refusal
+        → unless_refused o (width_or_misfit (width_in (λ x. status_width (scope_of places x)) e offsets)) ≡ Err refusal
+    by None e = absurd cc
+    by (Some other) e = let is : other ≡ refusal = cc in ap Err is
 
--- what is judged where no name is refused
-judged_is : (places : Name → Option Binding) (e : Expr) (offsets : List ℕ) (j : Judged) → first_refused (scope_of places) (names_of e) ≡ None → width_in (λ x. ref_width (at_name places x)) e offsets ≡ j → judged (scope_of places) e offsets ≡ width_or_misfit j
-judged_is places e offsets j none is = rw (none, widths_same places, is) refl
+-- what a text is at its places, by what is judged
+abbrev as_bound : (Name → Option Binding) → Expr → Judged → Result (Tree Ref × ℕ) ℕ
+as_bound places e (Ok found) = Ok (bound_by places e, found.0)
+as_bound places e (Err offset) = Err offset
 
--- what is bound, by what is judged
-record Bindings (places : Name → Option Binding) (e : Expr) (offsets : List ℕ) (refs : List Ref) (j : Judged) : Type 0 where
+-- where all names are found, the places are those of the names, and the text is judged by its widths
+record IsAt (places : Name → Option Binding) (e : Expr) (offsets : List ℕ) (refs : List Ref) (j : Judged) : Type 0 where
   judged_as : judged (scope_of places) e offsets ≡ width_or_misfit j
-  same : Same (at_name places) (tree_of e) [] (part_in e refs offsets) j
+  bound : bound_at refs (form_of [] e offsets) ≡ as_bound places e j
 
-bindings : (places : Name → Option Binding) (e : Expr) (offsets : List ℕ) (refs : List Ref) → found_after places [] (names_of e) ≡ Ok refs → Bindings places e offsets refs (width_in (λ x. ref_width (at_name places x)) e offsets)
-bindings places e offsets refs h =
-    let f : AllFound places (names_of e) refs = all_found places (names_of e) refs h in
-    record { judged_as = judged_is places e offsets (width_in (λ x. ref_width (at_name places x)) e offsets) f.none refl; same = rw (f.are, ← append-nil (map (at_name places) (names_of e))) (refill (at_name places) e [] offsets) }
-
-abbrev tree_or : Tree Ref → Part → Tree Ref
-tree_or d (Ok p) = p.0
-tree_or d (Err offset) = d
-
-pub bound_so : (places : Name → Option Binding) (e : Expr) (offsets : List ℕ) (refs rest : List Ref) (t : Tree Ref) (left : List ℕ) → found_after places [] (names_of e) ≡ Ok refs → part_in e refs offsets ≡ Ok (t, rest, left)
-    → (judged (scope_of places) e offsets ≡ Ok (wide t)) × (t ≡ bound_by places e)
-bound_so places e offsets refs rest t left h made = by (width_in (λ x. ref_width (at_name places x)) e offsets) (bindings places e offsets refs h)
+bound_as : (places : Name → Option Binding) (e : Expr) (offsets : List ℕ) → bound_at (map (at_name places) (names_of e)) (form_of [] e offsets) ≡ as_bound places e (width_in (λ x. ref_width (at_name places x)) e offsets)
+bound_as places e offsets =
+    ap (bound_at (map (at_name places) (names_of e))) (sym (append-nil (form_of [] e offsets)))
+    ∙ (λ i. unless_unfit (widths_of (at_name places) (names_of e) [] e offsets [] (begins_itself (names_of e)) i)
+    (first_tree (trees_of (at_name places) (names_of e) [] e offsets [] (begins_itself (names_of e)) i)))
+    ∙ by (width_in (λ x. ref_width (at_name places x)) e offsets)
   where
-    by : (j : Judged) → Bindings places e offsets refs j → (judged (scope_of places) e offsets ≡ Ok (wide t)) × (t ≡ bound_by places e)
-    by (Ok w) b =
-        let both : Ok (t, rest, left) ≡ Ok (mapped (at_name places) (tree_of e), [], w.1) = sym made ∙ b.same.0 in
-        let tree : t ≡ mapped (at_name places) (tree_of e) = ap (tree_or t) both in
-        (b.judged_as ∙ ap Ok (sym b.same.1 ∙ ap wide (sym tree)), tree)
-    by (Err offset) b = absurd (let bad : Ok (t, rest, left) ≡ Err offset = sym made ∙ b.same in cc)
+    by : (j : Judged) → unless_unfit (judged_before j (unfit 0)) (bound_by places e) ≡ as_bound places e j
+    by (Ok found) = refl
+    by (Err offset) = refl
 
-pub misfit_so : (places : Name → Option Binding) (e : Expr) (offsets : List ℕ) (refs : List Ref) (offset : ℕ) → found_after places [] (names_of e) ≡ Ok refs → part_in e refs offsets ≡ Err offset → judged (scope_of places) e offsets ≡ Err (misfit offset)
-misfit_so places e offsets refs offset h made = by (width_in (λ x. ref_width (at_name places x)) e offsets) (bindings places e offsets refs h)
+is_at : (places : Name → Option Binding) (e : Expr) (offsets : List ℕ) (refs : List Ref) → found_after places [] (names_of e) ≡ Ok refs → IsAt places e offsets refs (width_in (λ x. ref_width (at_name places x)) e offsets)
+is_at places e offsets refs h = by (first_refused (scope_of places) (leaves (tree_of e))) refl (told places e (Ok refs) h)
   where
-    by : (j : Judged) → Bindings places e offsets refs j → judged (scope_of places) e offsets ≡ Err (misfit offset)
-    by (Ok w) b = absurd (let bad : Err offset ≡ Ok (mapped (at_name places) (tree_of e), [], w.1) = sym made ∙ b.same.0 in cc)
-    by (Err other) b = let both : Err offset ≡ Err other = sym made ∙ b.same in let is : offset ≡ other = cc in b.judged_as ∙ ap (λ (o : ℕ). Err (misfit o)) (sym is)
+    by : (o : Option Refusal) → first_refused (scope_of places) (leaves (tree_of e)) ≡ o → unless_refused o (Ok (map (at_name places) (names_of e))) ≡ Ok refs
+        → IsAt places e offsets refs (width_in (λ x. ref_width (at_name places x)) e offsets)
+    by None none same =
+        let are : map (at_name places) (names_of e) ≡ refs = cc in
+        record {
+          judged_as = (λ i. unless_refused (none i) (width_or_misfit (width_in (widths_same places i) e offsets)));
+          bound = ap (λ (refs : List Ref). bound_at refs (form_of [] e offsets)) (sym are) ∙ bound_as places e offsets;
+        }
+    by (Some refusal) none same = absurd cc
+
+pub bound_so : (places : Name → Option Binding) (e : Expr) (offsets : List ℕ) (refs : List Ref) (t : Tree Ref) (w : ℕ) → found_after places [] (names_of e) ≡ Ok refs → bound_at refs (form_of [] e offsets) ≡ Ok (t, w)
+    → (judged (scope_of places) e offsets ≡ Ok w) × (t ≡ bound_by places e)
+bound_so places e offsets refs t w h made = by (width_in (λ x. ref_width (at_name places x)) e offsets) (is_at places e offsets refs h)
+  where
+    by : (j : Judged) → IsAt places e offsets refs j → (judged (scope_of places) e offsets ≡ Ok w) × (t ≡ bound_by places e)
+    by (Ok found) b =
+        let both : ◌≡◌ {A = Result (Tree Ref × ℕ) ℕ} (Ok (t, w)) (Ok (bound_by places e, found.0)) = sym made ∙ b.bound in
+        let pair : ◌≡◌ {A = Tree Ref × ℕ} (t, w) (bound_by places e, found.0) = cc in
+        (b.judged_as ∙ ap Ok (sym (ap (λ (p : Tree Ref × ℕ). p.1) pair)), ap (λ (p : Tree Ref × ℕ). p.0) pair)
+    by (Err offset) b = absurd (let bad : Ok (t, w) ≡ Err offset = sym made ∙ b.bound in cc)
+
+pub misfit_so : (places : Name → Option Binding) (e : Expr) (offsets : List ℕ) (refs : List Ref) (offset : ℕ) → found_after places [] (names_of e) ≡ Ok refs → bound_at refs (form_of [] e offsets) ≡ Err offset → judged (scope_of places) e offsets ≡ Err (misfit offset)
+misfit_so places e offsets refs offset h made = by (width_in (λ x. ref_width (at_name places x)) e offsets) (is_at places e offsets refs h)
+  where
+    by : (j : Judged) → IsAt places e offsets refs j → judged (scope_of places) e offsets ≡ Err (misfit offset)
+    by (Ok found) b = absurd (let bad : Err offset ≡ Ok (bound_by places e, found.0) = sym made ∙ b.bound in cc)
+    by (Err other) b = let both : Err offset ≡ Err other = sym made ∙ b.bound in let is : offset ≡ other = cc in b.judged_as ∙ ap (λ (o : ℕ). Err (misfit o)) (sym is)
 
 -- ---- what `bind` answers
 
@@ -188,13 +142,37 @@ refuses_so places e offsets names (ends.Unset x) are h = refused_so places e off
 refuses_so places e offsets names (ends.Width offset) are h = refused_so places e offsets (misfit offset) (ap (found_after places []) (sym are) ∙ h)
 refuses_so places e offsets names ends.NoMemory are h = tt
 
-pub misfits_so : (places : Name → Option Binding) (e : Expr) (offsets : List ℕ) (names : List Name) (refs : List Ref) (end : BindEnd) → names ≡ names_of e → found_after places [] names ≡ Ok refs → MisfitAt end (part_in e refs offsets) → Refuses end (judged (scope_of places) e offsets)
-misfits_so places e offsets names refs (ends.Unknown x) are h m = absurd m
-misfits_so places e offsets names refs (ends.Removed x) are h m = absurd m
-misfits_so places e offsets names refs (ends.Unset x) are h m = absurd m
-misfits_so places e offsets names refs (ends.Width offset) are h m = misfit_so places e offsets refs offset (ap (found_after places []) (sym are) ∙ h) m
-misfits_so places e offsets names refs ends.NoMemory are h m = tt
+-- where the names of a text are found at these places, and this is its form
+pub record Reads (places : Name → Option Binding) (e : Expr) (offsets : List ℕ) (refs : List Ref) (parts : List Part) : Type 0 where
+  pub names : List Name
+  pub are : names ≡ names_of e
+  pub found : found_after places [] names ≡ Ok refs
+  pub form : parts ≡ form_of [] e offsets
 
-pub binds_so : (places : Name → Option Binding) (e : Expr) (offsets : List ℕ) (names : List Name) (refs rest : List Ref) (t : Tree Ref) (left : List ℕ) → names ≡ names_of e → found_after places [] names ≡ Ok refs → part_in e refs offsets ≡ Ok (t, rest, left)
-    → (judged (scope_of places) e offsets ≡ Ok (wide t)) × (t ≡ bound_by places e)
-binds_so places e offsets names refs rest t left are h made = bound_so places e offsets refs rest t left (ap (found_after places []) (sym are) ∙ h) made
+pub misfits_so : (places : Name → Option Binding) (e : Expr) (offsets : List ℕ) (refs : List Ref) (parts : List Part) (end : BindEnd) → Reads places e offsets refs parts → MisfitAt end (bound_at refs parts) → Refuses end (judged (scope_of places) e offsets)
+misfits_so places e offsets refs parts (ends.Unknown x) r m = absurd m
+misfits_so places e offsets refs parts (ends.Removed x) r m = absurd m
+misfits_so places e offsets refs parts (ends.Unset x) r m = absurd m
+misfits_so places e offsets refs parts (ends.Width offset) r m = misfit_so places e offsets refs offset (ap (found_after places []) (sym r.are) ∙ r.found) (ap (bound_at refs) (sym r.form) ∙ m)
+misfits_so places e offsets refs parts ends.NoMemory r m = tt
+
+pub binds_so : (places : Name → Option Binding) (e : Expr) (offsets : List ℕ) (refs : List Ref) (parts : List Part) (t : Tree Ref) (w : ℕ) → Reads places e offsets refs parts → bound_at refs parts ≡ Ok (t, w)
+    → (judged (scope_of places) e offsets ≡ Ok w) × (t ≡ bound_by places e)
+binds_so places e offsets refs parts t w r made = bound_so places e offsets refs t w (ap (found_after places []) (sym r.are) ∙ r.found) (ap (bound_at refs) (sym r.form) ∙ made)
+
+-- what is made of the places says what the text is there
+module _ {X : Type 0} (tree : X → Tree Ref) (width : X → ℕ) (places : Name → Option Binding) (e : Expr) (offsets : List ℕ) (refs : List Ref) (parts : List Part) (r : Reads places e offsets refs parts) where
+  abbrev Made : Result X BindEnd → Type 0
+  Made o = Makes (λ x. (tree x, width x)) o (bound_at refs parts)
+
+  pub width_told : (o : Result X BindEnd) → Made o → IfOk o (λ x. judged (scope_of places) e offsets ≡ Ok (width x))
+  width_told (Ok x) m = (binds_so places e offsets refs parts (tree x) (width x) r m).0
+  width_told (Err end) m = tt
+
+  pub tree_told : (o : Result X BindEnd) → Made o → IfOk o (λ x. tree x ≡ bound_by places e)
+  tree_told (Ok x) m = (binds_so places e offsets refs parts (tree x) (width x) r m).1
+  tree_told (Err end) m = tt
+
+  pub end_told : (o : Result X BindEnd) → Made o → IfErr o (λ end. Refuses end (judged (scope_of places) e offsets))
+  end_told (Ok x) m = tt
+  end_told (Err end) m = misfits_so places e offsets refs parts end r m

@@ -1,5 +1,5 @@
 -- The tests of widths tell what the operators take.
-use Rattle.std.proofs.Common.{◌≡◌, ◌≤◌, ◌<◌, ◌+◌, ℕ, Bool, true, false, IsTrue, ◌==◌, ◌&&◌, ◌↔◌, refl, sym, arith, ◌⊎◌}
+use Rattle.std.proofs.Common.{◌≡◌, ℕ, Bool, true, false, IsTrue, ◌↔◌, refl, sym, arith}
 use Rattle.bv_core.specs.Operators.{Fits1, Fits2, FitsMux}
 use Rattle.bv_core.specs.declared.Op1.{Op1}
 use Rattle.bv_core.specs.declared.Op1.TheVariants as op1

@@ -1,12 +1,12 @@
 pub mod Bound
 pub mod Faults
+pub mod Form
 pub mod Found
 pub mod Judged
 pub mod Laws
 pub mod Meaning
 pub mod Names
-pub mod PartView
-pub mod Parts
+pub mod Places
 pub mod Reader
 pub mod Reading
 pub mod Sampled
@@ -14,4 +14,3 @@ pub mod Shown
 pub mod Single
 pub mod Strict
 pub mod TextShown
-pub mod View

@@ -8,11 +8,11 @@ use Rattle.tree_core.specs.Tree.{Tree}
 use Rattle.tree_core.specs.Width.{width_of}
 use Rattle.cond_lang.specs.declared.cond.Cond.{Cond}
 use Rattle.cond_lang.specs.Bound.{ref_width}
-use Rattle.cond_lang.specs.View.{tree_at}
+use Rattle.cond_lang.specs.Places.{tree_at}
 
 -- the tree of a bound condition
 abbrev pub cond_tree : Cond → Tree Ref
-cond_tree c = tree_at c.root
+cond_tree c = tree_at c.refs.items c.form.value.parts.items
 
 -- its width
 abbrev pub cond_width : Cond → ℕ

@@ -5,18 +5,21 @@ ghost use Rattle.std.specs.Prelude.{◌≡◌, Option, Ok, IfOk, IfErr, []};
 ghost use Rattle.bv_core.specs.declared.Binding as binding;
 ghost use Rattle.cond_lang.specs.Names.{Name};
 ghost use Rattle.cond_lang.specs.Judged.{judged};
-ghost use Rattle.cond_lang.specs.Bound.{scope_of, bound_by};
-ghost use Rattle.cond_lang.specs.Faults.{Refuses, TellsFound};
+ghost use Rattle.cond_lang.specs.Bound.{IsRef, scope_of, bound_by};
+ghost use Rattle.cond_lang.specs.Faults.{Refuses, Makes, TellsFound};
 ghost use Rattle.cond_lang.specs.Found.{Finds, name_ref, found_after};
+ghost use Rattle.cond_lang.specs.Places.{AreRefs, bound_at};
 ghost use Rattle.cond_lang.specs.Shown.{cond_tree, cond_width};
 ghost use Rattle.cond_lang.specs.TextShown.{text_expr, text_offsets};
 
 use crate::cond::Cond;
 use crate::fault::BindEnd;
-use crate::part::part;
+use crate::form::Form;
 use crate::text::CondText;
+use crate::widths::judge;
 use bv_core::{Binding, Ref};
 use std::alloc::Global;
+use std::sync::Arc;
 use text_core::Text;
 
 /// What a name stands for. Names are texts, so other bytes stand for nothing.
@@ -32,7 +35,8 @@ fn found<F: Fn(&str) -> Option<Binding>>(name: &[u8], find: &F) -> Option<Bindin
 
 /// Where the value of a name is found, which stands for this.
 fn ref_of(alloc: Global, name: &[u8], found: Option<Binding>) -> Result<Ref, BindEnd>
-    ensures { TellsFound (λ at. at) result (name_ref name.now found) }
+    ensures found { TellsFound (λ at. at) result (name_ref name.now found) }
+    ensures good { IfOk result IsRef }
 {
     match found {
         Some(Binding::Value(at)) => Ok(at),
@@ -55,7 +59,8 @@ fn refs_of<F: Fn(&str) -> Option<Binding>>(
     find: &F,
 ) -> Result<Vec<Ref>, BindEnd>
     requires { F.IsAlwaysCallable find.now }
-    ensures { (places : Name → Option binding.Binding) → Finds F.Fn find.now places → TellsFound (λ refs. refs.items) result (found_after places [] names.now) }
+    ensures good { IfOk result (λ refs. AreRefs refs.items) }
+    ensures found { (places : Name → Option binding.Binding) → Finds F.Fn find.now places → TellsFound (λ refs. refs.items) result (found_after places [] names.now) }
 {
     let mut refs = Vec::new(alloc);
     for name in names {
@@ -66,8 +71,25 @@ fn refs_of<F: Fn(&str) -> Option<Binding>>(
     Ok(refs)
 }
 
+/// A form over places at which its widths fit.
+fn cond_at(form: &Arc<Form>, refs: Vec<Ref>) -> Result<Cond, BindEnd>
+    requires { AreRefs refs.items }
+    ensures { Makes (λ cond. (cond_tree cond, cond_width cond)) result (bound_at refs.items form.now.value.parts.items) }
+{
+    match judge(&form.parts, &refs) {
+        Ok((width, _)) => Ok(Cond {
+            form: Arc::try_clone(form)?,
+            refs,
+            width,
+        }),
+        Err(offset) => Err(BindEnd::Width {
+            offset: u64::from(offset),
+        }),
+    }
+}
+
 /// The condition that a text is at a place, where `find` answers what a name stands for there. It is asked once for each name in
-/// the text, in order.
+/// the text, in the order in which they first come, however often they stand there.
 ///
 /// # Errors
 ///
@@ -84,6 +106,5 @@ pub fn bind<F: Fn(&str) -> Option<Binding>>(
     ensures refused { (places : Name → Option binding.Binding) → Finds F.Fn find.now places → IfErr result (λ end. Refuses end (judged (scope_of places) (text_expr text.now) (text_offsets text.now))) }
 {
     let refs = refs_of(alloc, &text.names, find)?;
-    let (cond, _, _) = part(alloc, &text.expr, &refs, &text.offsets)?;
-    Ok(cond)
+    cond_at(&text.form, refs)
 }

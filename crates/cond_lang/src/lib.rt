@@ -2,17 +2,20 @@
 #![tactic(auto)]
 
 mod binding;
-mod bound;
 mod cond;
+mod counts;
+mod distinct;
 mod fault;
 mod fits;
+mod form;
 mod laws;
-mod names;
-mod part;
+mod ops;
 mod read;
+mod spelled;
 mod text;
 mod tokens;
 mod value;
+mod widths;
 
 pub use binding::bind;
 pub use cond::Cond;

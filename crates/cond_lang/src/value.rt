@@ -1,21 +1,25 @@
 //! The value of a condition, from the bottom up. An operand that is not known leaves nothing known, in a branch of a `mux` that is not
 //! taken too.
 
-ghost use Rattle.std.specs.Prelude.{◌≡◌, ℕ};
+ghost use Rattle.std.specs.Prelude.{◌≡◌, ◌<◌, ℕ, length};
 ghost use Rattle.bv_core.specs.declared.NodeId as node_id;
 ghost use Rattle.bv_core.specs.declared.Sample as sampled;
+ghost use Rattle.bv_core.specs.declared.Sample.TheVariants as samples;
 ghost use Rattle.tree_core.specs.Tree.{Leaf};
 ghost use Rattle.tree_core.specs.Width.{WellFormed, width_of};
 ghost use Rattle.cond_lang.specs.Bound.{EachNode, HasWidth, IsRef, known, ref_width, value_at, bound_value};
+ghost use Rattle.bv_core.specs.Value.{IsBits};
+ghost use Rattle.cond_lang.specs.Form.{op_of};
+ghost use Rattle.cond_lang.specs.Places.{ref_at, trees_at};
 ghost use Rattle.cond_lang.specs.Shown.{cond_tree, cond_width, truth_of};
 ghost use Rattle.cond_lang.specs.Strict.{on_one, on_two, on_three, strict_value};
-ghost use Rattle.cond_lang.specs.View.{tree_at};
 ghost use Rattle.bv_core.specs.Operators.{apply1_of, apply2_of, choose_of};
-ghost use Rattle.cond_lang.specs.Sampled.{Fits1At, Fits2At, FitsChoiceAt};
+ghost use Rattle.cond_lang.specs.Sampled.{Fits1At, Fits2At, FitsChoiceAt, IsReady, ComesTo, FirstIs, FirstComesTo};
 
 use crate::Cond;
-use crate::bound::Bound;
-use bv_core::{NodeId, Op1, Op2, Ref, Sample, Truth, apply1, apply2, choose};
+use crate::form::{Node, Part, Unary};
+use crate::ops::op_of;
+use bv_core::{Bv, NodeId, Op2, Ref, Sample, Truth, apply1, apply2, choose};
 
 /// What is found at a place.
 fn sample_at<F: Fn(NodeId) -> Sample>(at: Ref, value: &F) -> Sample
@@ -30,13 +34,21 @@ fn sample_at<F: Fn(NodeId) -> Sample>(at: Ref, value: &F) -> Sample
     }
 }
 
+/// What is found at the place with this number.
+fn leaf<F: Fn(NodeId) -> Sample>(refs: &[Ref], place: usize, value: &F) -> Sample
+    requires { IsReady (λ node. F.pre value.now node) (λ node found. F.post value.now node found) (Leaf (ref_at refs.now place)) }
+    ensures { ComesTo (λ node found. F.post value.now node found) (Leaf (ref_at refs.now place)) result }
+{
+    sample_at(refs[place], value)
+}
+
 /// An operator on what may be known.
-fn on_one(op: Op1, a: Sample) -> Sample
-    requires { Fits1At op a }
-    ensures { known result ≡ on_one (apply1_of op) (known a) }
+fn on_one(op: Unary, a: Sample) -> Sample
+    requires { Fits1At (op_of op) a }
+    ensures { known result ≡ on_one (apply1_of (op_of op)) (known a) }
 {
     match a {
-        Sample::Known(a) => Sample::Known(apply1(op, a)),
+        Sample::Known(a) => Sample::Known(apply1(op_of(op, a.width()), a)),
         Sample::Unknown => Sample::Unknown,
     }
 }
@@ -72,31 +84,47 @@ fn on_three(test: Sample, a: Sample, b: Sample) -> Sample
     Sample::Known(choose(test, a, b))
 }
 
-/// What an expression comes to.
-fn sampled<F: Fn(NodeId) -> Sample>(root: &Bound, value: &F) -> Sample
-    requires fits { WellFormed IsRef ref_width (tree_at root.now) }
-    requires callable { EachNode (λ node w. F.pre value.now node) (tree_at root.now) }
-    requires widths { EachNode (λ node w. (found : sampled.Sample) → F.post value.now node found → HasWidth w found) (tree_at root.now) }
-    ensures width { HasWidth (width_of ref_width (tree_at root.now)) result }
-    ensures value { (samples : node_id.NodeId → sampled.Sample) → EachNode (λ node w. (found : sampled.Sample) → F.post value.now node found → found ≡ samples node) (tree_at root.now) → known result ≡ strict_value (value_at samples) (tree_at root.now) }
+/// A literal that is a value.
+fn literal(width: u64, value: u128) -> Sample
+    requires { IsBits (record { width = width; value = value }) }
+    ensures { result ≡ samples.Known (record { width = width; value = value }) }
 {
-    match root {
-        Bound::Const(constant) => Sample::Known(*constant),
-        Bound::Leaf(at) => sample_at(*at, value),
-        Bound::One(op, a) => {
-            let a = sampled(a, value);
-            on_one(*op, a)
+    match Bv::make(width as u8, value) {
+        Some(constant) => Sample::Known(constant),
+        None => Sample::Unknown,
+    }
+}
+
+/// What the first tree of a form comes to, and the nodes behind it.
+fn sampled<'a, F: Fn(NodeId) -> Sample>(
+    parts: &'a [Part],
+    refs: &[Ref],
+    value: &F,
+) -> (Sample, &'a [Part])
+    requires { FirstIs (IsReady (λ node. F.pre value.now node) (λ node found. F.post value.now node found)) (trees_at refs.now parts.now) }
+    ensures shorter { length result.1.now < length parts.now }
+    ensures value { FirstComesTo (λ node found. F.post value.now node found) (trees_at refs.now parts.now) result.0 (trees_at refs.now result.1.now) }
+{
+    let [part, rest @ ..] = parts else {
+        return (Sample::Unknown, &[]);
+    };
+    match part.node {
+        Node::Const(width, value) => (literal(width, value), rest),
+        Node::Leaf(place) => (leaf(refs, place, value), rest),
+        Node::One(op) => {
+            let (a, rest) = sampled(rest, refs, value);
+            (on_one(op, a), rest)
         }
-        Bound::Two(op, a, b) => {
-            let a = sampled(a, value);
-            let b = sampled(b, value);
-            on_two(*op, a, b)
+        Node::Two(op) => {
+            let (a, rest) = sampled(rest, refs, value);
+            let (b, rest) = sampled(rest, refs, value);
+            (on_two(op, a, b), rest)
         }
-        Bound::Mux(test, a, b) => {
-            let test = sampled(test, value);
-            let a = sampled(a, value);
-            let b = sampled(b, value);
-            on_three(test, a, b)
+        Node::Mux => {
+            let (test, rest) = sampled(rest, refs, value);
+            let (a, rest) = sampled(rest, refs, value);
+            let (b, rest) = sampled(rest, refs, value);
+            (on_three(test, a, b), rest)
         }
     }
 }
@@ -119,7 +147,8 @@ pub fn value_of<F: Fn(NodeId) -> Sample>(cond: &Cond, value: &F) -> Sample
     ensures width { HasWidth (cond_width cond.now) result }
     ensures value { (samples : node_id.NodeId → sampled.Sample) → EachNode (λ node w. (found : sampled.Sample) → F.post value.now node found → found ≡ samples node) (cond_tree cond.now) → known result ≡ bound_value samples (cond_tree cond.now) }
 {
-    sampled(&cond.root, value)
+    let (found, _) = sampled(&cond.form.parts, &cond.refs, value);
+    found
 }
 
 /// Whether a condition holds, where nodes have the values that `value` gives. Takes no memory, as `value_of`.

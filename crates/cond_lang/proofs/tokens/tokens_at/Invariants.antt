@@ -1,4 +1,4 @@
-use Rattle.std.proofs.Common.{◌≡◌, ◌≤◌, ◌<◌, ◌^◌, ◌+◌, length}
+use Rattle.std.proofs.Common.{◌≡◌, ◌≤◌, ◌+◌, length}
 use Rattle.gen_token.specs.Words.{placed}
 use Rattle.gen_token.proofs.Runs.{Reaches}
 use Rattle.cond_lang.specs.Reading.{start, behind, offsets_from}

@@ -1,24 +1,21 @@
-use Rattle.std.proofs.Common.{◌≡◌, ap, ◌∙◌}
-use Rattle.bv_core.specs.Operators.{apply1_of, apply2_of, choose_of}
-use Rattle.cond_lang.specs.Strict.{on_one, on_two, on_three}
+use Rattle.cond_lang.specs.Places.{trees_at}
+use Rattle.cond_lang.proofs.Evaluated.{one_told, two_told, mux_told}
 use Rattle.cond_lang.proofs.value.+sampled.Goals as goal
 
 pub returns-in-One-clause-value : goal.returns-in-One-clause-value
-returns-in-One-clause-value g t c = λ samples h.
-    let each = rw (c.in-One.is, ← c.deref.ensures) at h in
-    rw (c.in-One.is, ← c.deref.ensures) (c.on_one.ensures ∙ ap (on_one (apply1_of c.in-One.op)) (c.sampled-a.ensures.value samples each))
+returns-in-One-clause-value g t c =
+    one_told _ _ c.args.refs.now c.args.parts.now _ c.in-One.op (trees_at c.args.refs.now c.sampled-a.result.1.now) c.sampled-a.result.0 c.on_one.result
+    c.in-len1-up.len_at_least c.in-One.is c.requires c.sampled-a.ensures.value c.on_one.ensures
 
 pub returns-in-Two-clause-value : goal.returns-in-Two-clause-value
-returns-in-Two-clause-value g t c = λ samples h.
-    let each = rw (c.in-Two.is, ← c.deref-in-Two.ensures, ← c.deref-in-Two-2.ensures) at h in
-    let first = c.sampled-a-in-Two.ensures.value samples each.0 in
-    let second = c.sampled-b.ensures.value samples each.1 in
-    rw (c.in-Two.is, ← c.deref-in-Two.ensures, ← c.deref-in-Two-2.ensures) (c.on_two.ensures ∙ (λ i. on_two (apply2_of c.in-Two.op) (first i) (second i)))
+returns-in-Two-clause-value g t c =
+    two_told _ _ c.args.refs.now c.args.parts.now _ c.in-Two.op (trees_at c.args.refs.now c.sampled-a-in-Two.result.1.now) (trees_at c.args.refs.now c.sampled-b.result.1.now)
+    c.sampled-a-in-Two.result.0 c.sampled-b.result.0 c.on_two.result
+    c.in-len1-up.len_at_least c.in-Two.is c.requires c.sampled-a-in-Two.ensures.value c.sampled-b.ensures.value c.on_two.ensures
 
 pub returns-in-Mux-clause-value : goal.returns-in-Mux-clause-value
-returns-in-Mux-clause-value g t c = λ samples h.
-    let each = rw (c.in-Mux.is, ← c.deref-in-Mux.ensures, ← c.deref-in-Mux-2.ensures, ← c.deref-in-Mux-3.ensures) at h in
-    let tested = c.sampled-test.ensures.value samples each.0 in
-    let first = c.sampled-a-in-Mux.ensures.value samples each.1 in
-    let second = c.sampled-b-in-Mux.ensures.value samples each.2 in
-    rw (c.in-Mux.is, ← c.deref-in-Mux.ensures, ← c.deref-in-Mux-2.ensures, ← c.deref-in-Mux-3.ensures) (c.on_three.ensures ∙ (λ i. on_three choose_of (tested i) (first i) (second i)))
+returns-in-Mux-clause-value g t c =
+    mux_told _ _ c.args.refs.now c.args.parts.now _
+    (trees_at c.args.refs.now c.sampled-test.result.1.now) (trees_at c.args.refs.now c.sampled-a-in-Mux.result.1.now) (trees_at c.args.refs.now c.sampled-b-in-Mux.result.1.now)
+    c.sampled-test.result.0 c.sampled-a-in-Mux.result.0 c.sampled-b-in-Mux.result.0 c.on_three.result
+    c.in-len1-up.len_at_least c.in-Mux.is c.requires c.sampled-test.ensures.value c.sampled-a-in-Mux.ensures.value c.sampled-b-in-Mux.ensures.value c.on_three.ensures

@@ -1,0 +1,123 @@
+//! The names of an expression, each once, in the order in which they first come. They are spelled once, when the text is read, and not each
+//! time that it is bound.
+
+ghost use Rattle.std.specs.Prelude.{◌≡◌, ◌++◌, [], ◌∷◌, false, IfOk, OnOk, codes, decimal};
+ghost use Rattle.gen_tree.specs.View.{fam_of};
+ghost use Rattle.cond_lang.specs.Form.{place_in, noted};
+ghost use Rattle.cond_lang.specs.Names.{fam_name, output_name};
+ghost use Rattle.names.specs.Known.{has};
+
+use crate::counts::number;
+use gen_tree::Fam;
+use names::NameSet;
+use std::alloc::Global;
+use text_core::{NoMemory, Text};
+
+/// Names in the order in which they came, no two the same; and the same names, found by hash.
+#[derive(Drop)]
+pub(crate) struct Names {
+    pub(crate) list: Vec<Text>,
+    pub(crate) known: NameSet,
+}
+
+/// No names. Takes no memory.
+pub(crate) fn no_names(alloc: Global) -> Names
+    ensures known { result.known ≡ [] }
+    ensures same { result.list.items ≡ [] }
+{
+    Names {
+        list: Vec::new(alloc),
+        known: NameSet::new(alloc),
+    }
+}
+
+/// Puts a name behind others that is not among them.
+fn put(alloc: Global, names: &mut Names, name: &[u8]) -> Result<(), NoMemory>
+    requires new { has names.old.known name.now ≡ false }
+    ensures known { OnOk result (names.new.known ≡ names.old.known ++ name.now ∷ []) }
+    ensures list { OnOk result (names.new.list.items ≡ names.old.list.items ++ name.now ∷ []) }
+{
+    names.known.insert(alloc, name)?;
+    names.list.push(Text::new(alloc, name)?)?;
+    Ok(())
+}
+
+/// The place of a name, which is put behind the others if it is not among them.
+fn place(alloc: Global, names: &mut Names, name: &[u8]) -> Result<usize, NoMemory>
+    requires { names.old.list.items ≡ names.old.known }
+    ensures place { IfOk result (λ place. place ≡ place_in names.old.known name.now) }
+    ensures known { OnOk result (names.new.known ≡ noted names.old.known name.now) }
+    ensures same { OnOk result (names.new.list.items ≡ names.new.known) }
+{
+    match names.known.place_of(name) {
+        Some(place) => Ok(place),
+        None => {
+            let place = names.known.count();
+            put(alloc, names, name)?;
+            Ok(place)
+        }
+    }
+}
+
+/// Puts the index of a member of a family behind its name, as `#2`.
+fn push_index(alloc: Global, name: &mut Vec<u8>, index: u64) -> Result<(), NoMemory>
+    ensures { OnOk result (name.new.items ≡ name.old.items ++ (codes "#" ++ decimal index)) }
+{
+    let index = format!(in alloc; "#{index}")?;
+    name.extend_from_slice(index.as_bytes())?;
+    Ok(())
+}
+
+/// The name of a member of a family, or a plain name.
+fn fam_name(alloc: Global, fam: &Fam) -> Result<Vec<u8>, NoMemory>
+    ensures { IfOk result (λ name. name.items ≡ fam_name (fam_of fam.now)) }
+{
+    let mut name = fam.name.bytes().to_vec(alloc)?;
+    match &fam.index {
+        Some(index) => push_index(alloc, &mut name, number(index))?,
+        None => {}
+    }
+    Ok(name)
+}
+
+/// The name of an output of a child.
+fn output_name(alloc: Global, fam: &Fam, output: &Text) -> Result<Vec<u8>, NoMemory>
+    ensures { IfOk result (λ name. name.items ≡ output_name (fam_of fam.now) output.now) }
+{
+    let mut name = fam_name(alloc, fam)?;
+    name.extend_from_slice(b".")?;
+    name.extend_from_slice(output.bytes())?;
+    Ok(name)
+}
+
+/// The place of a plain name or a member of a family. A plain name is looked up as it stands.
+pub(crate) fn fam_place(alloc: Global, names: &mut Names, fam: &Fam) -> Result<usize, NoMemory>
+    requires { names.old.list.items ≡ names.old.known }
+    ensures place { IfOk result (λ place. place ≡ place_in names.old.known (fam_name (fam_of fam.now))) }
+    ensures known { OnOk result (names.new.known ≡ noted names.old.known (fam_name (fam_of fam.now))) }
+    ensures same { OnOk result (names.new.list.items ≡ names.new.known) }
+{
+    match &fam.index {
+        None => place(alloc, names, fam.name.bytes()),
+        Some(_) => {
+            let name = fam_name(alloc, fam)?;
+            place(alloc, names, &name)
+        }
+    }
+}
+
+/// The place of an output of a child.
+pub(crate) fn output_place(
+    alloc: Global,
+    names: &mut Names,
+    fam: &Fam,
+    output: &Text,
+) -> Result<usize, NoMemory>
+    requires { names.old.list.items ≡ names.old.known }
+    ensures place { IfOk result (λ place. place ≡ place_in names.old.known (output_name (fam_of fam.now) output.now)) }
+    ensures known { OnOk result (names.new.known ≡ noted names.old.known (output_name (fam_of fam.now) output.now)) }
+    ensures same { OnOk result (names.new.list.items ≡ names.new.known) }
+{
+    let name = output_name(alloc, fam, output)?;
+    place(alloc, names, &name)
+}
