@@ -15,24 +15,24 @@ use text_core::{NoMemory, Text};
 
 /// Names in the order in which they came, no two the same; and the same names, found by hash.
 #[derive(Drop)]
-pub(crate) struct Names {
+pub(crate) struct DistinctNames {
     pub(crate) list: Vec<Text>,
     pub(crate) known: NameSet,
 }
 
 /// No names. Takes no memory.
-pub(crate) fn no_names(alloc: Global) -> Names
+pub(crate) fn no_names(alloc: Global) -> DistinctNames
     ensures known { result.known ≡ [] }
     ensures same { result.list.items ≡ [] }
 {
-    Names {
+    DistinctNames {
         list: Vec::new(alloc),
         known: NameSet::new(alloc),
     }
 }
 
 /// Puts a name behind others that is not among them.
-fn put(alloc: Global, names: &mut Names, name: &[u8]) -> Result<(), NoMemory>
+fn put(alloc: Global, names: &mut DistinctNames, name: &[u8]) -> Result<(), NoMemory>
     requires new { has names.old.known name.now ≡ false }
     ensures known { OnOk result (names.new.known ≡ names.old.known ++ name.now ∷ []) }
     ensures list { OnOk result (names.new.list.items ≡ names.old.list.items ++ name.now ∷ []) }
@@ -43,7 +43,7 @@ fn put(alloc: Global, names: &mut Names, name: &[u8]) -> Result<(), NoMemory>
 }
 
 /// The place of a name, which is put behind the others if it is not among them.
-fn place(alloc: Global, names: &mut Names, name: &[u8]) -> Result<usize, NoMemory>
+fn place(alloc: Global, names: &mut DistinctNames, name: &[u8]) -> Result<usize, NoMemory>
     requires { names.old.list.items ≡ names.old.known }
     ensures place { IfOk result (λ place. place ≡ place_in names.old.known name.now) }
     ensures known { OnOk result (names.new.known ≡ noted names.old.known name.now) }
@@ -91,7 +91,7 @@ fn output_name(alloc: Global, fam: &Fam, output: &Text) -> Result<Vec<u8>, NoMem
 }
 
 /// The place of a plain name or a member of a family. A plain name is looked up as it stands.
-pub(crate) fn fam_place(alloc: Global, names: &mut Names, fam: &Fam) -> Result<usize, NoMemory>
+pub(crate) fn fam_place(alloc: Global, names: &mut DistinctNames, fam: &Fam) -> Result<usize, NoMemory>
     requires { names.old.list.items ≡ names.old.known }
     ensures place { IfOk result (λ place. place ≡ place_in names.old.known (fam_name (fam_of fam.now))) }
     ensures known { OnOk result (names.new.known ≡ noted names.old.known (fam_name (fam_of fam.now))) }
@@ -109,7 +109,7 @@ pub(crate) fn fam_place(alloc: Global, names: &mut Names, fam: &Fam) -> Result<u
 /// The place of an output of a child.
 pub(crate) fn output_place(
     alloc: Global,
-    names: &mut Names,
+    names: &mut DistinctNames,
     fam: &Fam,
     output: &Text,
 ) -> Result<usize, NoMemory>

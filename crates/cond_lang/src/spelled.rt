@@ -10,7 +10,7 @@ ghost use Rattle.cond_lang.specs.Names.{fam_name, output_name};
 ghost use Rattle.cond_lang.specs.Meaning.{literal, tree_of};
 
 use crate::counts::{behind, fam_tokens, first, number, tokens_before};
-use crate::distinct::{Names, fam_place, output_place};
+use crate::distinct::{DistinctNames, fam_place, output_place};
 use crate::form::{Node, Part, Unary};
 use crate::ops::binary_of;
 use gen_tree::{Expr, Fam, Lit};
@@ -40,7 +40,7 @@ fn push_node(parts: &mut Vec<Part>, offsets: &[u32], node: Node) -> Result<(), N
 fn push_read<'a>(
     alloc: Global,
     parts: &mut Vec<Part>,
-    names: &mut Names,
+    names: &mut DistinctNames,
     fam: &Fam,
     offsets: &'a [u32],
 ) -> Result<&'a [u32], NoMemory>
@@ -59,7 +59,7 @@ fn push_read<'a>(
 fn push_output<'a>(
     alloc: Global,
     parts: &mut Vec<Part>,
-    names: &mut Names,
+    names: &mut DistinctNames,
     fam: &Fam,
     output: &Text,
     offsets: &'a [u32],
@@ -79,7 +79,7 @@ fn push_output<'a>(
 pub(crate) fn push<'a>(
     alloc: Global,
     parts: &mut Vec<Part>,
-    names: &mut Names,
+    names: &mut DistinctNames,
     expr: &Expr,
     offsets: &'a [u32],
 ) -> Result<&'a [u32], NoMemory>
