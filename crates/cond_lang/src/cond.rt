@@ -1,6 +1,5 @@
 //! Conditions at a place. That a condition's widths fit is kept in its type, so that evaluation need not ask.
 
-ghost use Rattle.std.specs.Prelude.{◌≡◌};
 ghost use Rattle.cond_lang.specs.Bound.{IsBound};
 ghost use Rattle.cond_lang.specs.Places.{tree_at};
 ghost use Rattle.cond_lang.specs.Single.{bound_prop};

@@ -1,18 +1,17 @@
 //! The value of a condition, from the bottom up. An operand that is not known leaves nothing known, in a branch of a `mux` that is not
 //! taken too.
 
-ghost use Rattle.std.specs.Prelude.{◌≡◌, ◌<◌, ℕ, length};
+ghost use Rattle.std.specs.Prelude.{◌≡◌, ◌<◌, length};
 ghost use Rattle.bv_core.specs.declared.NodeId as node_id;
 ghost use Rattle.bv_core.specs.declared.Sample as sampled;
 ghost use Rattle.bv_core.specs.declared.Sample.TheVariants as samples;
 ghost use Rattle.tree_core.specs.Tree.{Leaf};
-ghost use Rattle.tree_core.specs.Width.{WellFormed, width_of};
-ghost use Rattle.cond_lang.specs.Bound.{EachNode, HasWidth, IsRef, known, ref_width, value_at, bound_value};
+ghost use Rattle.cond_lang.specs.Bound.{EachNode, HasWidth, known, ref_width, value_at, bound_value};
 ghost use Rattle.bv_core.specs.Value.{IsBits};
 ghost use Rattle.cond_lang.specs.Form.{op_of};
 ghost use Rattle.cond_lang.specs.Places.{ref_at, trees_at};
 ghost use Rattle.cond_lang.specs.Shown.{cond_tree, cond_width, truth_of};
-ghost use Rattle.cond_lang.specs.Strict.{on_one, on_two, on_three, strict_value};
+ghost use Rattle.cond_lang.specs.Strict.{on_one, on_two, on_three};
 ghost use Rattle.bv_core.specs.Operators.{apply1_of, apply2_of, choose_of};
 ghost use Rattle.cond_lang.specs.Sampled.{Fits1At, Fits2At, FitsChoiceAt, IsReady, ComesTo, FirstIs, FirstComesTo};
 

@@ -2,7 +2,7 @@
 //! of what is judged, so that a binding keeps only its places.
 
 ghost use Rattle.std.specs.Prelude.{◌≡◌, ◌<◌, IfOk, length};
-ghost use Rattle.bv_core.specs.Operators.{Fits1, width1_of, width2_of};
+ghost use Rattle.bv_core.specs.Operators.{width1_of, width2_of};
 ghost use Rattle.cond_lang.specs.Bound.{ref_width};
 ghost use Rattle.cond_lang.specs.Judged.{fits_literal, fits_one, fits_two, fits_choice};
 ghost use Rattle.cond_lang.specs.Form.{op_of};
