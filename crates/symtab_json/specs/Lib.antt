@@ -1,10 +1,16 @@
 pub mod Paths
 pub mod Files
 pub mod Literals
+pub mod Standing
+pub mod Numerals
+pub mod Begun
 pub mod Entries
+pub mod Pairs
+pub mod Members
 pub mod Places
 pub mod Judged
 pub mod Told
+pub mod JsonText
 pub mod Fit
 pub mod Sample
 pub mod ReadBack

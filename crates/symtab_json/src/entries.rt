@@ -1,6 +1,6 @@
 //! What a symbol file has in its lists, before the numbers of nodes and variants are judged: these are of any size.
 
-use symtab::{GenVariable, NodeName, Row, VariantParts};
+use symtab::{GenVariable, Names, NodeName, Row, VariantParts};
 use text_core::{Listed, Text};
 
 /// An instance: its path, and a number for its variant.
@@ -11,13 +11,13 @@ pub struct InstanceEntry {
 }
 
 /// A slot: a number for its variant, its line, its generator variables, the names in scope, and its rows, whose numbers of
-/// nodes are of any size too.
+/// nodes are of any size too. The statements of a block have one list of names.
 #[derive(Drop)]
 pub struct SlotEntry {
     pub variant: u64,
     pub line: u32,
     pub gens: Listed<GenVariable>,
-    pub names: Listed<Text>,
+    pub names: Names,
     pub rows: Listed<Row>,
 }
 

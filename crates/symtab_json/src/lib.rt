@@ -3,6 +3,9 @@
 
 mod entries;
 mod fault;
+mod fields;
+mod first_pass;
+mod json_number;
 mod judged;
 mod laws;
 mod literal;
@@ -11,6 +14,7 @@ mod parts;
 mod quoted;
 mod read;
 mod readings;
+mod tokens;
 mod told;
 mod written;
 

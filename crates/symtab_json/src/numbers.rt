@@ -8,8 +8,8 @@ ghost use Rattle.symtab_json.specs.Judged.{cell_outside, entries_outside, first_
 use crate::entries::{Entries, InstanceEntry, Outside, SlotEntry};
 use bv_core::{Binding, Ref};
 use std::alloc::Global;
-use symtab::{Cells, InstanceParts, Names, Row, Slot};
-use text_core::{Listed, NoMemory, Text};
+use symtab::{Cells, InstanceParts, Row, Slot};
+use text_core::{Listed, NoMemory};
 
 /// A number, if it is outside a list of this size.
 fn outside_list(size: usize, id: u64) -> Option<Outside>
@@ -140,33 +140,18 @@ pub(crate) fn instance_parts(
     Ok(Listed::new(parts))
 }
 
-/// The names of a slot, which has the list of the slot before it where they are the same.
-fn names_of(
-    alloc: Global,
-    before: Option<&Slot>,
-    texts: Listed<Text>,
-) -> Result<Names, NoMemory>
-    ensures { IfOk result (λ names. names ≡ texts) }
-{
-    match before {
-        Some(slot) if slot.names.are(texts.items()) => slot.names.share(),
-        _ => Names::new(alloc, texts.into_items()),
-    }
-}
-
 /// The parts that slots are, whose variants are below 2^32.
 pub(crate) fn slot_parts(alloc: Global, slots: Vec<SlotEntry>) -> Result<Listed<Slot>, NoMemory>
     requires { AllByRecursion (λ slot. slot.variant < 2 ^ 32) slots.items }
     ensures { IfOk result (λ parts. parts ≡ map slot_parts slots.items) }
 {
-    let mut parts: Vec<Slot> = Vec::new(alloc);
+    let mut parts = Vec::new(alloc);
     for slot in slots {
-        let names = names_of(alloc, parts.last(), slot.names)?;
         parts.push(Slot {
             variant: slot.variant as u32,
             line: slot.line,
             gens: slot.gens,
-            names,
+            names: slot.names,
             rows: slot.rows,
         })?;
     }

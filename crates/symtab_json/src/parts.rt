@@ -15,7 +15,9 @@ use crate::written::{Written, push_comma, push_count, push_list, push_member, pu
 use bv_core::{Binding, Ref, text_of};
 use itoa::Buffer;
 use std::alloc::Global;
-use symtab::{Cells, GenVariable, InstanceParts, Names, NodeName, Row, Slot, TableParts, VariantParts};
+use symtab::{
+    Cells, GenVariable, InstanceParts, Names, NodeName, Row, Slot, TableParts, VariantParts,
+};
 use text_core::{Listed, NoMemory, Text};
 
 impl Written for u8 {

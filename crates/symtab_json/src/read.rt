@@ -1,18 +1,25 @@
-//! Reads a symbol file. Its parts are read and judged one after another in the order of their names, and the numbers of
-//! nodes and variants last.
+//! Reads a symbol file, in several passes over its text. The first judges whether it is JSON at all. Then its parts are read and judged one after
+//! another in the order of their names, each in a pass of its own, and the numbers of nodes and variants last. So nothing is kept of a file but its
+//! table: no tree of it is made, and what is passed over takes no room.
 
-ghost use Rattle.std.specs.Prelude.{◌≡◌, Ok, IfOk, IfErr, Option, option_map, Some};
-ghost use Rattle.serde_json.specs.View.{view};
-ghost use Rattle.symtab_json.specs.Judged.{told_instances, told_nodes, told_slots, told_top, list_len, variants_len, told_parts};
+ghost use Rattle.std.specs.Prelude.{◌≡◌, Ok, IfOk, IfErr, Option, Some, codes, is_some};
+ghost use Rattle.serde_json.specs.Find.{as_object};
+ghost use Rattle.symtab_json.specs.Entries.{told_list, told_member, told_node, told_short, told_slot};
+ghost use Rattle.symtab_json.specs.Judged.{told_instances, told_nodes, told_slots, told_top, variants_len, told_parts};
 ghost use Rattle.symtab_json.specs.Fit.{AreTableParts};
-ghost use Rattle.symtab_json.specs.Told.{IsFaultOf, by_instances, by_slots, json_of, told_entries, told_table, told_tree};
+ghost use Rattle.symtab_json.specs.JsonText.{value_of, IsJson};
+ghost use Rattle.symtab_json.specs.Told.{IsFaultOf, by_instances, by_slots, told_entries, told_table, told_tree};
 
 use crate::entries::{Entries, InstanceEntry, SlotEntry};
 use crate::fault::{Part, TableFault};
+use crate::fields::member;
+use crate::first_pass::json_text;
 use crate::judged::{are_apart, are_full, counts_of, is_first};
 use crate::numbers::{entries_outside, instance_parts, slot_parts};
-use crate::told::{count_member, list, member};
-use serde_json::Value;
+use crate::readings::SlotList;
+use crate::tokens::opens_object;
+use crate::told::{ListLen, LongList, Told};
+use json::{Reader, Scratch};
 use std::alloc::Global;
 use symtab::{NodeName, Table, TableEnd, TableParts, VariantParts};
 use text_core::{Listed, NoMemory, Text};
@@ -20,11 +27,40 @@ use text_core::{Listed, NoMemory, Text};
 /// The largest file in bytes: 64 MiB.
 const MOST_BYTES: usize = 64 << 20;
 
-/// The instances of a file. None where they break a rule of shape.
-fn instances(alloc: Global, value: &Value) -> Result<Option<Listed<InstanceEntry>>, NoMemory>
-    ensures { IfOk result (λ found. found ≡ told_instances (view value.now)) }
+/// Whether a file is an object.
+fn is_object(scratch: &mut Scratch, text: &str) -> Result<bool, NoMemory>
+    requires { IsJson text.now }
+    ensures { IfOk result (λ is. is ≡ is_some (as_object (value_of text.now))) }
 {
-    let found: Option<Listed<InstanceEntry>> = member(alloc, &[], value, "instances")?;
+    let mut reader = Reader::new(text, scratch)?;
+    Ok(opens_object(&mut reader))
+}
+
+/// What the part of a file with this key tells, over these nodes.
+fn part<T: Told + Drop>(
+    alloc: Global,
+    scratch: &mut Scratch,
+    text: &str,
+    nodes: &[NodeName],
+    key: &str,
+) -> Result<Option<T>, NoMemory>
+    requires { IsJson text.now }
+    ensures { IfOk result (λ found. found ≡ told_member (T.told nodes.now) key.now (value_of text.now)) }
+{
+    let mut reader = Reader::new(text, scratch)?;
+    member(alloc, nodes, &mut reader, key)
+}
+
+/// The instances of a file. None where they break a rule of shape.
+fn instances(
+    alloc: Global,
+    scratch: &mut Scratch,
+    text: &str,
+) -> Result<Option<Listed<InstanceEntry>>, NoMemory>
+    requires { IsJson text.now }
+    ensures { IfOk result (λ found. found ≡ told_instances (value_of text.now)) }
+{
+    let found: Option<Listed<InstanceEntry>> = part(alloc, scratch, text, &[], "instances")?;
     let Some(instances) = found else {
         return Ok(None);
     };
@@ -35,15 +71,32 @@ fn instances(alloc: Global, value: &Value) -> Result<Option<Listed<InstanceEntry
     }
 }
 
-/// The nodes of a file. None where they break a rule of shape.
-fn nodes(alloc: Global, value: &Value) -> Result<Option<Listed<NodeName>>, NoMemory>
-    ensures { IfOk result (λ found. found ≡ told_nodes (view value.now)) }
+/// The list of the nodes of a file.
+fn node_list(
+    alloc: Global,
+    scratch: &mut Scratch,
+    text: &str,
+) -> Result<Option<Listed<NodeName>>, NoMemory>
+    requires { IsJson text.now }
+    ensures { IfOk result (λ found. found ≡ told_member (told_list told_node) (codes "nodes") (value_of text.now)) }
 {
-    let Some(value) = value.get("nodes") else {
-        return Ok(None);
-    };
-    let found: Option<Listed<NodeName>> = list(alloc, &[], value)?;
-    let Some(nodes) = found else {
+    let found: Option<LongList<NodeName>> = part(alloc, scratch, text, &[], "nodes")?;
+    match found {
+        Some(list) => Ok(Some(list.items)),
+        None => Ok(None),
+    }
+}
+
+/// The nodes of a file. None where they break a rule of shape.
+fn nodes(
+    alloc: Global,
+    scratch: &mut Scratch,
+    text: &str,
+) -> Result<Option<Listed<NodeName>>, NoMemory>
+    requires { IsJson text.now }
+    ensures { IfOk result (λ found. found ≡ told_nodes (value_of text.now)) }
+{
+    let Some(nodes) = node_list(alloc, scratch, text)? else {
         return Ok(None);
     };
     if are_apart(alloc, nodes.items())? {
@@ -53,42 +106,52 @@ fn nodes(alloc: Global, value: &Value) -> Result<Option<Listed<NodeName>>, NoMem
     }
 }
 
-/// How many entries a list has; 0 where it is no list.
-#[tactic(auto, using(crate::proofs::Lengths::items_length))]
-fn list_len(value: &Value) -> usize
-    ensures { result ≡ list_len (view value.now) }
+/// How many variants a file has, whatever they are.
+fn variants_len(alloc: Global, scratch: &mut Scratch, text: &str) -> Result<usize, NoMemory>
+    requires { IsJson text.now }
+    ensures { IfOk result (λ count. count ≡ variants_len (value_of text.now)) }
 {
-    match value.as_array() {
-        Some(list) => list.len(),
-        None => 0,
+    let found: Option<ListLen> = part(alloc, scratch, text, &[], "variants")?;
+    match found {
+        Some(len) => Ok(len.0),
+        None => Ok(0),
     }
 }
 
-/// How many variants a file has, whatever they are.
-fn variants_len(value: &Value) -> usize
-    ensures { result ≡ variants_len (view value.now) }
+/// The list of the slots of a file with these nodes.
+fn slot_list(
+    alloc: Global,
+    scratch: &mut Scratch,
+    text: &str,
+    nodes: &[NodeName],
+) -> Result<Option<Listed<SlotEntry>>, NoMemory>
+    requires { IsJson text.now }
+    ensures { IfOk result (λ found. found ≡ told_member (told_short (told_slot nodes.now)) (codes "slots") (value_of text.now)) }
 {
-    match value.get("variants") {
-        Some(variants) => list_len(variants),
-        None => 0,
+    let found: Option<SlotList> = part(alloc, scratch, text, nodes, "slots")?;
+    match found {
+        Some(list) => Ok(Some(list.slots)),
+        None => Ok(None),
     }
 }
 
 /// The slots of a file with these instances and nodes. None where they break a rule of shape.
 fn slots(
     alloc: Global,
-    value: &Value,
+    scratch: &mut Scratch,
+    text: &str,
     instances: &[InstanceEntry],
     nodes: &[NodeName],
 ) -> Result<Option<Listed<SlotEntry>>, NoMemory>
-    ensures { IfOk result (λ found. found ≡ told_slots (view value.now) instances.now nodes.now) }
+    requires { IsJson text.now }
+    ensures { IfOk result (λ found. found ≡ told_slots (value_of text.now) instances.now nodes.now) }
 {
     let counts = counts_of(alloc, instances)?;
-    let found: Option<Listed<SlotEntry>> = member(alloc, nodes, value, "slots")?;
-    let Some(slots) = found else {
+    let variants = variants_len(alloc, scratch, text)?;
+    let Some(slots) = slot_list(alloc, scratch, text, nodes)? else {
         return Ok(None);
     };
-    if are_full(alloc, variants_len(value), &counts, slots.items())? {
+    if are_full(alloc, variants, &counts, slots.items())? {
         Ok(Some(slots))
     } else {
         Ok(None)
@@ -96,10 +159,16 @@ fn slots(
 }
 
 /// The path of instance 0 of a file with these instances. None where it is another.
-fn top(alloc: Global, value: &Value, instances: &[InstanceEntry]) -> Result<Option<Text>, NoMemory>
-    ensures { IfOk result (λ found. found ≡ told_top (view value.now) instances.now) }
+fn top(
+    alloc: Global,
+    scratch: &mut Scratch,
+    text: &str,
+    instances: &[InstanceEntry],
+) -> Result<Option<Text>, NoMemory>
+    requires { IsJson text.now }
+    ensures { IfOk result (λ found. found ≡ told_top (value_of text.now) instances.now) }
 {
-    let found: Option<Text> = member(alloc, &[], value, "top")?;
+    let found: Option<Text> = part(alloc, scratch, text, &[], "top")?;
     let Some(top) = found else {
         return Ok(None);
     };
@@ -113,18 +182,20 @@ fn top(alloc: Global, value: &Value, instances: &[InstanceEntry]) -> Result<Opti
 /// The entries of a file whose instances, nodes and slots were read: the rest of its parts is read.
 fn with_slots(
     alloc: Global,
-    value: &Value,
+    scratch: &mut Scratch,
+    text: &str,
     instances: Listed<InstanceEntry>,
     nodes: Listed<NodeName>,
     slots: Listed<SlotEntry>,
 ) -> Result<Entries, TableFault>
-    ensures ok { IfOk result (λ entries. by_slots (view value.now) instances nodes (Some slots) ≡ Ok entries) }
-    ensures err { IfErr result (IsFaultOf (by_slots (view value.now) instances nodes (Some slots))) }
+    requires { IsJson text.now }
+    ensures ok { IfOk result (λ entries. by_slots (value_of text.now) instances nodes (Some slots) ≡ Ok entries) }
+    ensures err { IfErr result (IsFaultOf (by_slots (value_of text.now) instances nodes (Some slots))) }
 {
-    let Some(top) = top(alloc, value, instances.items())? else {
+    let Some(top) = top(alloc, scratch, text, instances.items())? else {
         return Err(TableFault::BadShape { path: Part::Top });
     };
-    let found: Option<Listed<VariantParts>> = member(alloc, &[], value, "variants")?;
+    let found: Option<Listed<VariantParts>> = part(alloc, scratch, text, &[], "variants")?;
     let Some(variants) = found else {
         return Err(TableFault::BadShape {
             path: Part::Variants,
@@ -142,28 +213,31 @@ fn with_slots(
 /// The entries of a file whose instances were read: the rest of its parts is read.
 fn with_instances(
     alloc: Global,
-    value: &Value,
+    scratch: &mut Scratch,
+    text: &str,
     instances: Listed<InstanceEntry>,
 ) -> Result<Entries, TableFault>
-    ensures ok { IfOk result (λ entries. by_instances (view value.now) (Some instances) ≡ Ok entries) }
-    ensures err { IfErr result (IsFaultOf (by_instances (view value.now) (Some instances))) }
+    requires { IsJson text.now }
+    ensures ok { IfOk result (λ entries. by_instances (value_of text.now) (Some instances) ≡ Ok entries) }
+    ensures err { IfErr result (IsFaultOf (by_instances (value_of text.now) (Some instances))) }
 {
-    let Some(nodes) = nodes(alloc, value)? else {
+    let Some(nodes) = nodes(alloc, scratch, text)? else {
         return Err(TableFault::BadShape { path: Part::Nodes });
     };
-    let Some(slots) = slots(alloc, value, instances.items(), nodes.items())? else {
+    let Some(slots) = slots(alloc, scratch, text, instances.items(), nodes.items())? else {
         return Err(TableFault::BadShape { path: Part::Slots });
     };
-    with_slots(alloc, value, instances, nodes, slots)
+    with_slots(alloc, scratch, text, instances, nodes, slots)
 }
 
 /// The entries of a file of version 1.
-fn parts_in(alloc: Global, value: &Value) -> Result<Entries, TableFault>
-    ensures ok { IfOk result (λ entries. by_instances (view value.now) (told_instances (view value.now)) ≡ Ok entries) }
-    ensures err { IfErr result (IsFaultOf (by_instances (view value.now) (told_instances (view value.now)))) }
+fn parts_in(alloc: Global, scratch: &mut Scratch, text: &str) -> Result<Entries, TableFault>
+    requires { IsJson text.now }
+    ensures ok { IfOk result (λ entries. by_instances (value_of text.now) (told_instances (value_of text.now)) ≡ Ok entries) }
+    ensures err { IfErr result (IsFaultOf (by_instances (value_of text.now) (told_instances (value_of text.now)))) }
 {
-    match instances(alloc, value)? {
-        Some(instances) => with_instances(alloc, value, instances),
+    match instances(alloc, scratch, text)? {
+        Some(instances) => with_instances(alloc, scratch, text, instances),
         None => Err(TableFault::BadShape {
             path: Part::Instances,
         }),
@@ -171,14 +245,16 @@ fn parts_in(alloc: Global, value: &Value) -> Result<Entries, TableFault>
 }
 
 /// The entries of a file.
-fn entries_in(alloc: Global, value: &Value) -> Result<Entries, TableFault>
-    ensures ok { IfOk result (λ entries. told_tree (view value.now) ≡ Ok entries) }
-    ensures err { IfErr result (IsFaultOf (told_tree (view value.now))) }
+fn entries_in(alloc: Global, scratch: &mut Scratch, text: &str) -> Result<Entries, TableFault>
+    requires { IsJson text.now }
+    ensures ok { IfOk result (λ entries. told_tree (value_of text.now) ≡ Ok entries) }
+    ensures err { IfErr result (IsFaultOf (told_tree (value_of text.now))) }
 {
-    if !value.is_object() {
+    if !is_object(scratch, text)? {
         return Err(TableFault::BadShape { path: Part::Whole });
     }
-    let Some(found) = count_member(value, "version") else {
+    let found: Option<u64> = part(alloc, scratch, text, &[], "version")?;
+    let Some(found) = found else {
         return Err(TableFault::BadShape {
             path: Part::Version,
         });
@@ -186,35 +262,20 @@ fn entries_in(alloc: Global, value: &Value) -> Result<Entries, TableFault>
     if found != 1 {
         return Err(TableFault::Version { found });
     }
-    parts_in(alloc, value)
+    parts_in(alloc, scratch, text)
 }
 
-/// The JSON value of a text. None where it is none.
-fn json_of(alloc: Global, text: &[u8]) -> Result<Option<Value>, NoMemory>
-    ensures { IfOk result (λ value. option_map view value ≡ json_of text.now) }
+/// The entries of the file that bytes are.
+fn read_entries(alloc: Global, bytes: &[u8]) -> Result<Entries, TableFault>
+    ensures ok { IfOk result (λ entries. told_entries bytes.now ≡ Ok entries) }
+    ensures err { IfErr result (IsFaultOf (told_entries bytes.now)) }
 {
-    match Value::from_slice(alloc, text) {
-        Ok(value) => Ok(Some(value)),
-        Err(e) => {
-            if e.is_memory() {
-                Err(NoMemory)
-            } else {
-                Ok(None)
-            }
-        }
-    }
-}
-
-/// The entries of the file that a text is.
-fn read_entries(alloc: Global, text: &[u8]) -> Result<Entries, TableFault>
-    ensures ok { IfOk result (λ entries. told_entries text.now ≡ Ok entries) }
-    ensures err { IfErr result (IsFaultOf (told_entries text.now)) }
-{
-    if text.len() > MOST_BYTES {
+    if bytes.len() > MOST_BYTES {
         return Err(TableFault::TooLong);
     }
-    match json_of(alloc, text)? {
-        Some(value) => entries_in(alloc, &value),
+    let mut scratch = Scratch::new(alloc);
+    match json_text(&mut scratch, bytes)? {
+        Some(text) => entries_in(alloc, &mut scratch, text),
         None => Err(TableFault::NotJson),
     }
 }

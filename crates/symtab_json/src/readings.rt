@@ -1,87 +1,79 @@
 //! What each entry of a symbol file tells.
 
-ghost use Rattle.std.specs.Prelude.{◌≡◌, IfOk, codes};
-ghost use Rattle.serde_json.specs.View.{view};
-ghost use Rattle.symtab_json.specs.Entries.{told_short, told_mark, told_cell, told_gen, told_instance, told_line, told_member, told_node, told_on, told_ref, told_row, told_slot, told_variant, told_width_at};
+ghost use Rattle.std.specs.Prelude.{◌≡◌, ◌∷◌, ◌++◌, [], IfOk, OnOk, None, Some, option_map};
+ghost use Rattle.std.specs.Bool.{MatchBool};
+ghost use Rattle.bv_core.specs.declared.Binding.{Binding};
+ghost use Rattle.serde_json.specs.Data.{Data};
+ghost use Rattle.serde_json.specs.Find.{as_str};
+ghost use Rattle.symtab_json.specs.Begun.{IsScalar};
+ghost use Rattle.symtab_json.specs.Entries.{made_row, made_slot, told_short, told_mark, told_cell, told_gen, told_instance, told_items, told_node, told_on, told_ref, told_row, told_slot, told_variant, told_width_at};
+ghost use Rattle.symtab_json.specs.Standing.{head_items, head_value, past_items, past_value, AreItems, IsValue};
 
 use crate::entries::{InstanceEntry, SlotEntry};
+use crate::fields::{Fields, object};
+use crate::json_number::Number;
 use crate::literal::literal;
-use crate::told::{Told, count_member, gen_number, line, member, two, width};
+use crate::tokens::{Scalar, opens_list, pass_items, pass_value, read_scalar};
+use crate::told::{Told, pair};
 use bv_core::{Binding, NodeId, Ref};
-use serde_json::Value;
+use json::Reader;
 use std::alloc::Global;
-use symtab::{Cells, GenVariable, NodeName, Row, VariantParts};
+use symtab::{Cells, GenVariable, Names, NodeName, Row, VariantParts};
 use text_core::{Listed, NoMemory, Text};
 
 impl Told for NodeName {
     ghost told = { λ nodes d. told_node d };
 
-    fn read(alloc: Global, _nodes: &[NodeName], value: &Value) -> Result<Option<Self>, NoMemory> {
-        let Some((first, second)) = two(value) else {
-            return Ok(None);
-        };
-        let Some(name) = first.as_str() else {
-            return Ok(None);
-        };
-        let Some(width) = width(second) else {
-            return Ok(None);
-        };
-        let name = Text::new(alloc, name.as_bytes())?;
-        Ok(Some(NodeName { name, width }))
+    #[tactic(auto, using(crate::proofs::Pairs::node_paired))]
+    fn read(
+        alloc: Global,
+        nodes: &[NodeName],
+        reader: &mut Reader<'_>,
+    ) -> Result<Option<Self>, NoMemory> {
+        let found: Option<(Text, u8)> = pair(alloc, nodes, reader)?;
+        Ok(found.map(|(name, width)| NodeName { name, width }))
     }
 }
 
 impl Told for GenVariable {
     ghost told = { λ nodes d. told_gen d };
 
-    fn read(alloc: Global, _nodes: &[NodeName], value: &Value) -> Result<Option<Self>, NoMemory> {
-        let Some((first, second)) = two(value) else {
-            return Ok(None);
-        };
-        let Some(name) = first.as_str() else {
-            return Ok(None);
-        };
-        let Some(value) = gen_number(second) else {
-            return Ok(None);
-        };
-        let name = Text::new(alloc, name.as_bytes())?;
-        Ok(Some(GenVariable { name, value }))
+    #[tactic(auto, using(crate::proofs::Pairs::gen_paired))]
+    fn read(
+        alloc: Global,
+        nodes: &[NodeName],
+        reader: &mut Reader<'_>,
+    ) -> Result<Option<Self>, NoMemory> {
+        let found: Option<(Text, i64)> = pair(alloc, nodes, reader)?;
+        Ok(found.map(|(name, value)| GenVariable { name, value }))
     }
 }
 
 impl Told for VariantParts {
     ghost told = { λ nodes d. told_variant d };
 
-    fn read(alloc: Global, nodes: &[NodeName], value: &Value) -> Result<Option<Self>, NoMemory> {
-        let Some((first, second)) = two(value) else {
-            return Ok(None);
-        };
-        let Some(module) = first.as_str() else {
-            return Ok(None);
-        };
-        let Some(gens) = Listed::read(alloc, nodes, second)? else {
-            return Ok(None);
-        };
-        let module = Text::new(alloc, module.as_bytes())?;
-        Ok(Some(VariantParts { module, gens }))
+    #[tactic(auto, using(crate::proofs::Pairs::variant_paired))]
+    fn read(
+        alloc: Global,
+        nodes: &[NodeName],
+        reader: &mut Reader<'_>,
+    ) -> Result<Option<Self>, NoMemory> {
+        let found: Option<(Text, Listed<GenVariable>)> = pair(alloc, nodes, reader)?;
+        Ok(found.map(|(module, gens)| VariantParts { module, gens }))
     }
 }
 
 impl Told for InstanceEntry {
     ghost told = { λ nodes d. told_instance d };
 
-    fn read(alloc: Global, _nodes: &[NodeName], value: &Value) -> Result<Option<Self>, NoMemory> {
-        let Some((first, second)) = two(value) else {
-            return Ok(None);
-        };
-        let Some(path) = first.as_str() else {
-            return Ok(None);
-        };
-        let Some(variant) = second.as_u64() else {
-            return Ok(None);
-        };
-        let path = Text::new(alloc, path.as_bytes())?;
-        Ok(Some(InstanceEntry { path, variant }))
+    #[tactic(auto, using(crate::proofs::Pairs::instance_paired))]
+    fn read(
+        alloc: Global,
+        nodes: &[NodeName],
+        reader: &mut Reader<'_>,
+    ) -> Result<Option<Self>, NoMemory> {
+        let found: Option<(Text, u64)> = pair(alloc, nodes, reader)?;
+        Ok(found.map(|(path, variant)| InstanceEntry { path, variant }))
     }
 }
 
@@ -95,17 +87,28 @@ fn told_width_at(nodes: &[NodeName], id: u64) -> u8
     }
 }
 
+/// Where a value is found: the number of a node, or a literal.
+fn ref_of(alloc: Global, nodes: &[NodeName], scalar: Scalar<'_>) -> Result<Option<Ref>, NoMemory>
+    ensures { IfOk result (λ found. (d : Data) → IsScalar scalar.entry d → found ≡ told_ref nodes.now d) }
+{
+    if let Some(id) = scalar.number.and_then(Number::as_u64) {
+        return Ok(Some(Ref::Node(NodeId(id), told_width_at(nodes, id))));
+    }
+    let Some(text) = scalar.text else {
+        return Ok(None);
+    };
+    Ok(literal(alloc, text.as_bytes())?.map(Ref::Const))
+}
+
 impl Told for Ref {
     ghost told = { told_ref };
 
-    fn read(alloc: Global, nodes: &[NodeName], value: &Value) -> Result<Option<Self>, NoMemory> {
-        if let Some(id) = value.as_u64() {
-            return Ok(Some(Ref::Node(NodeId(id), told_width_at(nodes, id))));
-        }
-        let Some(text) = value.as_str() else {
-            return Ok(None);
-        };
-        Ok(literal(alloc, text.as_bytes())?.map(Ref::Const))
+    fn read(
+        alloc: Global,
+        nodes: &[NodeName],
+        reader: &mut Reader<'_>,
+    ) -> Result<Option<Self>, NoMemory> {
+        ref_of(alloc, nodes, read_scalar(reader))
     }
 }
 
@@ -122,34 +125,77 @@ fn told_mark(text: &str) -> Option<Binding>
     }
 }
 
-impl Told for Binding {
-    ghost told = { told_cell };
-
-    fn read(alloc: Global, nodes: &[NodeName], value: &Value) -> Result<Option<Self>, NoMemory> {
-        if let Some(mark) = value.as_str().and_then(told_mark) {
-            return Ok(Some(mark));
-        }
-        Ok(Ref::read(alloc, nodes, value)?.map(Binding::Value))
+/// Reads what a name stands for, and puts it behind the others. False where the value tells none.
+fn push_cell(
+    alloc: Global,
+    nodes: &[NodeName],
+    reader: &mut Reader<'_>,
+    cells: &mut Cells,
+) -> Result<bool, NoMemory>
+    requires { IsValue reader.old }
+    ensures told { IfOk result (λ is. MatchBool is
+        ((cell : Binding) × (told_cell nodes.now (head_value reader.old) ≡ Some cell) × (cells.new ≡ cells.old ++ cell ∷ []))
+        (told_cell nodes.now (head_value reader.old) ≡ None)) }
+    ensures passed { OnOk result (reader.new ≡ past_value reader.old) }
+{
+    let scalar = read_scalar(reader);
+    if let Some(mark) = scalar.text.and_then(told_mark) {
+        cells.push(mark)?;
+        return Ok(true);
     }
+    let Some(at) = ref_of(alloc, nodes, scalar)? else {
+        return Ok(false);
+    };
+    cells.push(Binding::Value(at))?;
+    Ok(true)
+}
+
+/// The cells of a row that are left.
+#[tactic(auto, using(crate::proofs::Heads::item_value, crate::proofs::Heads::items_left, crate::proofs::Heads::items_past, crate::proofs::Heads::items_head, crate::proofs::Heads::items_shorter, crate::proofs::Heads::items_end_past, crate::proofs::Heads::items_end_head, crate::proofs::Behind::behind_first, crate::proofs::Behind::behind_none, crate::proofs::Behind::behind_end))]
+fn cells(
+    alloc: Global,
+    nodes: &[NodeName],
+    reader: &mut Reader<'_>,
+) -> Result<Option<Cells>, NoMemory>
+    requires { AreItems reader.old }
+    ensures told { IfOk result (λ found. found ≡ told_items (told_cell nodes.now) (head_items reader.old)) }
+    ensures passed { OnOk result (reader.new ≡ past_items reader.old) }
+{
+    let mut cells = Cells::with_capacity(alloc, 0)?;
+    'items: while !reader.take_end_array() {
+        if !push_cell(alloc, nodes, reader, &mut cells)? {
+            pass_items(reader);
+            return Ok(None);
+        }
+    }
+    Ok(Some(cells))
 }
 
 impl Told for Cells {
     ghost told = { λ nodes d. told_short (told_cell nodes) d };
 
-    fn read(alloc: Global, nodes: &[NodeName], value: &Value) -> Result<Option<Self>, NoMemory> {
-        let found: Option<Listed<Binding>> = Told::read(alloc, nodes, value)?;
-        match found {
-            Some(cells) => Ok(Some(Cells::of(alloc, cells.items())?)),
-            None => Ok(None),
+    fn read(
+        alloc: Global,
+        nodes: &[NodeName],
+        reader: &mut Reader<'_>,
+    ) -> Result<Option<Self>, NoMemory> {
+        if !opens_list(reader) {
+            return Ok(None);
+        }
+        match cells(alloc, nodes, reader)? {
+            Some(cells) if cells.len() < 1 << 32 => Ok(Some(cells)),
+            _ => Ok(None),
         }
     }
 }
 
 /// Where an enable is found, which has width 1.
-fn on(alloc: Global, nodes: &[NodeName], value: &Value) -> Result<Option<Ref>, NoMemory>
-    ensures { IfOk result (λ found. found ≡ told_member (told_on nodes.now) (codes "on") (view value.now)) }
+fn on(alloc: Global, nodes: &[NodeName], reader: &mut Reader<'_>) -> Result<Option<Ref>, NoMemory>
+    requires { IsValue reader.old }
+    ensures told { IfOk result (λ found. found ≡ told_on nodes.now (head_value reader.old)) }
+    ensures passed { OnOk result (reader.new ≡ past_value reader.old) }
 {
-    let Some(at) = member(alloc, nodes, value, "on")? else {
+    let Some(at) = Ref::read(alloc, nodes, reader)? else {
         return Ok(None);
     };
     let width = match at {
@@ -159,52 +205,217 @@ fn on(alloc: Global, nodes: &[NodeName], value: &Value) -> Result<Option<Ref>, N
     if width == 1 { Ok(Some(at)) } else { Ok(None) }
 }
 
-impl Told for Row {
-    ghost told = { told_row };
+/// The members of a row.
+#[derive(Drop)]
+pub struct RowFields {
+    on: Option<Ref>,
+    cells: Option<Cells>,
+}
 
-    fn read(alloc: Global, nodes: &[NodeName], value: &Value) -> Result<Option<Self>, NoMemory> {
-        let Some(on) = on(alloc, nodes, value)? else {
-            return Ok(None);
-        };
-        let Some(cells) = member(alloc, nodes, value, "cells")? else {
-            return Ok(None);
-        };
-        Ok(Some(Row { on, cells }))
+impl Fields for RowFields {
+    ghost use Rattle.symtab_json.specs.Members.{row_fields};
+
+    ghost of = { row_fields };
+
+    fn empty() -> Self {
+        RowFields {
+            on: None,
+            cells: None,
+        }
+    }
+
+    #[tactic(auto, using(crate::proofs::Objects::row_other))]
+    fn take(
+        &mut self,
+        alloc: Global,
+        nodes: &[NodeName],
+        reader: &mut Reader<'_>,
+        key: &str,
+    ) -> Result<(), NoMemory> {
+        if key == "on" {
+            self.on = on(alloc, nodes, reader)?;
+        } else if key == "cells" {
+            self.cells = Cells::read(alloc, nodes, reader)?;
+        } else {
+            pass_value(reader);
+        }
+        Ok(())
     }
 }
 
-/// The line of a slot.
-fn slot_line(value: &Value) -> Option<u32>
-    ensures { result ≡ told_member told_line (codes "line") (view value.now) }
+/// The row that members are, where none is missing or wrong.
+fn row_of(fields: RowFields) -> Option<Row>
+    ensures { result ≡ made_row fields.on fields.cells }
 {
-    value.get("line").and_then(line)
+    Some(Row {
+        on: fields.on?,
+        cells: fields.cells?,
+    })
+}
+
+impl Told for Row {
+    ghost told = { told_row };
+
+    fn read(
+        alloc: Global,
+        nodes: &[NodeName],
+        reader: &mut Reader<'_>,
+    ) -> Result<Option<Self>, NoMemory> {
+        let found: Option<RowFields> = object(alloc, nodes, reader)?;
+        Ok(found.and_then(row_of))
+    }
+}
+
+/// A list of fewer than 2^32 names.
+impl Told for Names {
+    ghost told = { λ nodes d. told_short as_str d };
+
+    fn read(
+        alloc: Global,
+        nodes: &[NodeName],
+        reader: &mut Reader<'_>,
+    ) -> Result<Option<Self>, NoMemory> {
+        let found: Option<Listed<Text>> = Told::read(alloc, nodes, reader)?;
+        match found {
+            Some(texts) => Ok(Some(Names::new(alloc, texts.into_items())?)),
+            None => Ok(None),
+        }
+    }
+}
+
+/// The members of a slot.
+#[derive(Drop)]
+pub struct SlotFields {
+    variant: Option<u64>,
+    line: Option<u32>,
+    gens: Option<Listed<GenVariable>>,
+    names: Option<Names>,
+    rows: Option<Listed<Row>>,
+}
+
+impl Fields for SlotFields {
+    ghost use Rattle.symtab_json.specs.Members.{slot_fields};
+
+    ghost of = { slot_fields };
+
+    fn empty() -> Self {
+        SlotFields {
+            variant: None,
+            line: None,
+            gens: None,
+            names: None,
+            rows: None,
+        }
+    }
+
+    #[tactic(auto, using(crate::proofs::Objects::slot_other))]
+    fn take(
+        &mut self,
+        alloc: Global,
+        nodes: &[NodeName],
+        reader: &mut Reader<'_>,
+        key: &str,
+    ) -> Result<(), NoMemory> {
+        if key == "variant" {
+            self.variant = Told::read(alloc, nodes, reader)?;
+        } else if key == "line" {
+            self.line = Told::read(alloc, nodes, reader)?;
+        } else if key == "gens" {
+            self.gens = Told::read(alloc, nodes, reader)?;
+        } else if key == "names" {
+            self.names = Told::read(alloc, nodes, reader)?;
+        } else if key == "rows" {
+            self.rows = Told::read(alloc, nodes, reader)?;
+        } else {
+            pass_value(reader);
+        }
+        Ok(())
+    }
+}
+
+/// The slot that members are, where none is missing or wrong.
+fn slot_of(fields: SlotFields) -> Option<SlotEntry>
+    ensures { result ≡ made_slot fields.variant fields.line fields.gens fields.names fields.rows }
+{
+    Some(SlotEntry {
+        variant: fields.variant?,
+        line: fields.line?,
+        gens: fields.gens?,
+        names: fields.names?,
+        rows: fields.rows?,
+    })
 }
 
 impl Told for SlotEntry {
     ghost told = { told_slot };
 
-    fn read(alloc: Global, nodes: &[NodeName], value: &Value) -> Result<Option<Self>, NoMemory> {
-        let Some(variant) = count_member(value, "variant") else {
+    fn read(
+        alloc: Global,
+        nodes: &[NodeName],
+        reader: &mut Reader<'_>,
+    ) -> Result<Option<Self>, NoMemory> {
+        let found: Option<SlotFields> = object(alloc, nodes, reader)?;
+        Ok(found.and_then(slot_of))
+    }
+}
+
+/// A slot, which has the list of names of the slot before it where they are the same.
+fn with_names_of(before: Option<&SlotEntry>, mut slot: SlotEntry) -> Result<SlotEntry, NoMemory>
+    ensures { IfOk result (λ shared. shared ≡ slot) }
+{
+    if let Some(before) = before {
+        if before.names.are(slot.names.items()) {
+            slot.names = before.names.share()?;
+        }
+    }
+    Ok(slot)
+}
+
+/// The slots that are left.
+#[tactic(auto, using(crate::proofs::Heads::item_value, crate::proofs::Heads::items_left, crate::proofs::Heads::items_past, crate::proofs::Heads::items_head, crate::proofs::Heads::items_shorter, crate::proofs::Heads::items_end_past, crate::proofs::Heads::items_end_head, crate::proofs::Behind::behind_first, crate::proofs::Behind::behind_none, crate::proofs::Behind::behind_end))]
+fn slots(
+    alloc: Global,
+    nodes: &[NodeName],
+    reader: &mut Reader<'_>,
+) -> Result<Option<Vec<SlotEntry>>, NoMemory>
+    requires { AreItems reader.old }
+    ensures told { IfOk result (λ found. option_map (λ slots. slots.items) found ≡ told_items (told_slot nodes.now) (head_items reader.old)) }
+    ensures passed { OnOk result (reader.new ≡ past_items reader.old) }
+{
+    let mut slots: Vec<SlotEntry> = Vec::new(alloc);
+    'items: while !reader.take_end_array() {
+        let Some(slot) = SlotEntry::read(alloc, nodes, reader)? else {
+            pass_items(reader);
             return Ok(None);
         };
-        let Some(line) = slot_line(value) else {
+        let slot = with_names_of(slots.last(), slot)?;
+        slots.push(slot)?;
+    }
+    Ok(Some(slots))
+}
+
+/// A list of fewer than 2^32 slots.
+#[derive(Drop)]
+pub struct SlotList {
+    pub slots: Listed<SlotEntry>,
+}
+
+impl Told for SlotList {
+    ghost told = { λ nodes d. option_map (λ slots. record { slots = slots }) (told_short (told_slot nodes) d) };
+
+    fn read(
+        alloc: Global,
+        nodes: &[NodeName],
+        reader: &mut Reader<'_>,
+    ) -> Result<Option<Self>, NoMemory> {
+        if !opens_list(reader) {
             return Ok(None);
-        };
-        let Some(gens) = member(alloc, nodes, value, "gens")? else {
-            return Ok(None);
-        };
-        let Some(names) = member(alloc, nodes, value, "names")? else {
-            return Ok(None);
-        };
-        let Some(rows) = member(alloc, nodes, value, "rows")? else {
-            return Ok(None);
-        };
-        Ok(Some(SlotEntry {
-            variant,
-            line,
-            gens,
-            names,
-            rows,
-        }))
+        }
+        match slots(alloc, nodes, reader)? {
+            Some(slots) if slots.len() < 1 << 32 => Ok(Some(SlotList {
+                slots: Listed::new(slots),
+            })),
+            _ => Ok(None),
+        }
     }
 }

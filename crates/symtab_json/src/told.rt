@@ -1,13 +1,19 @@
-//! What JSON values tell: the kinds that stand in every part, and lists. None is for a value of another kind or form.
+//! What JSON values tell: the kinds that stand in every part, lists, and pairs. A value of another kind or form tells nothing, and is passed all the
+//! same. Of a list no entry is read behind one that tells nothing.
 
-ghost use Rattle.std.specs.Prelude.{◌≡◌, List, Option, IfOk, option_map, option_and_then};
+ghost use Rattle.std.specs.Prelude.{◌≡◌, List, Option, IfOk, OnOk, Some, option_map};
 ghost use Rattle.symtab.specs.declared.parts.NodeName.{NodeName};
 ghost use Rattle.serde_json.specs.Data.{Data};
-ghost use Rattle.serde_json.specs.Find.{as_str, get};
-ghost use Rattle.serde_json.specs.View.{items_view, view};
-ghost use Rattle.symtab_json.specs.Entries.{told_count, told_gen_number, told_items, told_line, told_list, told_member, told_short, told_two, told_width};
+ghost use Rattle.serde_json.specs.Events.{items_len};
+ghost use Rattle.serde_json.specs.Find.{as_str};
+ghost use Rattle.symtab_json.specs.Entries.{told_count, told_gen_number, told_items, told_line, told_list, told_short, told_width};
+ghost use Rattle.symtab_json.specs.Judged.{list_len};
+ghost use Rattle.symtab_json.specs.Pairs.{told_both, told_pair};
+ghost use Rattle.symtab_json.specs.Standing.{head_items, head_value, past_items, past_value, AreItems, IsValue};
 
-use serde_json::Value;
+use crate::json_number::Number;
+use crate::tokens::{opens_list, pass_items, pass_value, read_scalar};
+use json::Reader;
 use std::alloc::Global;
 use symtab::NodeName;
 use text_core::{Listed, NoMemory, Text};
@@ -19,16 +25,33 @@ const MOST_GEN: i64 = 1 << 62;
 pub trait Told: Sized {
     ghost told: { List NodeName → Data → Option Self };
 
-    /// What it tells.
-    fn read(alloc: Global, nodes: &[NodeName], value: &Value) -> Result<Option<Self>, NoMemory>
-        ensures { IfOk result (λ found. found ≡ told nodes.now (view value.now)) };
+    /// What the value tells that a reader stands at. The value is passed, unless memory runs out.
+    fn read(
+        alloc: Global,
+        nodes: &[NodeName],
+        reader: &mut Reader<'_>,
+    ) -> Result<Option<Self>, NoMemory>
+        requires { IsValue reader.old }
+        ensures told { IfOk result (λ found. found ≡ told nodes.now (head_value reader.old)) }
+        ensures passed { OnOk result (reader.new ≡ past_value reader.old) };
+}
+
+/// A whole number from 0 to 2^64-1.
+fn count(reader: &mut Reader<'_>) -> Option<u64>
+    requires { IsValue reader.old }
+    ensures told { result ≡ told_count (head_value reader.old) }
+    ensures passed { reader.new ≡ past_value reader.old }
+{
+    read_scalar(reader).number.and_then(Number::as_u64)
 }
 
 /// A width: a whole number from 1 to 128.
-pub(crate) fn width(value: &Value) -> Option<u8>
-    ensures { result ≡ told_width (view value.now) }
+fn width(reader: &mut Reader<'_>) -> Option<u8>
+    requires { IsValue reader.old }
+    ensures told { result ≡ told_width (head_value reader.old) }
+    ensures passed { reader.new ≡ past_value reader.old }
 {
-    let number = value.as_u64()?;
+    let number = count(reader)?;
     if 1 <= number && number <= 128 {
         Some(number as u8)
     } else {
@@ -37,10 +60,12 @@ pub(crate) fn width(value: &Value) -> Option<u8>
 }
 
 /// A line: a whole number below 2^30.
-pub(crate) fn line(value: &Value) -> Option<u32>
-    ensures { result ≡ told_line (view value.now) }
+fn line(reader: &mut Reader<'_>) -> Option<u32>
+    requires { IsValue reader.old }
+    ensures told { result ≡ told_line (head_value reader.old) }
+    ensures passed { reader.new ≡ past_value reader.old }
 {
-    let number = value.as_u64()?;
+    let number = count(reader)?;
     if number < 1 << 30 {
         Some(number as u32)
     } else {
@@ -49,10 +74,12 @@ pub(crate) fn line(value: &Value) -> Option<u32>
 }
 
 /// The number of a generator variable: a whole number from -2^62 to 2^62.
-pub(crate) fn gen_number(value: &Value) -> Option<i64>
-    ensures { result ≡ told_gen_number (view value.now) }
+fn gen_number(reader: &mut Reader<'_>) -> Option<i64>
+    requires { IsValue reader.old }
+    ensures told { result ≡ told_gen_number (head_value reader.old) }
+    ensures passed { reader.new ≡ past_value reader.old }
 {
-    let number = value.as_i64()?;
+    let number = read_scalar(reader).number.and_then(Number::as_i64)?;
     if -MOST_GEN <= number && number <= MOST_GEN {
         Some(number)
     } else {
@@ -60,30 +87,88 @@ pub(crate) fn gen_number(value: &Value) -> Option<i64>
     }
 }
 
-/// The entries of a list of exactly two.
-pub(crate) fn two(value: &Value) -> Option<(&Value, &Value)>
-    ensures { option_map (λ two. (view two.0.now, view two.1.now)) result ≡ told_two (view value.now) }
-{
-    if value.get(2usize).is_some() {
-        return None;
+/// A whole number.
+impl Told for u64 {
+    ghost told = { λ nodes d. told_count d };
+
+    fn read(
+        _alloc: Global,
+        _nodes: &[NodeName],
+        reader: &mut Reader<'_>,
+    ) -> Result<Option<Self>, NoMemory> {
+        Ok(count(reader))
     }
-    let first = value.get(0usize)?;
-    let second = value.get(1usize)?;
-    Some((first, second))
 }
 
-/// The entries of a list.
-#[tactic(auto, using(crate::proofs::Behind::behind_first, crate::proofs::Behind::behind_none, crate::proofs::Behind::behind_end))]
+/// A width.
+impl Told for u8 {
+    ghost told = { λ nodes d. told_width d };
+
+    fn read(
+        _alloc: Global,
+        _nodes: &[NodeName],
+        reader: &mut Reader<'_>,
+    ) -> Result<Option<Self>, NoMemory> {
+        Ok(width(reader))
+    }
+}
+
+/// A line.
+impl Told for u32 {
+    ghost told = { λ nodes d. told_line d };
+
+    fn read(
+        _alloc: Global,
+        _nodes: &[NodeName],
+        reader: &mut Reader<'_>,
+    ) -> Result<Option<Self>, NoMemory> {
+        Ok(line(reader))
+    }
+}
+
+/// The number of a generator variable.
+impl Told for i64 {
+    ghost told = { λ nodes d. told_gen_number d };
+
+    fn read(
+        _alloc: Global,
+        _nodes: &[NodeName],
+        reader: &mut Reader<'_>,
+    ) -> Result<Option<Self>, NoMemory> {
+        Ok(gen_number(reader))
+    }
+}
+
+impl Told for Text {
+    ghost told = { λ nodes d. as_str d };
+
+    fn read(
+        alloc: Global,
+        _nodes: &[NodeName],
+        reader: &mut Reader<'_>,
+    ) -> Result<Option<Self>, NoMemory> {
+        match read_scalar(reader).text {
+            Some(text) => Ok(Some(Text::new(alloc, text.as_bytes())?)),
+            None => Ok(None),
+        }
+    }
+}
+
+/// The entries of a list that are left.
+#[tactic(auto, using(crate::proofs::Heads::item_value, crate::proofs::Heads::items_left, crate::proofs::Heads::items_past, crate::proofs::Heads::items_head, crate::proofs::Heads::items_shorter, crate::proofs::Heads::items_end_past, crate::proofs::Heads::items_end_head, crate::proofs::Behind::behind_first, crate::proofs::Behind::behind_none, crate::proofs::Behind::behind_end))]
 fn items<T: Told + Drop>(
     alloc: Global,
     nodes: &[NodeName],
-    values: &[Value],
+    reader: &mut Reader<'_>,
 ) -> Result<Option<Vec<T>>, NoMemory>
-    ensures { IfOk result (λ found. option_map (λ list. list.items) found ≡ told_items (T.told nodes.now) (items_view values.now)) }
+    requires { AreItems reader.old }
+    ensures told { IfOk result (λ found. option_map (λ list. list.items) found ≡ told_items (T.told nodes.now) (head_items reader.old)) }
+    ensures passed { OnOk result (reader.new ≡ past_items reader.old) }
 {
     let mut list = Vec::new(alloc);
-    for value in values {
-        let Some(item) = T::read(alloc, nodes, value)? else {
+    'items: while !reader.take_end_array() {
+        let Some(item) = T::read(alloc, nodes, reader)? else {
+            pass_items(reader);
             return Ok(None);
         };
         list.push(item)?;
@@ -92,27 +177,34 @@ fn items<T: Told + Drop>(
 }
 
 /// A list of any length.
-pub(crate) fn list<T: Told + Drop>(
+fn list<T: Told + Drop>(
     alloc: Global,
     nodes: &[NodeName],
-    value: &Value,
+    reader: &mut Reader<'_>,
 ) -> Result<Option<Listed<T>>, NoMemory>
-    ensures { IfOk result (λ found. found ≡ told_list (T.told nodes.now) (view value.now)) }
+    requires { IsValue reader.old }
+    ensures told { IfOk result (λ found. found ≡ told_list (T.told nodes.now) (head_value reader.old)) }
+    ensures passed { OnOk result (reader.new ≡ past_value reader.old) }
 {
-    let Some(values) = value.as_array() else {
+    if !opens_list(reader) {
         return Ok(None);
-    };
-    match items(alloc, nodes, values)? {
+    }
+    match items(alloc, nodes, reader)? {
         Some(list) => Ok(Some(Listed::new(list))),
         None => Ok(None),
     }
 }
 
+/// A list of fewer than 2^32 entries.
 impl<T: Told + Drop> Told for Listed<T> {
     ghost told = { λ nodes d. told_short (T.told nodes) d };
 
-    fn read(alloc: Global, nodes: &[NodeName], value: &Value) -> Result<Option<Self>, NoMemory> {
-        let Some(found) = list(alloc, nodes, value)? else {
+    fn read(
+        alloc: Global,
+        nodes: &[NodeName],
+        reader: &mut Reader<'_>,
+    ) -> Result<Option<Self>, NoMemory> {
+        let Some(found) = list(alloc, nodes, reader)? else {
             return Ok(None);
         };
         if found.items().len() < 1 << 32 {
@@ -123,35 +215,105 @@ impl<T: Told + Drop> Told for Listed<T> {
     }
 }
 
-impl Told for Text {
-    ghost told = { λ nodes d. as_str d };
+/// A list of any length.
+#[derive(Drop)]
+pub struct LongList<T> {
+    pub items: Listed<T>,
+}
 
-    fn read(alloc: Global, _nodes: &[NodeName], value: &Value) -> Result<Option<Self>, NoMemory> {
-        match value.as_str() {
-            Some(text) => Ok(Some(Text::new(alloc, text.as_bytes())?)),
+impl<T: Told + Drop> Told for LongList<T> {
+    ghost told = { λ nodes d. option_map (λ xs. record { items = xs }) (told_list (T.told nodes) d) };
+
+    fn read(
+        alloc: Global,
+        nodes: &[NodeName],
+        reader: &mut Reader<'_>,
+    ) -> Result<Option<Self>, NoMemory> {
+        match list(alloc, nodes, reader)? {
+            Some(items) => Ok(Some(LongList { items })),
             None => Ok(None),
         }
     }
 }
 
-/// What the member of an object with this key tells.
-pub(crate) fn member<T: Told>(
-    alloc: Global,
-    nodes: &[NodeName],
-    value: &Value,
-    key: &str,
-) -> Result<Option<T>, NoMemory>
-    ensures { IfOk result (λ found. found ≡ told_member (T.told nodes.now) key.now (view value.now)) }
+/// How many entries a list has, whatever they are.
+#[derive(Clone, Copy)]
+pub struct ListLen(pub usize);
+
+/// How many entries of a list are left. As many as 2^64 are told as want of memory: no text has so many.
+#[tactic(auto, using(crate::proofs::Heads::item_value, crate::proofs::Heads::items_left, crate::proofs::Heads::items_past, crate::proofs::Heads::items_head, crate::proofs::Heads::items_shorter, crate::proofs::Heads::items_end_past, crate::proofs::Heads::items_end_head))]
+fn count_items(reader: &mut Reader<'_>) -> Result<usize, NoMemory>
+    requires { AreItems reader.old }
+    ensures count { IfOk result (λ count. count ≡ items_len (head_items reader.old)) }
+    ensures passed { OnOk result (reader.new ≡ past_items reader.old) }
 {
-    match value.get(key) {
-        Some(found) => T::read(alloc, nodes, found),
-        None => Ok(None),
+    let mut count: usize = 0;
+    'items: while !reader.take_end_array() {
+        pass_value(reader);
+        count = count.checked_add(1).ok_or(NoMemory)?;
+    }
+    Ok(count)
+}
+
+/// A value that is no list has none.
+impl Told for ListLen {
+    ghost told = { λ nodes d. Some (record { 0 = list_len d }) };
+
+    fn read(
+        _alloc: Global,
+        _nodes: &[NodeName],
+        reader: &mut Reader<'_>,
+    ) -> Result<Option<Self>, NoMemory> {
+        if opens_list(reader) {
+            Ok(Some(ListLen(count_items(reader)?)))
+        } else {
+            Ok(Some(ListLen(0)))
+        }
     }
 }
 
-/// The whole number that is the member of an object with this key.
-pub(crate) fn count_member(value: &Value, key: &str) -> Option<u64>
-    ensures { result ≡ told_member told_count key.now (view value.now) }
+/// What both entries of a list tell that are left, if there are two.
+#[tactic(auto, using(crate::proofs::Heads::item_value, crate::proofs::Heads::items_left, crate::proofs::Heads::items_past, crate::proofs::Heads::items_head, crate::proofs::Heads::items_shorter, crate::proofs::Heads::items_end_past, crate::proofs::Heads::items_end_head))]
+fn two<A: Told + Drop, B: Told + Drop>(
+    alloc: Global,
+    nodes: &[NodeName],
+    reader: &mut Reader<'_>,
+) -> Result<Option<(A, B)>, NoMemory>
+    requires { AreItems reader.old }
+    ensures told { IfOk result (λ found. found ≡ told_both (A.told nodes.now) (B.told nodes.now) (head_items reader.old)) }
+    ensures passed { OnOk result (reader.new ≡ past_items reader.old) }
 {
-    value.get(key).and_then(Value::as_u64)
+    if reader.take_end_array() {
+        return Ok(None);
+    }
+    let first: Option<A> = A::read(alloc, nodes, reader)?;
+    if reader.take_end_array() {
+        return Ok(None);
+    }
+    let second: Option<B> = B::read(alloc, nodes, reader)?;
+    if !reader.take_end_array() {
+        pass_items(reader);
+        return Ok(None);
+    }
+    match (first, second) {
+        (Some(first), Some(second)) => Ok(Some((first, second))),
+        _ => Ok(None),
+    }
+}
+
+/// What the entries of a list of exactly two tell.
+pub(crate) fn pair<A: Told + Drop, B: Told + Drop>(
+    alloc: Global,
+    nodes: &[NodeName],
+    reader: &mut Reader<'_>,
+) -> Result<Option<(A, B)>, NoMemory>
+    requires { IsValue reader.old }
+    ensures told { IfOk result (λ found. found ≡ told_pair (A.told nodes.now) (B.told nodes.now) (head_value reader.old)) }
+    ensures passed { OnOk result (reader.new ≡ past_value reader.old) }
+{
+    if opens_list(reader) {
+        two(alloc, nodes, reader)
+    } else {
+        Ok(None)
+    }
 }

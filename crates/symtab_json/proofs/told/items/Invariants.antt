@@ -1,10 +1,15 @@
-use Rattle.std.proofs.Common.{◌≡◌, drop}
-use Rattle.serde_json.specs.View.{items_view}
+use Rattle.std.proofs.Common.{◌≡◌, length}
 use Rattle.symtab_json.specs.Entries.{told_items}
+use Rattle.symtab_json.specs.Standing.{head_items, past_items, AreItems}
 use Rattle.symtab_json.proofs.Behind.{behind}
 use Rattle.symtab_json.proofs.told.items.Given as goal
 
 -- the entries so far, with what is told of those that are left, are what is told of all
-abbrev pub invariant-loop-value : goal.invariant-loop-value
-invariant-loop-value g l =
-    behind l.list.items (told_items (g.T.Told.told l.nodes) (items_view (drop l.value-index l.values))) ≡ told_items (g.T.Told.told l.nodes) (items_view l.values)
+abbrev pub invariant-items : goal.invariant-items
+invariant-items g l =
+    AreItems l.reader
+    × (behind l.list.items (told_items (g.T.Told.told l.nodes) (head_items l.reader)) ≡ told_items (g.T.Told.told l.nodes) (head_items l.initial.reader))
+    × (past_items l.reader ≡ past_items l.initial.reader)
+
+abbrev pub decreases-items : goal.decreases-items
+decreases-items g l = length l.reader
