@@ -91,7 +91,11 @@ fn output_name(alloc: Global, fam: &Fam, output: &Text) -> Result<Vec<u8>, NoMem
 }
 
 /// The place of a plain name or a member of a family. A plain name is looked up as it stands.
-pub(crate) fn fam_place(alloc: Global, names: &mut DistinctNames, fam: &Fam) -> Result<usize, NoMemory>
+pub(crate) fn fam_place(
+    alloc: Global,
+    names: &mut DistinctNames,
+    fam: &Fam,
+) -> Result<usize, NoMemory>
     requires { names.old.list.items ≡ names.old.known }
     ensures place { IfOk result (λ place. place ≡ place_in names.old.known (fam_name (fam_of fam.now))) }
     ensures known { OnOk result (names.new.known ≡ noted names.old.known (fam_name (fam_of fam.now))) }

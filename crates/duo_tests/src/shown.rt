@@ -59,10 +59,9 @@ fn shown<T: Trace>(
 /// Whether these are shown.
 fn are(values: &[(Text, Shown)], want: &[(&str, Shown)]) -> bool {
     values.len() == want.len()
-        && values
-            .iter()
-            .zip(want.iter())
-            .all(|(value, (name, shown))| value.0.bytes() == name.as_bytes() && value.1 == *shown)
+        && values.iter().zip(want.iter()).all(|(value, (name, shown))| value.0.bytes()
+            == name.as_bytes()
+            && value.1 == *shown)
 }
 
 /// The value of these bits.

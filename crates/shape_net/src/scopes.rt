@@ -70,11 +70,7 @@ fn both(alloc: Global, first: &[Text], second: &[Text]) -> Result<Names, NoMemor
 
 /// The names in scope in a block: the signals of its variant as they were declared, then its lets. A block without lets has the
 /// list of its variant.
-pub(crate) fn scope_names(
-    alloc: Global,
-    signals: &Names,
-    lets: &[Text],
-) -> Result<Names, NoMemory>
+pub(crate) fn scope_names(alloc: Global, signals: &Names, lets: &[Text]) -> Result<Names, NoMemory>
     ensures { IfOk result (λ names. names ≡ signals.now ++ lets.now) }
 {
     if lets.is_empty() {
