@@ -130,7 +130,7 @@ pub(crate) fn instance_parts(
     requires { AllByRecursion (λ instance. instance.variant < 2 ^ 32) instances.items }
     ensures { IfOk result (λ parts. parts ≡ map instance_parts instances.items) }
 {
-    let mut parts = Vec::new(alloc);
+    let mut parts = Vec::with_capacity(alloc, instances.len())?;
     for instance in instances {
         parts.push(InstanceParts {
             path: instance.path,
@@ -145,7 +145,7 @@ pub(crate) fn slot_parts(alloc: Global, slots: Vec<SlotEntry>) -> Result<Listed<
     requires { AllByRecursion (λ slot. slot.variant < 2 ^ 32) slots.items }
     ensures { IfOk result (λ parts. parts ≡ map slot_parts slots.items) }
 {
-    let mut parts = Vec::new(alloc);
+    let mut parts = Vec::with_capacity(alloc, slots.len())?;
     for slot in slots {
         parts.push(Slot {
             variant: slot.variant as u32,

@@ -14,7 +14,7 @@ use crate::fields::{Fields, object};
 use crate::json_number::Number;
 use crate::literal::literal;
 use crate::tokens::{Scalar, opens_list, pass_items, pass_value, read_scalar};
-use crate::told::{Told, pair};
+use crate::told::{Told, pair, push_item};
 use bv_core::{Binding, NodeId, Ref};
 use json::Reader;
 use std::alloc::Global;
@@ -171,6 +171,17 @@ fn cells(
     Ok(Some(cells))
 }
 
+/// The same cells, with room for no more.
+fn fitted(alloc: Global, cells: &Cells) -> Result<Cells, NoMemory>
+    ensures { IfOk result (λ fitted. fitted ≡ cells.now) }
+{
+    let mut fitted = Cells::with_capacity(alloc, cells.len())?;
+    for place in 0..cells.len() {
+        fitted.push(cells.at(place))?;
+    }
+    Ok(fitted)
+}
+
 impl Told for Cells {
     ghost told = { λ nodes d. told_short (told_cell nodes) d };
 
@@ -183,7 +194,7 @@ impl Told for Cells {
             return Ok(None);
         }
         match cells(alloc, nodes, reader)? {
-            Some(cells) if cells.len() < 1 << 32 => Ok(Some(cells)),
+            Some(cells) if cells.len() < 1 << 32 => Ok(Some(fitted(alloc, &cells)?)),
             _ => Ok(None),
         }
     }
@@ -389,7 +400,7 @@ fn slots(
             return Ok(None);
         };
         let slot = with_names_of(slots.last(), slot)?;
-        slots.push(slot)?;
+        push_item(&mut slots, slot)?;
     }
     Ok(Some(slots))
 }

@@ -1,7 +1,7 @@
 //! What JSON values tell: the kinds that stand in every part, lists, and pairs. A value of another kind or form tells nothing, and is passed all the
 //! same. Of a list no entry is read behind one that tells nothing.
 
-ghost use Rattle.std.specs.Prelude.{◌≡◌, List, Option, IfOk, OnOk, Some, option_map};
+ghost use Rattle.std.specs.Prelude.{◌≡◌, ◌∷◌, ◌++◌, [], List, Option, IfOk, OnOk, Some, option_map};
 ghost use Rattle.symtab.specs.declared.parts.NodeName.{NodeName};
 ghost use Rattle.serde_json.specs.Data.{Data};
 ghost use Rattle.serde_json.specs.Events.{items_len};
@@ -154,6 +154,17 @@ impl Told for Text {
     }
 }
 
+/// Puts an item behind the others. The list grows by a quarter, so that it never has much more room than items.
+pub(crate) fn push_item<T: Drop>(list: &mut Vec<T>, item: T) -> Result<(), NoMemory>
+    ensures { OnOk result (list.new.items ≡ list.old.items ++ item ∷ []) }
+{
+    if list.len() == list.capacity() {
+        list.reserve_exact(list.len() / 4 + 1)?;
+    }
+    list.push(item)?;
+    Ok(())
+}
+
 /// The entries of a list that are left.
 #[tactic(auto, using(crate::proofs::Heads::item_value, crate::proofs::Heads::items_left, crate::proofs::Heads::items_past, crate::proofs::Heads::items_head, crate::proofs::Heads::items_shorter, crate::proofs::Heads::items_end_past, crate::proofs::Heads::items_end_head, crate::proofs::Behind::behind_first, crate::proofs::Behind::behind_none, crate::proofs::Behind::behind_end))]
 fn items<T: Told + Drop>(
@@ -171,7 +182,7 @@ fn items<T: Told + Drop>(
             pass_items(reader);
             return Ok(None);
         };
-        list.push(item)?;
+        push_item(&mut list, item)?;
     }
     Ok(Some(list))
 }
