@@ -1,3 +1,4 @@
+pub mod Utf8
 pub mod Kept
 pub mod Objects
 pub mod Round

@@ -1,5 +1,5 @@
 use Rattle.std.proofs.Common.{rules}
-use Rattle.symtab_json.proofs.Utf8.{json_found, json_none}
+use Rattle.req_json.proofs.Utf8.{json_found, json_none}
 use Rattle.req_json.proofs.request.json_of.Goals as goal
 
 pub returns-in-Ok : goal.returns-in-Ok
