@@ -14,6 +14,4 @@ mod meeting;
 #[cfg(test)]
 mod running;
 #[cfg(test)]
-mod shown;
-#[cfg(test)]
 mod steady;
