@@ -15,3 +15,4 @@ pub mod Turns
 pub mod Prepared
 pub mod Values
 pub mod Spanning
+pub mod Spots

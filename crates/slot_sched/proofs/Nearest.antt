@@ -1,5 +1,5 @@
 -- The positions that one search looks at, one after another.
-use Rattle.std.proofs.Common.{◌≡◌, ℕ, zero, suc, ◌+◌, ◌-◌, ◌<◌, ◌≤◌, min, Bool, true, false, List, [], ◌∷◌, ◌++◌, take, drop, reverse, Some, find, cond, refl, ap, ap₂, ◌∙◌, arith, add-one}
+use Rattle.std.proofs.Common.{◌≡◌, ℕ, zero, suc, ◌+◌, ◌-◌, ◌<◌, ◌≤◌, min, Bool, true, false, List, [], ◌∷◌, ◌++◌, take, drop, reverse, Some, None, find, cond, refl, ap, ap₂, ◌∙◌, arith, add-one}
 use Rattle.std.proofs.lemmas.List.{reverse-append}
 use Rattle.list_core.specs.Lists.{EachOf, from}
 use Rattle.slot_sched.specs.Scan.{down_from}
@@ -21,6 +21,14 @@ down_past test p low h not_here =
 pub down_here : (test : ℕ → Bool) (p low : ℕ) → low ≤ p → test p ≡ true → find test (down_from (p + 1) (p + 1 - low)) ≡ Some p
 down_here test p low h here =
     let d : p + 1 - low ≡ suc (p - low) = omega arith in rw (d, add-one p, here) refl
+
+-- ---- no position
+
+pub up_none : (test : ℕ → Bool) (p e : ℕ) → e ≤ p → find test (from p (e - p)) ≡ None
+up_none test p e h = let d : e - p ≡ 0 = omega (arith, h) in rw (d) refl
+
+pub down_none : (test : ℕ → Bool) (p low : ℕ) → p ≤ low → find test (down_from p (p - low)) ≡ None
+down_none test p low h = let d : p - low ≡ 0 = omega (arith, h) in rw (d) refl
 
 -- ---- fronts of positions one after another
 

@@ -5,3 +5,4 @@ pub mod Scan
 pub mod Laws
 pub mod Sample
 pub mod Spans
+pub mod Spots

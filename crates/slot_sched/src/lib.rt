@@ -14,6 +14,7 @@ mod sampled;
 mod schedule;
 mod search;
 mod spans;
+mod spot;
 
 pub use fault::ArmFault;
 pub use found::Found;

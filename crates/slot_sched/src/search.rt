@@ -13,6 +13,7 @@ ghost use Rattle.trace_core.specs.Samples.{Samples};
 ghost use Rattle.slot_sched.specs.Armed.{breakpoints, AreOf};
 ghost use Rattle.machine_core.specs.Matching.{is_wanted};
 ghost use Rattle.slot_sched.specs.Waiting.{cycle_samples, IsSet, AreReady, any_stops, any_steps, slot_stops};
+ghost use Rattle.slot_sched.specs.Spots.{IsSpot};
 ghost use Rattle.slot_sched.specs.Scan.{searched, scanned, total_of, position_stops, down_from};
 ghost use Rattle.symtab.specs.Lookups.{instances_of};
 
@@ -21,6 +22,7 @@ use crate::found::{Found, place_of, told};
 use crate::sampled::{is_thread, is_wanted};
 use crate::schedule::Schedule;
 use crate::spans::span_at;
+use crate::spot::Spot;
 use symtab::Table;
 use trace_core::{Scanned, Trace, Want, Way};
 
@@ -128,29 +130,28 @@ impl Schedule {
         table: &Table,
         trace: &mut T,
         stands: &mut Option<u64>,
-        p: u64,
+        spot: Spot,
         want: Want,
     ) -> bool
         requires fits { FitsTable table.now (T.samples trace.old) }
         requires ready { AreReady table.now (T.samples trace.old) self.now.armed.items }
         requires stands { IfSome stands.old (λ at. T.cursor trace.old ≡ Some at) }
-        requires within { p < total_of table.now (T.samples trace.old) }
+        requires spot { IsSpot (length table.now.slots) spot }
+        requires within { spot.position < total_of table.now (T.samples trace.old) }
         ensures kept { T.samples trace.new ≡ T.samples trace.old }
         ensures set { IfSome stands.new (λ at. T.cursor trace.new ≡ Some at) }
-        ensures value { result ≡ position_stops table.now (T.samples trace.old) self.now.armed.items want p }
+        ensures value { result ≡ position_stops table.now (T.samples trace.old) self.now.armed.items want spot.position }
     {
-        let slots = u64::from(table.slots());
-        let slot = (p % slots) as u32;
-        if !self.offers(table, slot, want) {
+        if !self.offers(table, spot.slot, want) {
             return false;
         }
-        set_at(trace, *stands, p / slots);
-        *stands = Some(p / slots);
-        self.slot_stops(table, trace, slot, want)
+        set_at(trace, *stands, spot.cycle);
+        *stands = Some(spot.cycle);
+        self.slot_stops(table, trace, spot.slot, want)
     }
 
     /// The nearest position that has what is searched for, from the first up to the end. A cycle is sought once.
-    #[tactic(auto, using(crate::proofs::Nearest::up_past, crate::proofs::Nearest::up_here))]
+    #[tactic(auto, using(crate::proofs::Nearest::up_past, crate::proofs::Nearest::up_here, crate::proofs::Nearest::up_none, crate::proofs::Spots::some_slots))]
     fn forward<T: Trace>(
         &self,
         table: &Table,
@@ -166,17 +167,23 @@ impl Schedule {
         ensures value { result ≡ find (position_stops table.now (T.samples trace.old) self.now.armed.items want) (from first (end - first)) }
         ensures below { IfSome result (λ p. p < end) }
     {
+        if end <= first {
+            return None;
+        }
+        let slots = table.slots();
         let mut stands = None;
+        let mut spot = Spot::of(first, slots);
         for p in first..end {
-            if self.position_stops(table, trace, &mut stands, p, want) {
+            if self.position_stops(table, trace, &mut stands, spot, want) {
                 return Some(p);
             }
+            spot = spot.next(slots);
         }
         None
     }
 
     /// The nearest position below this one that has what is searched for, down to the lowest. A cycle is sought once.
-    #[tactic(auto, using(crate::proofs::Nearest::down_past, crate::proofs::Nearest::down_here))]
+    #[tactic(auto, using(crate::proofs::Nearest::down_past, crate::proofs::Nearest::down_here, crate::proofs::Nearest::down_none, crate::proofs::Spots::some_slots))]
     fn backward<T: Trace>(
         &self,
         table: &Table,
@@ -192,11 +199,17 @@ impl Schedule {
         ensures value { result ≡ find (position_stops table.now (T.samples trace.old) self.now.armed.items want) (down_from below (below - lowest)) }
         ensures below { IfSome result (λ p. p < below) }
     {
+        if below <= lowest {
+            return None;
+        }
+        let slots = table.slots();
         let mut stands = None;
+        let mut spot = Spot::of(below, slots);
         let mut p = below;
         while lowest < p {
             p -= 1;
-            let stops = self.position_stops(table, trace, &mut stands, p, want);
+            spot = spot.previous(slots);
+            let stops = self.position_stops(table, trace, &mut stands, spot, want);
             if stops {
                 return Some(p);
             }

@@ -1,6 +1,7 @@
-use Rattle.std.proofs.Common.{◌≡◌, ◌-◌, Some, find}
+use Rattle.std.proofs.Common.{◌≡◌, ◌-◌, Some, find, length}
 use Rattle.std.specs.Prelude.{IfSome}
 use Rattle.list_core.specs.Lists.{from}
+use Rattle.slot_sched.specs.Spots.{IsSpot}
 use Rattle.slot_sched.specs.Scan.{position_stops}
 use Rattle.slot_sched.proofs.schedule.Schedule.forward.Given as goal
 
@@ -10,3 +11,5 @@ invariant-loop-p g l =
     × (find (position_stops l.table (g.T.Trace.samples l.fn.trace) l.self.armed.items l.want) (from l.first (l.end - l.first))
     ≡ find (position_stops l.table (g.T.Trace.samples l.fn.trace) l.self.armed.items l.want) (from l.p (l.end - l.p)))
     × IfSome l.stands (λ at. g.T.Trace.cursor l.trace ≡ Some at)
+    × (l.spot.position ≡ l.p)
+    × IsSpot (length l.table.slots) l.spot
