@@ -20,3 +20,4 @@ pub mod Openings
 pub mod Passes
 pub mod Pairs
 pub mod Objects
+pub mod Prefaced

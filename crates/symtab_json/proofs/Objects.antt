@@ -42,7 +42,7 @@ slot_is nodes (object ms) = refl
 -- ---- a member more
 
 -- the member of another key stays
-other : (q k : List ℕ) (d : Data) (ms : Members) → bytes_eq q k ≡ false → get_member q (put k d ms) ≡ get_member q ms
+pub other : (q k : List ℕ) (d : Data) (ms : Members) → bytes_eq q k ≡ false → get_member q (put k d ms) ≡ get_member q ms
 other q k d ms apart = get_member-put_other q k d ms (λ e. true≢false (sym ((bytes_eq-Decides q k).1 e) ∙ apart))
 
 pub row_on : (nodes : List NodeName) (k : List ℕ) (d : Data) (ms : Members) → k ≡ codes "on" → row_fields nodes (put k d ms) ≡ record (row_fields nodes ms) { on = told_on nodes d }

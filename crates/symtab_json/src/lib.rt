@@ -11,6 +11,7 @@ mod laws;
 mod literal;
 mod numbers;
 mod parts;
+mod preface;
 mod quoted;
 mod read;
 mod readings;

@@ -1,11 +1,13 @@
-//! Reads a symbol file, in several passes over its text. The first judges whether it is JSON at all. Then its parts are read and judged one after
-//! another in the order of their names, each in a pass of its own, and the numbers of nodes and variants last. So nothing is kept of a file but its
-//! table: no tree of it is made, and what is passed over takes no room.
+//! Reads a symbol file, in several passes over its text. The first judges whether it is JSON at all, the second reads what its slots are read over, and
+//! those behind it the slots and the parts that are left, each in a pass of its own. The parts are judged one after another in the order of their
+//! names, and the numbers of nodes and variants last. So nothing is kept of a file but its table: no tree of it is made, and what is passed over takes
+//! no room.
 
-ghost use Rattle.std.specs.Prelude.{◌≡◌, Ok, IfOk, IfErr, Option, Some, codes, is_some};
-ghost use Rattle.serde_json.specs.Find.{as_object};
-ghost use Rattle.symtab_json.specs.Entries.{told_list, told_member, told_node, told_short, told_slot};
-ghost use Rattle.symtab_json.specs.Judged.{told_instances, told_nodes, told_slots, told_top, variants_len, told_parts};
+ghost use Rattle.std.specs.Prelude.{◌≡◌, Ok, IfOk, IfErr, Option, Some, codes, option_map};
+ghost use Rattle.std.specs.Option.{option_map_or};
+ghost use Rattle.symtab_json.specs.Entries.{kept_if, told_list, told_member, told_node, told_short, told_slot};
+ghost use Rattle.symtab_json.specs.Judged.{names_of_nodes_differ, paths_differ, told_instances, told_slots, told_top, variants_len, told_parts};
+ghost use Rattle.symtab_json.specs.Members.{IsPreface};
 ghost use Rattle.symtab_json.specs.Fit.{AreTableParts};
 ghost use Rattle.symtab_json.specs.JsonText.{value_of, IsJson};
 ghost use Rattle.symtab_json.specs.Told.{IsFaultOf, by_instances, by_slots, told_entries, told_table, told_tree};
@@ -16,8 +18,8 @@ use crate::fields::member;
 use crate::first_pass::json_text;
 use crate::judged::{are_apart, are_full, counts_of, is_first};
 use crate::numbers::{entries_outside, instance_parts, slot_parts};
+use crate::preface::{Preface, preface_in};
 use crate::readings::SlotList;
-use crate::tokens::opens_object;
 use crate::told::{ListLen, LongList, Told};
 use json::{Reader, Scratch};
 use std::alloc::Global;
@@ -26,15 +28,6 @@ use text_core::{Listed, NoMemory, Text};
 
 /// The largest file in bytes: 64 MiB.
 const MOST_BYTES: usize = 64 << 20;
-
-/// Whether a file is an object.
-fn is_object(scratch: &mut Scratch, text: &str) -> Result<bool, NoMemory>
-    requires { IsJson text.now }
-    ensures { IfOk result (λ is. is ≡ is_some (as_object (value_of text.now))) }
-{
-    let mut reader = Reader::new(text, scratch)?;
-    Ok(opens_object(&mut reader))
-}
 
 /// What the part of a file with this key tells, over these nodes.
 fn part<T: Told + Drop>(
@@ -51,16 +44,13 @@ fn part<T: Told + Drop>(
     member(alloc, nodes, &mut reader, key)
 }
 
-/// The instances of a file. None where they break a rule of shape.
-fn instances(
+/// Instances whose paths differ. None where two are the same, and where there is no list of them.
+fn apart_instances(
     alloc: Global,
-    scratch: &mut Scratch,
-    text: &str,
+    found: Option<Listed<InstanceEntry>>,
 ) -> Result<Option<Listed<InstanceEntry>>, NoMemory>
-    requires { IsJson text.now }
-    ensures { IfOk result (λ found. found ≡ told_instances (value_of text.now)) }
+    ensures { IfOk result (λ kept. kept ≡ kept_if paths_differ found) }
 {
-    let found: Option<Listed<InstanceEntry>> = part(alloc, scratch, text, &[], "instances")?;
     let Some(instances) = found else {
         return Ok(None);
     };
@@ -71,50 +61,30 @@ fn instances(
     }
 }
 
-/// The list of the nodes of a file.
-fn node_list(
+/// Nodes whose names differ. None where two are the same, and where there is no list of them.
+fn apart_nodes(
     alloc: Global,
-    scratch: &mut Scratch,
-    text: &str,
+    found: Option<LongList<NodeName>>,
 ) -> Result<Option<Listed<NodeName>>, NoMemory>
-    requires { IsJson text.now }
-    ensures { IfOk result (λ found. found ≡ told_member (told_list told_node) (codes "nodes") (value_of text.now)) }
+    ensures { IfOk result (λ kept. kept ≡ kept_if names_of_nodes_differ (option_map (λ list. list.items) found)) }
 {
-    let found: Option<LongList<NodeName>> = part(alloc, scratch, text, &[], "nodes")?;
-    match found {
-        Some(list) => Ok(Some(list.items)),
-        None => Ok(None),
-    }
-}
-
-/// The nodes of a file. None where they break a rule of shape.
-fn nodes(
-    alloc: Global,
-    scratch: &mut Scratch,
-    text: &str,
-) -> Result<Option<Listed<NodeName>>, NoMemory>
-    requires { IsJson text.now }
-    ensures { IfOk result (λ found. found ≡ told_nodes (value_of text.now)) }
-{
-    let Some(nodes) = node_list(alloc, scratch, text)? else {
+    let Some(list) = found else {
         return Ok(None);
     };
-    if are_apart(alloc, nodes.items())? {
-        Ok(Some(nodes))
+    if are_apart(alloc, list.items.items())? {
+        Ok(Some(list.items))
     } else {
         Ok(None)
     }
 }
 
-/// How many variants a file has, whatever they are.
-fn variants_len(alloc: Global, scratch: &mut Scratch, text: &str) -> Result<usize, NoMemory>
-    requires { IsJson text.now }
-    ensures { IfOk result (λ count. count ≡ variants_len (value_of text.now)) }
+/// How many entries a list has; none where there is no list.
+fn count_of(list: Option<ListLen>) -> usize
+    ensures { result ≡ option_map_or (λ n. n.0) list 0 }
 {
-    let found: Option<ListLen> = part(alloc, scratch, text, &[], "variants")?;
-    match found {
-        Some(len) => Ok(len.0),
-        None => Ok(0),
+    match list {
+        Some(len) => len.0,
+        None => 0,
     }
 }
 
@@ -135,19 +105,20 @@ fn slot_list(
     }
 }
 
-/// The slots of a file with these instances and nodes. None where they break a rule of shape.
+/// The slots of a file with so many variants, and these instances and nodes. None where they break a rule of shape.
 fn slots(
     alloc: Global,
     scratch: &mut Scratch,
     text: &str,
+    variants: usize,
     instances: &[InstanceEntry],
     nodes: &[NodeName],
 ) -> Result<Option<Listed<SlotEntry>>, NoMemory>
-    requires { IsJson text.now }
+    requires json { IsJson text.now }
+    requires variants { variants ≡ variants_len (value_of text.now) }
     ensures { IfOk result (λ found. found ≡ told_slots (value_of text.now) instances.now nodes.now) }
 {
     let counts = counts_of(alloc, instances)?;
-    let variants = variants_len(alloc, scratch, text)?;
     let Some(slots) = slot_list(alloc, scratch, text, nodes)? else {
         return Ok(None);
     };
@@ -216,28 +187,54 @@ fn with_instances(
     scratch: &mut Scratch,
     text: &str,
     instances: Listed<InstanceEntry>,
+    nodes: Option<LongList<NodeName>>,
+    variants: Option<ListLen>,
 ) -> Result<Entries, TableFault>
-    requires { IsJson text.now }
+    requires json { IsJson text.now }
+    requires nodes { option_map (λ list. list.items) nodes ≡ told_member (told_list told_node) (codes "nodes") (value_of text.now) }
+    requires variants { option_map_or (λ n. n.0) variants 0 ≡ variants_len (value_of text.now) }
     ensures ok { IfOk result (λ entries. by_instances (value_of text.now) (Some instances) ≡ Ok entries) }
     ensures err { IfErr result (IsFaultOf (by_instances (value_of text.now) (Some instances))) }
 {
-    let Some(nodes) = nodes(alloc, scratch, text)? else {
+    let Some(nodes) = apart_nodes(alloc, nodes)? else {
         return Err(TableFault::BadShape { path: Part::Nodes });
     };
-    let Some(slots) = slots(alloc, scratch, text, instances.items(), nodes.items())? else {
+    let variants = count_of(variants);
+    let found = slots(
+        alloc,
+        scratch,
+        text,
+        variants,
+        instances.items(),
+        nodes.items(),
+    )?;
+    let Some(slots) = found else {
         return Err(TableFault::BadShape { path: Part::Slots });
     };
     with_slots(alloc, scratch, text, instances, nodes, slots)
 }
 
-/// The entries of a file of version 1.
-fn parts_in(alloc: Global, scratch: &mut Scratch, text: &str) -> Result<Entries, TableFault>
-    requires { IsJson text.now }
+/// The entries of a file of version 1, of which this was read.
+fn parts_in(
+    alloc: Global,
+    scratch: &mut Scratch,
+    text: &str,
+    preface: Preface,
+) -> Result<Entries, TableFault>
+    requires json { IsJson text.now }
+    requires preface { IsPreface (value_of text.now) preface }
     ensures ok { IfOk result (λ entries. by_instances (value_of text.now) (told_instances (value_of text.now)) ≡ Ok entries) }
     ensures err { IfErr result (IsFaultOf (by_instances (value_of text.now) (told_instances (value_of text.now)))) }
 {
-    match instances(alloc, scratch, text)? {
-        Some(instances) => with_instances(alloc, scratch, text, instances),
+    match apart_instances(alloc, preface.instances)? {
+        Some(instances) => with_instances(
+            alloc,
+            scratch,
+            text,
+            instances,
+            preface.nodes,
+            preface.variants,
+        ),
         None => Err(TableFault::BadShape {
             path: Part::Instances,
         }),
@@ -250,11 +247,10 @@ fn entries_in(alloc: Global, scratch: &mut Scratch, text: &str) -> Result<Entrie
     ensures ok { IfOk result (λ entries. told_tree (value_of text.now) ≡ Ok entries) }
     ensures err { IfErr result (IsFaultOf (told_tree (value_of text.now))) }
 {
-    if !is_object(scratch, text)? {
+    let Some(preface) = preface_in(alloc, scratch, text)? else {
         return Err(TableFault::BadShape { path: Part::Whole });
-    }
-    let found: Option<u64> = part(alloc, scratch, text, &[], "version")?;
-    let Some(found) = found else {
+    };
+    let Some(found) = preface.version else {
         return Err(TableFault::BadShape {
             path: Part::Version,
         });
@@ -262,7 +258,7 @@ fn entries_in(alloc: Global, scratch: &mut Scratch, text: &str) -> Result<Entrie
     if found != 1 {
         return Err(TableFault::Version { found });
     }
-    parts_in(alloc, scratch, text)
+    parts_in(alloc, scratch, text, preface)
 }
 
 /// The entries of the file that bytes are.
