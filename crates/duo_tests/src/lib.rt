@@ -1,4 +1,4 @@
-//! Tests of links and doors in memory, and of connections that are served over them.
+//! Tests of links and doors in memory, of connections that are served over them, and of what a session shows.
 //!
 //! They stand apart from the crates that they test, since a crate with tests is proved twice: with them and without.
 #![tactic(auto)]
@@ -13,5 +13,7 @@ mod links;
 mod meeting;
 #[cfg(test)]
 mod running;
+#[cfg(test)]
+mod shown;
 #[cfg(test)]
 mod steady;
