@@ -129,11 +129,16 @@ def grown_requests(data, chance, most):
 
 
 def grown_symbols(data, chance, most):
-    """A symbol file an element of which comes again and again."""
+    """A symbol file an element of which comes again and again. Where it is no JSON, or nests deeper than is followed here, its bytes grow."""
     try:
         value = json.loads(data.decode(), object_pairs_hook=Pairs)
+        return grown_value(value, data, chance, most)
     except (ValueError, RecursionError):
         return grown_source(data, chance, most)
+
+
+def grown_value(value, data, chance, most):
+    """The text of a JSON value an element of which comes again and again."""
     found = [it for it in holders(value) if it and not isinstance(it, Pairs)]
     if not found:
         return data
@@ -366,11 +371,15 @@ def changed(value, chance):
 
 
 def json_text(data, chance):
-    """A JSON text with some values changed; where it is none its bytes are."""
+    """A JSON text with some values changed; where it is none, or nests deeper than is followed here, its bytes are."""
     try:
-        value = json.loads(data.decode(), object_pairs_hook=Pairs)
+        return changed_text(json.loads(data.decode(), object_pairs_hook=Pairs), chance)
     except (ValueError, RecursionError):
         return by_bytes(data, data, chance)
+
+
+def changed_text(value, chance):
+    """The text of a JSON value, some parts of which are changed."""
     if not isinstance(value, list):
         return text_of(scalar(chance), chance)
     for _ in range(1 + int(chance.expovariate(1))):
