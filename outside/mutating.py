@@ -132,8 +132,11 @@ def grown_symbols(data, chance, most):
     """A symbol file an element of which comes again and again. Where it is no JSON, or nests deeper than is followed here, its bytes grow."""
     try:
         value = json.loads(data.decode(), object_pairs_hook=Pairs)
-        return grown_value(value, data, chance, most)
     except (ValueError, RecursionError):
+        return grown_source(data, chance, most)
+    try:
+        return grown_value(value, data, chance, most)
+    except RecursionError:
         return grown_source(data, chance, most)
 
 
@@ -373,8 +376,12 @@ def changed(value, chance):
 def json_text(data, chance):
     """A JSON text with some values changed; where it is none, or nests deeper than is followed here, its bytes are."""
     try:
-        return changed_text(json.loads(data.decode(), object_pairs_hook=Pairs), chance)
+        value = json.loads(data.decode(), object_pairs_hook=Pairs)
     except (ValueError, RecursionError):
+        return by_bytes(data, data, chance)
+    try:
+        return changed_text(value, chance)
+    except RecursionError:
         return by_bytes(data, data, chance)
 
 
