@@ -16,3 +16,5 @@ pub mod Prepared
 pub mod Values
 pub mod Spanning
 pub mod Spots
+pub mod Gaps
+pub mod Passed

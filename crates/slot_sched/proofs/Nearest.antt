@@ -1,5 +1,6 @@
 -- The positions that one search looks at, one after another.
-use Rattle.std.proofs.Common.{◌≡◌, ℕ, zero, suc, ◌+◌, ◌-◌, ◌<◌, ◌≤◌, min, Bool, true, false, List, [], ◌∷◌, ◌++◌, take, drop, reverse, Some, None, find, cond, refl, ap, ap₂, ◌∙◌, arith, add-one}
+use Rattle.std.proofs.Common.{◌≡◌, ℕ, zero, suc, ◌+◌, ◌-◌, ◌<◌, ◌≤◌, min, Bool, true, false, List, [], ◌∷◌, ◌++◌, take, drop, reverse, Some, None, find, cond, refl, sym, ap, ap₂, ◌∙◌, inl, inr, arith, add-one}
+use Rattle.std.proofs.lemmas.Bool.{cases_lt}
 use Rattle.std.proofs.lemmas.List.{reverse-append}
 use Rattle.list_core.specs.Lists.{EachOf, from}
 use Rattle.slot_sched.specs.Scan.{down_from}
@@ -29,6 +30,28 @@ up_none test p e h = let d : e - p ≡ 0 = omega (arith, h) in rw (d) refl
 
 pub down_none : (test : ℕ → Bool) (p low : ℕ) → p ≤ low → find test (down_from p (p - low)) ≡ None
 down_none test p low h = let d : p - low ≡ 0 = omega (arith, h) in rw (d) refl
+
+-- ---- positions that are passed over
+
+pub up_over : (test : ℕ → Bool) (p e n : ℕ) → ((r : ℕ) → p ≤ r → r < p + n → test r ≡ false) → find test (from p (e - p)) ≡ find test (from (p + n) (e - (p + n)))
+up_over test p e zero h = ap (λ k. find test (from k (e - k))) (let same : p ≡ p + 0 = omega arith in same)
+up_over test p e (suc n) h = elim (cases_lt p e) as (λ _. find test (from p (e - p)) ≡ find test (from (p + suc n) (e - (p + suc n)))) [
+  | inl more ↦
+      up_past test p e more (h p (omega arith) (omega arith)) ∙ up_over test (p + 1) e n (λ r low high. h r (omega (arith, low)) (omega (arith, high)))
+      ∙ ap (λ k. find test (from k (e - k))) (let same : p + 1 + n ≡ p + suc n = omega arith in same)
+  | inr none ↦ up_none test p e none ∙ sym (up_none test (p + suc n) e (omega (arith, none)))
+]
+
+pub down_over : (test : ℕ → Bool) (p low n : ℕ) → n ≤ p → ((r : ℕ) → r < p → p ≤ r + n → test r ≡ false) → find test (down_from p (p - low)) ≡ find test (down_from (p - n) (p - n - low))
+down_over test p low zero within h = ap (λ k. find test (down_from k (k - low))) (let same : p ≡ p - 0 = omega arith in same)
+down_over test p low (suc n) within h = elim (cases_lt low p) as (λ _. find test (down_from p (p - low)) ≡ find test (down_from (p - suc n) (p - suc n - low))) [
+  | inl more ↦
+      ap (λ k. find test (down_from k (k - low))) (let same : p ≡ p - 1 + 1 = omega (arith, within) in same)
+      ∙ down_past test (p - 1) low (omega (arith, more)) (h (p - 1) (omega (arith, within)) (omega (arith, within)))
+      ∙ down_over test (p - 1) low n (omega (arith, within)) (λ r below near. h r (omega (arith, below)) (omega (arith, near, within)))
+      ∙ ap (λ k. find test (down_from k (k - low))) (let same : p - 1 - n ≡ p - suc n = omega (arith, within) in same)
+  | inr none ↦ down_none test p low none ∙ sym (down_none test (p - suc n) low (omega (arith, none)))
+]
 
 -- ---- fronts of positions one after another
 

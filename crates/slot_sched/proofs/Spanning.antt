@@ -15,7 +15,7 @@ use Rattle.cond_lang.specs.declared.text.CondText.{CondText}
 use Rattle.slot_sched.specs.declared.armed.Trap.{Trap}
 use Rattle.slot_sched.specs.declared.armed.Armed.{Armed}
 use Rattle.slot_sched.specs.declared.spans.Span.{Span}
-use Rattle.slot_sched.specs.Spans.{no_span, holds, covers, are_covered, are_spanned, WaitBelow, AllWaitBelow}
+use Rattle.slot_sched.specs.Spans.{no_span, span_of, holds, covers, are_covered, are_spanned, WaitBelow, AllWaitBelow}
 use Rattle.slot_sched.specs.Armed.{IsTrap}
 use Rattle.slot_sched.specs.Waiting.{trap_stops, armed_stops, any_stops}
 
@@ -231,3 +231,12 @@ module _ (parts : TableParts) (samples : ℕ → Sample) (k : ℕ) where
       let long : to - from ≡ min count span.to - 0 - (min (min count span.to) span.from - 0) = omega (arith, low, te) in
       ap₂ (λ (i m : ℕ). any_stops parts samples k (take i (drop m armed))) long start
       ∙ cut_stops (min (min count span.to) span.from) (min count span.to) 0 armed outside
+
+  -- where a slot has no places none stops
+  pub vacant_stops : (spans : List Span) (n : ℕ) (armed : List Armed) → are_spanned spans n armed ≡ true → (span_of spans k).to ≤ (span_of spans k).from → any_stops parts samples k armed ≡ false
+  vacant_stops spans n [] e none = refl
+  vacant_stops spans n (a ∷ armed) e none =
+      let both = and_parts (are_covered spans n a.traps.items) (are_spanned spans (n + 1) armed) e in
+      let here : armed_stops parts samples k a ≡ false = false_from_ne_true (armed_stops parts samples k a) (λ stops.
+      let sides = between (span_of spans k) n (stops_covered spans n a.traps.items stops both.0) in omega (arith, sides.0, sides.1, none)) in
+      ap₂ (λ (x y : Bool). x || y) here (vacant_stops spans (n + 1) armed both.1 none)

@@ -55,3 +55,11 @@ cycle_below p n some = grind arith
 pub some_slots : (c n p : ℕ) → p < c * n → 0 < n
 some_slots c zero p h = absurd (omega (arith, h))
 some_slots c (suc n) p h = omega arith
+
+-- a slot further on in the same cycle, and one further back
+pub up_within : (p n d : ℕ) → p % n + d < n → (p / n ≡ (p + d) / n) × (p % n + d ≡ (p + d) % n)
+up_within p n d within = spot_of (p + d) n (p / n) (p % n + d) within (let e : p / n * n + (p % n + d) ≡ p + d = omega (arith, whole p n) in e)
+
+pub down_within : (p n d : ℕ) → 0 < n → d ≤ p % n → (p / n ≡ (p - d) / n) × (p % n - d ≡ (p - d) % n)
+down_within p n d some within =
+    spot_of (p - d) n (p / n) (p % n - d) (omega (arith, slot_below p n some, within)) (let e : p / n * n + (p % n - d) ≡ p - d = omega (arith, whole p n, within) in e)

@@ -1,5 +1,5 @@
--- Which breakpoints may wait at a slot, by their places among those that are armed.
-use Rattle.std.specs.Prelude.{ℕ, ◌+◌, ◌<◌, ◌&&◌, Bool, true, List, [], ◌∷◌, nat_le, nat_lt, slice_get, unwrap_or}
+-- Which breakpoints may wait at a slot, by their places among those that are armed; and which slots have none.
+use Rattle.std.specs.Prelude.{ℕ, ◌≡◌, ◌+◌, ◌<◌, ◌≤◌, ◌&&◌, Bool, true, List, [], ◌∷◌, length, nat_le, nat_lt, slice_get, unwrap_or}
 use Rattle.std.specs.List.{list_all}
 use Rattle.list_core.specs.Lists.{EachOf}
 use Rattle.slot_sched.specs.declared.armed.Trap.{Trap}
@@ -8,7 +8,11 @@ use Rattle.slot_sched.specs.declared.spans.Span.{Span}
 
 -- no places
 abbrev pub no_span : Span
-no_span = record { from = 0; to = 0 }
+no_span = record { from = 0; to = 0; ahead = 0; behind = 0 }
+
+-- the places of a slot
+abbrev pub span_of : List Span → ℕ → Span
+span_of spans k = unwrap_or (slice_get spans k) no_span
 
 -- a place is among these
 abbrev pub holds : Span → ℕ → Bool
@@ -16,7 +20,7 @@ holds span j = nat_le span.from j && nat_lt j span.to
 
 -- a place is among those of a slot
 abbrev pub covers : List Span → (slot place : ℕ) → Bool
-covers spans k j = holds (unwrap_or (slice_get spans k) no_span) j
+covers spans k j = holds (span_of spans k) j
 
 -- the place of a breakpoint is among those of each slot at which it waits
 abbrev pub are_covered : List Span → (place : ℕ) → List Trap → Bool
@@ -33,3 +37,25 @@ WaitBelow count traps = EachOf (λ t. t.slot < count) traps
 
 abbrev pub AllWaitBelow : ℕ → List Armed → Type 0
 AllWaitBelow count armed = EachOf (λ a. WaitBelow count a.traps.items) armed
+
+-- ---- slots that have no places
+
+-- a slot has the places of another
+abbrev pub HasPlacesOf : Span → Span → Type 0
+HasPlacesOf a b = (a.from ≡ b.from) × (a.to ≡ b.to)
+
+abbrev pub IsVacant : List Span → ℕ → Type 0
+IsVacant spans k = (span_of spans k).to ≤ (span_of spans k).from
+
+-- of the slots from this one on each tells how many have no places from it on, and so many have none
+abbrev pub IsVacantAhead : List Span → ℕ → Type 0
+IsVacantAhead spans first = (k m : ℕ) → first ≤ k → k ≤ m → m < k + (span_of spans k).ahead → IsVacant spans m
+
+-- of those below this one each tells how many have none from it back, and so many have none
+abbrev pub IsVacantBehind : List Span → ℕ → Type 0
+IsVacantBehind spans end = (k m : ℕ) → k < end → m ≤ k → k < m + (span_of spans k).behind → IsVacant spans m
+
+-- so it is of all slots, both ways
+pub record TellGaps (spans : List Span) : Type 0 where
+  pub ahead : IsVacantAhead spans 0
+  pub behind : IsVacantBehind spans (length spans)

@@ -1,7 +1,7 @@
 //! What a schedule holds. It has a file of its own, as what is kept in its type stands on few definitions.
 
 ghost use Rattle.std.specs.Prelude.{◌≡◌, ◌≤◌, true, length};
-ghost use Rattle.slot_sched.specs.Spans.{are_spanned};
+ghost use Rattle.slot_sched.specs.Spans.{are_spanned, TellGaps};
 
 use crate::armed::Armed;
 use crate::spans::Span;
@@ -16,4 +16,5 @@ pub struct Schedule {
     pub(crate) spans: Vec<Span>,
     ghost few: { length armed.items ≤ 1024 },
     ghost spanned: { are_spanned spans.items 0 armed.items ≡ true },
+    ghost gaps: { TellGaps spans.items },
 }

@@ -1,5 +1,5 @@
-//! The search for the nearest position where a breakpoint, or a step, stops. A position is looked at only where its slot has
-//! something to offer, so the trace is not moved for the others.
+//! The search for the nearest position where a breakpoint, or a step, stops. It goes from slot to slot that has something to offer, so
+//! the positions between are not looked at, and the trace is not moved for them.
 
 ghost use Rattle.std.specs.Prelude.{◌≡◌, ◌<◌, ◌≤◌, ◌+◌, ◌-◌, ◌*◌, ◌/◌, ◌≤ℤ◌, not, true, false, ℕ, pos, negsuc, length, find, Some, IfSome};
 ghost use Rattle.std.specs.List.{list_any};
@@ -99,14 +99,34 @@ impl Schedule {
         &self.armed[from..to]
     }
 
-    /// Whether a slot can have what is searched for, whatever the trace shows: a breakpoint may wait there, or it has an instance that is wanted.
-    fn offers(&self, table: &Table, slot: u32, want: Want) -> bool
+    /// How many slots, from this one on, cannot have what is searched for, whatever the trace shows: no breakpoint waits there, or none of their
+    /// instances is wanted.
+    fn passed_up(&self, table: &Table, slot: u32, want: Want) -> u32
         requires slot { slot < length table.now.slots }
-        ensures { result ≡ false → (samples : ℕ → Sample) → slot_stops table.now samples slot self.now.armed.items want ≡ false }
+        ensures within { slot + result ≤ length table.now.slots }
+        ensures none { (k : ℕ) (samples : ℕ → Sample) → slot ≤ k → k < slot + result → slot_stops table.now samples k self.now.armed.items want ≡ false }
     {
         match want {
-            Want::Breakpoints => !self.waiting(slot).is_empty(),
-            Want::Step(named) => any_wanted(table, slot, named),
+            Want::Breakpoints => {
+                let span = span_at(&self.spans, slot);
+                span.passed(span.ahead).min(table.slots() - slot)
+            }
+            Want::Step(named) => { if any_wanted(table, slot, named) { 0 } else { 1 } }
+        }
+    }
+
+    /// How many slots, from this one back, cannot have it.
+    fn passed_down(&self, table: &Table, slot: u32, want: Want) -> u32
+        requires slot { slot < length table.now.slots }
+        ensures within { result ≤ slot + 1 }
+        ensures none { (k : ℕ) (samples : ℕ → Sample) → k ≤ slot → slot < k + result → slot_stops table.now samples k self.now.armed.items want ≡ false }
+    {
+        match want {
+            Want::Breakpoints => {
+                let span = span_at(&self.spans, slot);
+                span.passed(span.behind).min(slot.saturating_add(1))
+            }
+            Want::Step(named) => { if any_wanted(table, slot, named) { 0 } else { 1 } }
         }
     }
 
@@ -124,7 +144,7 @@ impl Schedule {
         }
     }
 
-    /// Whether a position has what is searched for. Where its slot can have it, the trace is set at its cycle, unless it stands there.
+    /// Whether a position has what is searched for. The trace is set at its cycle, unless it stands there.
     fn position_stops<T: Trace>(
         &self,
         table: &Table,
@@ -142,16 +162,76 @@ impl Schedule {
         ensures set { IfSome stands.new (λ at. T.cursor trace.new ≡ Some at) }
         ensures value { result ≡ position_stops table.now (T.samples trace.old) self.now.armed.items want spot.position }
     {
-        if !self.offers(table, spot.slot, want) {
-            return false;
-        }
         set_at(trace, *stands, spot.cycle);
         *stands = Some(spot.cycle);
         self.slot_stops(table, trace, spot.slot, want)
     }
 
-    /// The nearest position that has what is searched for, from the first up to the end. A cycle is sought once.
-    #[tactic(auto, using(crate::proofs::Nearest::up_past, crate::proofs::Nearest::up_here, crate::proofs::Nearest::up_none, crate::proofs::Spots::some_slots))]
+    /// How many positions from this one on are known not to have what is searched for, in its cycle; 0 where it has that. A cycle is sought only
+    /// where the position is looked at.
+    fn look_up<T: Trace>(
+        &self,
+        table: &Table,
+        trace: &mut T,
+        stands: &mut Option<u64>,
+        spot: Spot,
+        want: Want,
+    ) -> u32
+        requires fits { FitsTable table.now (T.samples trace.old) }
+        requires ready { AreReady table.now (T.samples trace.old) self.now.armed.items }
+        requires stands { IfSome stands.old (λ at. T.cursor trace.old ≡ Some at) }
+        requires spot { IsSpot (length table.now.slots) spot }
+        requires within { spot.position < total_of table.now (T.samples trace.old) }
+        ensures kept { T.samples trace.new ≡ T.samples trace.old }
+        ensures set { IfSome stands.new (λ at. T.cursor trace.new ≡ Some at) }
+        ensures cycle { spot.slot + result ≤ length table.now.slots }
+        ensures here { result ≡ 0 → position_stops table.now (T.samples trace.old) self.now.armed.items want spot.position ≡ true }
+        ensures none { (p : ℕ) → spot.position ≤ p → p < spot.position + result → position_stops table.now (T.samples trace.old) self.now.armed.items want p ≡ false }
+    {
+        let passed = self.passed_up(table, spot.slot, want);
+        if 0 < passed {
+            return passed;
+        }
+        if self.position_stops(table, trace, stands, spot, want) {
+            0
+        } else {
+            1
+        }
+    }
+
+    /// How many positions from this one back are known not to have it, in its cycle; 0 where it has it.
+    fn look_down<T: Trace>(
+        &self,
+        table: &Table,
+        trace: &mut T,
+        stands: &mut Option<u64>,
+        spot: Spot,
+        want: Want,
+    ) -> u32
+        requires fits { FitsTable table.now (T.samples trace.old) }
+        requires ready { AreReady table.now (T.samples trace.old) self.now.armed.items }
+        requires stands { IfSome stands.old (λ at. T.cursor trace.old ≡ Some at) }
+        requires spot { IsSpot (length table.now.slots) spot }
+        requires within { spot.position < total_of table.now (T.samples trace.old) }
+        ensures kept { T.samples trace.new ≡ T.samples trace.old }
+        ensures set { IfSome stands.new (λ at. T.cursor trace.new ≡ Some at) }
+        ensures cycle { result ≤ spot.slot + 1 }
+        ensures here { result ≡ 0 → position_stops table.now (T.samples trace.old) self.now.armed.items want spot.position ≡ true }
+        ensures none { (p : ℕ) → p ≤ spot.position → spot.position < p + result → position_stops table.now (T.samples trace.old) self.now.armed.items want p ≡ false }
+    {
+        let passed = self.passed_down(table, spot.slot, want);
+        if 0 < passed {
+            return passed;
+        }
+        if self.position_stops(table, trace, stands, spot, want) {
+            0
+        } else {
+            1
+        }
+    }
+
+    /// The nearest position that has what is searched for, from the first up to the end: of those whose slot can have it, which are gone to without
+    /// a look at those between. A cycle is sought once.
     fn forward<T: Trace>(
         &self,
         table: &Table,
@@ -173,17 +253,17 @@ impl Schedule {
         let slots = table.slots();
         let mut stands = None;
         let mut spot = Spot::of(first, slots);
-        for p in first..end {
-            if self.position_stops(table, trace, &mut stands, spot, want) {
-                return Some(p);
+        while spot.position < end {
+            let passed = self.look_up(table, trace, &mut stands, spot, want);
+            if passed == 0 {
+                return Some(spot.position);
             }
-            spot = spot.next(slots);
+            spot = spot.up(passed - 1, slots).next(slots);
         }
         None
     }
 
-    /// The nearest position below this one that has what is searched for, down to the lowest. A cycle is sought once.
-    #[tactic(auto, using(crate::proofs::Nearest::down_past, crate::proofs::Nearest::down_here, crate::proofs::Nearest::down_none, crate::proofs::Spots::some_slots))]
+    /// The nearest position below this one that has what is searched for, down to the lowest, in the same way. A cycle is sought once.
     fn backward<T: Trace>(
         &self,
         table: &Table,
@@ -205,14 +285,13 @@ impl Schedule {
         let slots = table.slots();
         let mut stands = None;
         let mut spot = Spot::of(below, slots);
-        let mut p = below;
-        while lowest < p {
-            p -= 1;
-            spot = spot.previous(slots);
-            let stops = self.position_stops(table, trace, &mut stands, spot, want);
-            if stops {
-                return Some(p);
+        while lowest < spot.position {
+            let here = spot.previous(slots);
+            let passed = self.look_down(table, trace, &mut stands, here, want);
+            if passed == 0 {
+                return Some(here.position);
             }
+            spot = here.down(passed - 1, slots);
         }
         None
     }

@@ -1,6 +1,6 @@
 //! A position with its cycle and its slot, which are counted along with it: a search that passes a position divides nothing.
 
-ghost use Rattle.std.specs.Prelude.{◌≡◌, ◌<◌, ◌+◌, ◌^◌};
+ghost use Rattle.std.specs.Prelude.{◌≡◌, ◌<◌, ◌≤◌, ◌+◌, ◌^◌};
 ghost use Rattle.slot_sched.specs.Spots.{IsSpot};
 
 /// A position, the cycle that it is in, and its slot.
@@ -31,7 +31,7 @@ impl Spot {
     pub(crate) fn next(self, slots: u32) -> Spot
         requires some { 0 < slots }
         requires spot { IsSpot slots self }
-        requires few { self.position < 2 ^ 62 }
+        requires few { self.position < 2 ^ 63 }
         ensures spot { IsSpot slots result }
         ensures position { result.position ≡ self.position + 1 }
     {
@@ -72,6 +72,36 @@ impl Spot {
             position,
             cycle: self.cycle - 1,
             slot: slots - 1,
+        }
+    }
+
+    /// The spot so many slots on in the same cycle.
+    pub(crate) fn up(self, by: u32, slots: u32) -> Spot
+        requires within { self.slot + by < slots }
+        requires spot { IsSpot slots self }
+        requires few { self.position < 2 ^ 62 }
+        ensures spot { IsSpot slots result }
+        ensures position { result.position ≡ self.position + by }
+    {
+        Spot {
+            position: self.position + u64::from(by),
+            cycle: self.cycle,
+            slot: self.slot + by,
+        }
+    }
+
+    /// The spot so many slots back in the same cycle.
+    pub(crate) fn down(self, by: u32, slots: u32) -> Spot
+        requires some { 0 < slots }
+        requires within { by ≤ self.slot }
+        requires spot { IsSpot slots self }
+        ensures spot { IsSpot slots result }
+        ensures position { result.position + by ≡ self.position }
+    {
+        Spot {
+            position: self.position - u64::from(by),
+            cycle: self.cycle,
+            slot: self.slot - by,
         }
     }
 }

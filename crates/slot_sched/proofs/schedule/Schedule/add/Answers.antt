@@ -8,7 +8,7 @@ use Rattle.slot_sched.proofs.Spanning.{spanned_kept, trap_below, within_push}
 use Rattle.slot_sched.proofs.schedule.Schedule.add.Goals as goal
 
 pub invariant_of-self : goal.invariant_of-self
-invariant_of-self c = record { few = c.args.self.now.few; spanned = spanned_kept _ _ c.grown.ensures.keeps 0 c.args.self.now.armed.items c.args.self.now.spanned }
+invariant_of-self c = record { few = c.args.self.now.few; spanned = spanned_kept _ _ c.grown.ensures.keeps 0 c.args.self.now.armed.items c.args.self.now.spanned; gaps = c.grown.ensures.gaps c.args.self.now.gaps }
 
 pub invariant_of-self-in-Break-branch-3 : goal.invariant_of-self-in-Break-branch-3
 invariant_of-self-in-Break-branch-3 c =
@@ -16,6 +16,7 @@ invariant_of-self-in-Break-branch-3 c =
     record {
       few = subst (λ (l : List Armed). length l ≤ 1024) (sym same) c.args.self.now.few;
       spanned = subst (λ (l : List Armed). are_spanned c.grown.new.spans.items 0 l ≡ true) (sym same) (spanned_kept _ _ c.grown.ensures.keeps 0 c.args.self.now.armed.items c.args.self.now.spanned);
+      gaps = c.grown.ensures.gaps c.args.self.now.gaps;
     }
 
 pub invariant_of-self-2 : goal.invariant_of-self-2
@@ -25,8 +26,9 @@ invariant_of-self-2 c =
     record {
       few = omega (arith, more, room);
       spanned = subst (λ (l : List Armed). are_spanned c.widen_last.new.spans.items 0 l ≡ true) c.deref.ensures.value
-          (c.widen_last.ensures c.args.self.now.armed.items _ (c.deref.ensures.value ∙ c.in_ok-push.ensures.items)
+          (c.widen_last.ensures.spanned c.args.self.now.armed.items _ (c.deref.ensures.value ∙ c.in_ok-push.ensures.items)
           (spanned_kept _ _ c.grown.ensures.keeps 0 c.args.self.now.armed.items c.args.self.now.spanned));
+      gaps = c.widen_last.ensures.gaps;
     }
 
 pub widen_last-requires-clause-within : goal.widen_last-requires-clause-within

@@ -2,7 +2,7 @@ use Rattle.std.proofs.Common.{subst, true, ◌≡◌, ◌-◌, List, length}
 use Rattle.slot_sched.specs.declared.armed.Trap.{Trap}
 use Rattle.slot_sched.specs.Spans.{are_covered}
 use Rattle.slot_sched.proofs.Spanning.{spanned_last}
-use Rattle.slot_sched.proofs.spans.widen_last.Goals as goal
+use Rattle.slot_sched.proofs.spans.put_last.Goals as goal
 
 pub returns-in-Some : goal.returns-in-Some
 returns-in-Some c = λ front last is e.

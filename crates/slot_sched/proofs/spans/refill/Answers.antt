@@ -1,6 +1,6 @@
 use Rattle.std.proofs.Common.{take, rules}
 use Rattle.slot_sched.proofs.Spanning.{spanned_kept, spanned_more}
-use Rattle.slot_sched.proofs.spans.rebuild.Goals as goal
+use Rattle.slot_sched.proofs.spans.refill.Goals as goal
 
 pub loop-armed-preserved : goal.loop-armed-preserved
 loop-armed-preserved c = (

@@ -1,6 +1,6 @@
 use Rattle.std.proofs.Common.{◌≡◌, true, length, take}
 use Rattle.slot_sched.specs.Spans.{are_spanned}
-use Rattle.slot_sched.proofs.spans.rebuild.Given as goal
+use Rattle.slot_sched.proofs.spans.refill.Given as goal
 
 abbrev pub invariant-loop-armed : goal.invariant-loop-armed
 invariant-loop-armed l =
