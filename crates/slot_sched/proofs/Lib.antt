@@ -18,3 +18,4 @@ pub mod Spanning
 pub mod Spots
 pub mod Gaps
 pub mod Passed
+pub mod Rising

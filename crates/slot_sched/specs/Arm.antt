@@ -1,6 +1,7 @@
 -- What is found in a table where a breakpoint is armed, and what the answers other than Ok say.
 use Rattle.std.specs.Prelude.{◌≡◌, ℕ, Bool, true, List, [], ◌∷◌, ◌++◌, Option, Some, None, Result, Ok, Err, position, bytes_eq, nat_eq, nat_lt, ◌<◌, length, map, filter, option_map, All, Contains, if◌then◌else◌}
 use Rattle.std.specs.List.{list_any, list_all}
+use Rattle.std.specs.List.Sorted.{IsNonDecreasingBy}
 use Rattle.bv_core.specs.declared.Binding.{Binding}
 use Rattle.exec_core.specs.Block.{Name}
 use Rattle.gen_tree.specs.Tree.{Expr}
@@ -144,10 +145,11 @@ abbrev pub IsFor : (armed next : ℕ) → Result Unarmed ArmFault → Result Bre
 IsFor armed next (Ok u) made = made ≡ unless_refused (limit_refusal armed next) (as_breakpoint next u)
 IsFor armed next (Err end) made = IsRefusal (answer_for end) made
 
--- it waits at each instance that it is armed for, and at no other
+-- it waits at each instance that it is armed for, and at no other; slot after slot
 pub record IsArmable (parts : TableParts) (u : Unarmed) : Type 0 where
   pub places : map trap_place u.traps.items ≡ traps_of parts u.instance u.slots.items
   pub each : All (IsTrap parts u.text) u.traps.items
+  pub in_order : IsNonDecreasingBy (λ t. t.slot) u.traps.items
 
 -- the breakpoint that the machine arms there, under this number, behind those that were; or why it is refused, unless memory ran out
 abbrev pub Arms : Result ℕ ArmFault → Result Breakpoint Body → (old new : List Breakpoint) → Type 0

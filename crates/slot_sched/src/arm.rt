@@ -1,6 +1,6 @@
 //! What a breakpoint is armed for, and why it is refused.
 
-ghost use Rattle.std.specs.Prelude.{◌≡◌, ◌<◌, ◌++◌, [], ◌∷◌, ℕ, All, IfOk, IfErr, OnOk, Contains, length, filter, map, option_map, Some, Ok, Err, Result};
+ghost use Rattle.std.specs.Prelude.{◌≡◌, ◌<◌, ◌++◌, [], ◌∷◌, ℕ, All, IfOk, OnOk, Contains, length, filter, map, option_map, Some, Ok, Err, Result};
 ghost use Rattle.std.specs.List.{list_any, list_all};
 ghost use Rattle.cond_lang.specs.Faults.{Refuses};
 ghost use Rattle.cond_lang.specs.Bound.{scope_of};

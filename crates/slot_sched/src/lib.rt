@@ -15,6 +15,7 @@ mod schedule;
 mod search;
 mod spans;
 mod spot;
+mod stops;
 
 pub use fault::ArmFault;
 pub use found::Found;

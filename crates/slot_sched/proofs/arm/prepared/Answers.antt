@@ -8,6 +8,7 @@ use Rattle.machine_core.specs.Arming.{first_of, unless_refused, limit_refusal}
 use Rattle.slot_sched.specs.Armed.{traps_of}
 use Rattle.slot_sched.specs.Arm.{answer_for, named_has, IsRefusal, IsTold, ascii_refused, asked_instance}
 use Rattle.slot_sched.proofs.Prepared.{no_site, no_instance, no_text, no_bit, is_made, refused_end, spots_are}
+use Rattle.slot_sched.proofs.Rising.{waits_in_order}
 use Rattle.slot_sched.proofs.arm.prepared.Goals as goal
 
 pub returns-then-is_empty-clause-told : goal.returns-then-is_empty-clause-told
@@ -74,3 +75,15 @@ returns-clause-told c = λ read s armed next reader.
     (c.in_ok-text.ensures.read read reader)
     (sym (ap (λ (l : List ℕ). first_of (map (ascii_refused parts ct) (traps_of parts named l))) (c.deref.ensures.value ∙ items)) ∙ c.in_ok-traps.ensures.tells)
     ∙ ap (λ (l : List ℕ). unless_refused (limit_refusal armed next) (record { number = next; slots = l; instance = named; condition = option_map text_expr ct })) (sym items)
+
+pub returns-clause-traps : goal.returns-clause-traps
+returns-clause-traps c =
+    let named = c.in_ok-instance.instance in
+    let parts = c.args.table.now in
+    let places_at = c.in_ok-traps.ensures.places ∙ ap (traps_of parts named) c.deref.ensures.value in
+    record {
+      places = places_at;
+      each = c.in_ok-traps.ensures.each;
+      in_order = waits_in_order parts named c.args.line (lines_of parts.slots) c.in_ok-slots.slots.items (named_has parts named) c.in_ok-traps.traps.items
+          (c.in_ok-slots.ensures.slots ∙ ap (filter (named_has parts named)) c.slots_on-all.ensures.slots) places_at;
+    }
