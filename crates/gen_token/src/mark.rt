@@ -1,6 +1,5 @@
-ghost use Rattle.std.specs.Prelude.{◌≡◌, ◌≤◌, Some, None, IfSome, find, length, nat_eq};
-ghost use Rattle.std.specs.List.{starts_with};
-ghost use Rattle.gen_token.specs.Marks.{mark_text, marks, mark_of};
+ghost use Rattle.std.specs.Prelude.{◌≡◌, ◌≤◌, IfSome, length};
+ghost use Rattle.gen_token.specs.Marks.{mark_text, mark_of};
 
 /// A sign between names and numbers.
 #[derive(Clone, Copy, PartialEq, Eq)]
@@ -70,54 +69,38 @@ impl Mark {
     }
 }
 
-/// The marks with the first byte of a text, the longer ones first.
-fn alike(text: &[u8]) -> &'static [Mark]
-    ensures { find (λ mark. starts_with nat_eq text.now (mark_text mark)) marks ≡ find (λ mark. starts_with nat_eq text.now (mark_text mark)) result.now }
-{
-    match text {
-        [b'.', ..] => &[Mark::DotDot, Mark::Dot],
-        [b'=', ..] => &[Mark::EqualsEquals, Mark::Equals],
-        [b'!', ..] => &[Mark::NotEquals],
-        [b'<', ..] => &[Mark::LessEquals, Mark::LessLess, Mark::Less],
-        [b'>', ..] => &[Mark::GreaterGreater],
-        [b'{', ..] => &[Mark::LeftBrace],
-        [b'}', ..] => &[Mark::RightBrace],
-        [b'(', ..] => &[Mark::LeftParen],
-        [b')', ..] => &[Mark::RightParen],
-        [b'[', ..] => &[Mark::LeftBracket],
-        [b']', ..] => &[Mark::RightBracket],
-        [b';', ..] => &[Mark::Semicolon],
-        [b':', ..] => &[Mark::Colon],
-        [b',', ..] => &[Mark::Comma],
-        [b'+', ..] => &[Mark::Plus],
-        [b'-', ..] => &[Mark::Minus],
-        [b'*', ..] => &[Mark::Star],
-        [b'&', ..] => &[Mark::Ampersand],
-        [b'|', ..] => &[Mark::Bar],
-        [b'^', ..] => &[Mark::Caret],
-        [b'~', ..] => &[Mark::Tilde],
-        [b'#', ..] => &[Mark::Hash],
-        _ => &[],
-    }
-}
-
-/// The longest mark in front of a text. Only those with its first byte are looked at.
+/// The longest mark in front of a text: of two bytes where both are there, else of one.
 pub(crate) fn mark_of(text: &[u8]) -> Option<Mark>
     ensures mark { result ≡ mark_of text.now }
     ensures within { IfSome result (λ mark. length (mark_text mark) ≤ length text.now) }
 {
-    first_mark(alike(text), text)
-}
-
-/// The first of these marks that stands in front of a text.
-fn first_mark(marks: &[Mark], text: &[u8]) -> Option<Mark>
-    ensures mark { result ≡ find (λ mark. starts_with nat_eq text.now (mark_text mark)) marks.now }
-    ensures within { IfSome result (λ mark. length (mark_text mark) ≤ length text.now) }
-{
-    for mark in marks {
-        if text.starts_with(mark.text().as_bytes()) {
-            return Some(*mark);
-        }
+    match text {
+        [b'.', b'.', ..] => Some(Mark::DotDot),
+        [b'.', ..] => Some(Mark::Dot),
+        [b'=', b'=', ..] => Some(Mark::EqualsEquals),
+        [b'=', ..] => Some(Mark::Equals),
+        [b'!', b'=', ..] => Some(Mark::NotEquals),
+        [b'<', b'=', ..] => Some(Mark::LessEquals),
+        [b'<', b'<', ..] => Some(Mark::LessLess),
+        [b'<', ..] => Some(Mark::Less),
+        [b'>', b'>', ..] => Some(Mark::GreaterGreater),
+        [b'{', ..] => Some(Mark::LeftBrace),
+        [b'}', ..] => Some(Mark::RightBrace),
+        [b'(', ..] => Some(Mark::LeftParen),
+        [b')', ..] => Some(Mark::RightParen),
+        [b'[', ..] => Some(Mark::LeftBracket),
+        [b']', ..] => Some(Mark::RightBracket),
+        [b';', ..] => Some(Mark::Semicolon),
+        [b':', ..] => Some(Mark::Colon),
+        [b',', ..] => Some(Mark::Comma),
+        [b'+', ..] => Some(Mark::Plus),
+        [b'-', ..] => Some(Mark::Minus),
+        [b'*', ..] => Some(Mark::Star),
+        [b'&', ..] => Some(Mark::Ampersand),
+        [b'|', ..] => Some(Mark::Bar),
+        [b'^', ..] => Some(Mark::Caret),
+        [b'~', ..] => Some(Mark::Tilde),
+        [b'#', ..] => Some(Mark::Hash),
+        _ => None,
     }
-    None
 }
