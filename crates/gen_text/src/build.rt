@@ -3,13 +3,13 @@
 //! place by a function that may fail, since the proofs of such functions are many times as long.
 
 ghost use Rattle.std.specs.Prelude.{◌≡◌, IfOk};
-ghost use Rattle.gen_tree.specs.View.{int_of, expr_of};
+ghost use Rattle.gen_tree.specs.View.{int_of, fam_of, expr_of};
 ghost use Rattle.gen_tree.specs.Tree as tree;
 
-use gen_tree::{Expr, Int, IntOp, Op, UnOp};
+use gen_tree::{Expr, Fam, Int, IntOp, Op, UnOp};
 use std::alloc::Global;
 use std::boxed::Box;
-use text_core::NoMemory;
+use text_core::{NoMemory, Text};
 
 /// A value behind a box.
 pub(crate) fn boxed(alloc: Global, value: Expr) -> Result<Box<Expr>, NoMemory>
@@ -23,6 +23,27 @@ pub(crate) fn boxed_int(alloc: Global, int: Int) -> Result<Box<Int>, NoMemory>
     ensures { IfOk result (λ made. int_of made.value ≡ int_of int) }
 {
     Ok(Box::new(alloc, int)?)
+}
+
+/// A child's name behind a box.
+pub(crate) fn boxed_fam(alloc: Global, fam: Fam) -> Result<Box<Fam>, NoMemory>
+    ensures { IfOk result (λ made. fam_of made.value ≡ fam_of fam) }
+{
+    Ok(Box::new(alloc, fam)?)
+}
+
+/// A signal or a `let`.
+pub(crate) fn read(fam: Fam) -> Expr
+    ensures { expr_of result ≡ tree.read (fam_of fam) }
+{
+    Expr::Read(fam)
+}
+
+/// An output of a child.
+pub(crate) fn output(child: Box<Fam>, output: Text) -> Expr
+    ensures { expr_of result ≡ tree.out (fam_of child.value) output }
+{
+    Expr::Out(child, output)
 }
 
 /// An operator between two integers.
@@ -61,8 +82,8 @@ pub(crate) fn zext(value: Box<Expr>, width: Int) -> Expr
 }
 
 /// Some of the bits of a value.
-pub(crate) fn slice(value: Box<Expr>, high: Int, low: Int) -> Expr
-    ensures { expr_of result ≡ tree.slice (expr_of value.value) (int_of high) (int_of low) }
+pub(crate) fn slice(value: Box<Expr>, high: Box<Int>, low: Box<Int>) -> Expr
+    ensures { expr_of result ≡ tree.slice (expr_of value.value) (int_of high.value) (int_of low.value) }
 {
     Expr::Slice(value, high, low)
 }

@@ -1,6 +1,6 @@
 //! Expressions, read from left to right with one token ahead. `room` is how many brackets may still be opened.
 
-ghost use Rattle.std.specs.Prelude.{◌≡◌};
+ghost use Rattle.std.specs.Prelude.{◌≡◌, IfOk};
 ghost use Rattle.gen_token.specs.Words.{placed, word_of};
 ghost use Rattle.gen_tree.specs.Tree as tree;
 ghost use Rattle.gen_tree.specs.View.{int_of, fam_of, lit_of, expr_of};
@@ -8,7 +8,7 @@ ghost use Rattle.gen_text.specs.Faults.{Gives, with_rest};
 ghost use Rattle.gen_text.specs.Forms.{op_form};
 ghost use Rattle.gen_text.specs.Reading as list;
 
-use crate::build::{self, boxed};
+use crate::build::{self, boxed, boxed_fam, boxed_int};
 use crate::fault::ReadFault;
 use crate::ints::{fam_rest, int};
 use crate::words::{begins_mark, closed, name, open};
@@ -16,7 +16,7 @@ use gen_token::{Keyword, Mark, Placed, Token};
 use gen_tree::{Dialect, Expr, Fam, Int, Lit, Op, UnOp};
 use std::alloc::Global;
 use std::boxed::Box;
-use text_core::Text;
+use text_core::{NoMemory, Text};
 
 /// What stands behind `bits`, and what follows it.
 fn bits<'t, 'a>(
@@ -29,7 +29,9 @@ fn bits<'t, 'a>(
 {
     let rest = open(tokens, Mark::LeftParen, room)?;
     let (width, rest) = closed(int(alloc, dialect, room - 1, rest)?, Mark::Comma)?;
+    let width = boxed_int(alloc, width)?;
     let (value, rest) = closed(int(alloc, dialect, room - 1, rest)?, Mark::RightParen)?;
+    let value = boxed_int(alloc, value)?;
     Ok((Lit::Bits { width, value }, rest))
 }
 
@@ -83,16 +85,20 @@ fn read<'t, 'a>(
 {
     let (fam, rest) = fam_rest(alloc, dialect, room, name, tokens)?;
     let (output, rest) = dot(alloc, rest)?;
-    Ok((read_of(fam, output), rest))
+    let read = read_of(alloc, fam, output)?;
+    Ok((read, rest))
 }
 
 /// A signal, or an output of a child.
-fn read_of(fam: Fam, output: Option<Text>) -> Expr
-    ensures { expr_of result ≡ list.read_of (fam_of fam) output }
+fn read_of(alloc: Global, fam: Fam, output: Option<Text>) -> Result<Expr, NoMemory>
+    ensures { IfOk result (λ read. expr_of read ≡ list.read_of (fam_of fam) output) }
 {
     match output {
-        Some(output) => Expr::Out(fam, output),
-        None => Expr::Read(fam),
+        Some(output) => {
+            let child = boxed_fam(alloc, fam)?;
+            Ok(build::output(child, output))
+        }
+        None => Ok(build::read(fam)),
     }
 }
 
@@ -304,11 +310,13 @@ fn bounds<'t, 'a>(
     dialect: Dialect,
     room: usize,
     tokens: &'t [Placed<'a>],
-) -> Result<((Int, Int), &'t [Placed<'a>]), ReadFault>
-    ensures { (value : tree.Expr) → Gives (with_rest (λ bounds. tree.slice value (int_of bounds.0) (int_of bounds.1))) result (list.bounds_at dialect room value (placed tokens.now)) }
+) -> Result<((Box<Int>, Box<Int>), &'t [Placed<'a>]), ReadFault>
+    ensures { (value : tree.Expr) → Gives (with_rest (λ bounds. tree.slice value (int_of bounds.0.value) (int_of bounds.1.value))) result (list.bounds_at dialect room value (placed tokens.now)) }
 {
     let rest = open(tokens, Mark::LeftBracket, room)?;
     let (high, rest) = closed(int(alloc, dialect, room - 1, rest)?, Mark::Colon)?;
+    let high = boxed_int(alloc, high)?;
     let (low, rest) = closed(int(alloc, dialect, room - 1, rest)?, Mark::RightBracket)?;
+    let low = boxed_int(alloc, low)?;
     Ok(((high, low), rest))
 }

@@ -11,6 +11,7 @@ use crate::words::{closed, is_mark, name};
 use gen_token::{Mark, Placed, Token};
 use gen_tree::{Cmp, Dialect, Fam, Int, IntOp};
 use std::alloc::Global;
+use std::boxed::Box;
 use text_core::Text;
 
 /// The operator between integers that a token is.
@@ -133,13 +134,14 @@ fn index<'t, 'a>(
     dialect: Dialect,
     room: usize,
     tokens: &'t [Placed<'a>],
-) -> Result<(Option<Int>, &'t [Placed<'a>]), ReadFault>
-    ensures { Gives (with_rest (option_map int_of)) result (list.index_at dialect room (placed tokens.now)) }
+) -> Result<(Option<Box<Int>>, &'t [Placed<'a>]), ReadFault>
+    ensures { Gives (with_rest (option_map (λ index. int_of index.value))) result (list.index_at dialect room (placed tokens.now)) }
 {
     match tokens {
         [first, rest @ ..] => {
             if is_mark(first.token, Mark::Hash) {
                 let (index, rest) = int(alloc, dialect, room, rest)?;
+                let index = boxed_int(alloc, index)?;
                 return Ok((Some(index), rest));
             }
             Ok((None, tokens))

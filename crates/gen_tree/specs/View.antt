@@ -24,21 +24,21 @@ int_of (ints.Var x) = var x
 int_of (ints.Bin' o p a q b) = bin o (int_of a) (int_of b)
 
 abbrev pub fam_of : code_fam.Fam → Fam
-fam_of f = record { name = f.name; index = option_map int_of f.index }
+fam_of f = record { name = f.name; index = option_map (λ i. int_of i.value) f.index }
 
 abbrev pub lit_of : code_lit.Lit → Lit
 lit_of (lits.Plain w v) = plain w v
-lit_of (lits.Bits w v) = bits (int_of w) (int_of v)
+lit_of (lits.Bits w v) = bits (int_of w.value) (int_of v.value)
 
 abbrev pub expr_of : code_expr.Expr → Expr
 expr_of (exprs.Read f) = read (fam_of f)
-expr_of (exprs.Out f q) = out (fam_of f) q
+expr_of (exprs.Out f q) = out (fam_of f.value) q
 expr_of (exprs.Value l) = value (lit_of l)
 expr_of (exprs.Un' o p e) = unary o (expr_of e)
 expr_of (exprs.Bin' o p a q b) = binary o (expr_of a) (expr_of b)
 expr_of (exprs.Mux' p c q a r b) = mux (expr_of c) (expr_of a) (expr_of b)
 expr_of (exprs.Zext' p e w) = zext (expr_of e) (int_of w)
-expr_of (exprs.Slice' p e h l) = slice (expr_of e) (int_of h) (int_of l)
+expr_of (exprs.Slice' p e h l) = slice (expr_of e) (int_of h.value) (int_of l.value)
 
 unfoldable mutual
   pub stmt_of : code_stmt.Stmt → Stmt

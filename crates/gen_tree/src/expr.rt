@@ -1,3 +1,6 @@
+//! The expressions and integers of a source. What is rare in an expression (the index of a member, a child's name, the bounds of a slice)
+//! stands behind a box of its own, so that a node takes 48 bytes: the time that a long expression takes is mostly that of its memory.
+
 use std::boxed::Box;
 use text_core::Text;
 
@@ -33,7 +36,7 @@ pub enum Cmp {
 #[derive(Drop)]
 pub struct Fam {
     pub name: Text,
-    pub index: Option<Int>,
+    pub index: Option<Box<Int>>,
 }
 
 /// A literal: how wide it is said to be, and its value, which need not fit.
@@ -42,7 +45,7 @@ pub enum Lit {
     /// A width from 0 to 2^62, and a value from 0 to 2^128 - 1.
     Plain { width: u64, value: u128 },
     /// `bits(width, value)`
-    Bits { width: Int, value: Int },
+    Bits { width: Box<Int>, value: Box<Int> },
 }
 
 /// An operator on one value.
@@ -78,7 +81,7 @@ pub enum Expr {
     /// A signal or a `let`.
     Read(Fam),
     /// An output of a child: the child's name and the output's.
-    Out(Fam, Text),
+    Out(Box<Fam>, Text),
     Value(Lit),
     Un(UnOp, Box<Expr>),
     Bin(Op, Box<Expr>, Box<Expr>),
@@ -87,5 +90,5 @@ pub enum Expr {
     /// `zext(value, width)`
     Zext(Box<Expr>, Int),
     /// `value[high:low]`
-    Slice(Box<Expr>, Int, Int),
+    Slice(Box<Expr>, Box<Int>, Box<Int>),
 }
