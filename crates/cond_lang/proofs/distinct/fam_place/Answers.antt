@@ -8,7 +8,7 @@ use Rattle.cond_lang.proofs.distinct.fam_place.Goals as goal
 
 -- a name without an index is as it stands
 plain : (f : Fam) → f.index ≡ None → f.name ≡ fam_name (fam_of f)
-plain f none = sym (ap (λ o. f.name ++ index_name (option_map int_of o)) none ∙ append-nil f.name)
+plain f none = sym (ap (λ o. f.name ++ index_name (option_map (λ i. int_of i.value) o)) none ∙ append-nil f.name)
 
 pub returns-in-None-clause-place : goal.returns-in-None-clause-place
 returns-in-None-clause-place c =
