@@ -2,7 +2,7 @@
 //! known, `gone` was removed and `later` is unset.
 
 use bv_core::{Binding, Bv, NodeId, Ref, Sample, text_of};
-use cond_lang::{BindEnd, CondFault, bind, read_cond, value_of};
+use cond_lang::{BindEnd, Cond, CondFault, CondText, bind, read_cond, value_of};
 use std::alloc::Global;
 use std::test::Fail;
 
@@ -110,35 +110,51 @@ fn found(name: &str) -> Option<Binding> {
     }
 }
 
-/// What is told of a text.
-fn told(alloc: Global, text: &[u8]) -> Result<String, Fail> {
-    let read = match read_cond(alloc, text) {
-        Ok(read) => read,
-        Err(CondFault::At { offset }) => return Ok(format!(in alloc; "at {offset}")?),
-        Err(CondFault::NoMemory) => return Ok(format!(in alloc; "no memory")?),
-    };
-    match bind(alloc, &read, &|name: &str| found(name)) {
-        Ok(cond) => match value_of(&cond, &|_| Sample::Unknown) {
-            Sample::Known(value) => match text_of(alloc, value) {
-                Ok(text) => Ok(text),
-                Err(_) => Ok(format!(in alloc; "no memory")?),
-            },
-            Sample::Unknown => Ok(format!(in alloc; "x")?),
+/// What is told of a condition that is bound.
+fn told_value(alloc: Global, cond: &Cond) -> Result<String, Fail> {
+    match value_of(cond, &|_| Sample::Unknown) {
+        Sample::Known(value) => match text_of(alloc, value) {
+            Ok(text) => Ok(text),
+            Err(_) => Ok(format!(in alloc; "no memory")?),
         },
-        Err(BindEnd::Unknown { name }) => Ok(format!(in alloc;
+        Sample::Unknown => Ok(format!(in alloc; "x")?),
+    }
+}
+
+/// What is told of a condition that is not bound.
+fn told_end(alloc: Global, end: BindEnd) -> Result<String, Fail> {
+    match end {
+        BindEnd::Unknown { name } => Ok(format!(in alloc;
             "unknown {}",
             std::str::from_utf8(name.bytes())?
         )?),
-        Err(BindEnd::Removed { name }) => Ok(format!(in alloc;
+        BindEnd::Removed { name } => Ok(format!(in alloc;
             "removed {}",
             std::str::from_utf8(name.bytes())?
         )?),
-        Err(BindEnd::Unset { name }) => Ok(format!(in alloc;
+        BindEnd::Unset { name } => Ok(format!(in alloc;
             "unset {}",
             std::str::from_utf8(name.bytes())?
         )?),
-        Err(BindEnd::Width { offset }) => Ok(format!(in alloc; "width {offset}")?),
-        Err(BindEnd::NoMemory) => Ok(format!(in alloc; "no memory")?),
+        BindEnd::Width { offset } => Ok(format!(in alloc; "width {offset}")?),
+        BindEnd::NoMemory => Ok(format!(in alloc; "no memory")?),
+    }
+}
+
+/// What is told of a condition at the place.
+fn told_at(alloc: Global, text: &CondText) -> Result<String, Fail> {
+    match bind(alloc, text, &|name: &str| found(name)) {
+        Ok(cond) => told_value(alloc, &cond),
+        Err(end) => told_end(alloc, end),
+    }
+}
+
+/// What is told of a text.
+fn told(alloc: Global, text: &[u8]) -> Result<String, Fail> {
+    match read_cond(alloc, text) {
+        Ok(text) => told_at(alloc, &text),
+        Err(CondFault::At { offset }) => Ok(format!(in alloc; "at {offset}")?),
+        Err(CondFault::NoMemory) => Ok(format!(in alloc; "no memory")?),
     }
 }
 
