@@ -14,6 +14,7 @@ pub mod OnlyExprs
 pub mod OnlyItems
 pub mod OnlyModules
 pub mod OnlyStmts
+pub mod Piles
 pub mod Sample
 pub mod SourceLoop
 pub mod StmtsRead

@@ -1,22 +1,24 @@
-//! Expressions, read from left to right with one token ahead. `room` is how many brackets may still be opened.
+//! Expressions, read from left to right with one token ahead, as lists of pieces. `room` is how many brackets may still be opened.
 
-ghost use Rattle.std.specs.Prelude.{◌≡◌, IfOk};
+ghost use Rattle.std.specs.Prelude.{◌≡◌, ◌∷◌, List, OnOk, option_map};
 ghost use Rattle.gen_token.specs.Words.{placed, word_of};
 ghost use Rattle.gen_tree.specs.Tree as tree;
-ghost use Rattle.gen_tree.specs.View.{int_of, fam_of, lit_of, expr_of};
+ghost use Rattle.gen_tree.specs.View.{int_of, lit_of};
 ghost use Rattle.gen_text.specs.Faults.{Gives, with_rest};
 ghost use Rattle.gen_text.specs.Forms.{op_form};
+ghost use Rattle.gen_text.specs.Pieces.{top, below, with_piece, exprs_of};
 ghost use Rattle.gen_text.specs.Reading as list;
 
-use crate::build::{self, boxed, boxed_fam, boxed_int};
+use crate::build::boxed_int;
 use crate::fault::ReadFault;
-use crate::ints::{fam_rest, int};
-use crate::words::{begins_mark, closed, name, open};
+use crate::ints::{index, int};
+use crate::pieces::{Piece, push};
+use crate::words::{begins_mark, closed, mark, name, open};
 use gen_token::{Keyword, Mark, Placed, Token};
-use gen_tree::{Dialect, Expr, Fam, Int, Lit, Op, UnOp};
+use gen_tree::{Dialect, Int, Lit, Op, UnOp};
 use std::alloc::Global;
 use std::boxed::Box;
-use text_core::{NoMemory, Text};
+use text_core::NoMemory;
 
 /// What stands behind `bits`, and what follows it.
 fn bits<'t, 'a>(
@@ -60,46 +62,42 @@ pub(crate) fn lit<'t, 'a>(
 }
 
 /// The name of an output behind a child's name, or none, and what follows it.
-fn dot<'t, 'a>(
-    alloc: Global,
-    tokens: &'t [Placed<'a>],
-) -> Result<(Option<Text>, &'t [Placed<'a>]), ReadFault>
-    ensures { Gives (with_rest (λ output. output)) result (list.dot_at (placed tokens.now)) }
+fn dot<'t, 'a>(tokens: &'t [Placed<'a>]) -> Result<(Option<&'a [u8]>, &'t [Placed<'a>]), ReadFault>
+    ensures { Gives (with_rest (option_map (λ output. output.now))) result (list.dot_at (placed tokens.now)) }
 {
     if !begins_mark(tokens, Mark::Dot) {
         return Ok((None, tokens));
     }
     let (output, rest) = name(&tokens[1..])?;
-    Ok((Some(Text::new(alloc, output)?), rest))
+    Ok((Some(output), rest))
 }
 
-/// What is read behind a name: a signal, a `let`, or a child's output; and what follows it.
+/// A signal, or an output of a child.
+fn read_of<'a>(name: &'a [u8], index: Option<Box<Int>>, output: Option<&'a [u8]>) -> Piece<'a>
+    ensures { (es : List tree.Expr) → with_piece result es ≡ list.read_of (list.fam_of_name name.now (option_map (λ index. int_of index.value) index)) (option_map (λ output. output.now) output.entry) ∷ es }
+{
+    match output {
+        Some(output) => Piece::Out(name, index, output),
+        None => Piece::Read(name, index),
+    }
+}
+
+/// Puts what stands behind a name behind other pieces: a signal, a `let`, or a child's output; and what follows it.
 fn read<'t, 'a>(
     alloc: Global,
     dialect: Dialect,
     room: usize,
-    name: &[u8],
+    name: &'a [u8],
+    pieces: &mut Vec<Piece<'a>>,
     tokens: &'t [Placed<'a>],
-) -> Result<(Expr, &'t [Placed<'a>]), ReadFault>
-    ensures { Gives (with_rest expr_of) result (list.read_at dialect room name.now (placed tokens.now)) }
+) -> Result<&'t [Placed<'a>], ReadFault>
+    ensures reads { Gives (λ rest. (top (exprs_of pieces.new.items), placed rest.now)) result (list.read_at dialect room name.now (placed tokens.now)) }
+    ensures behind { OnOk result (exprs_of pieces.new.items ≡ top (exprs_of pieces.new.items) ∷ exprs_of pieces.old.items) }
 {
-    let (fam, rest) = fam_rest(alloc, dialect, room, name, tokens)?;
-    let (output, rest) = dot(alloc, rest)?;
-    let read = read_of(alloc, fam, output)?;
-    Ok((read, rest))
-}
-
-/// A signal, or an output of a child.
-fn read_of(alloc: Global, fam: Fam, output: Option<Text>) -> Result<Expr, NoMemory>
-    ensures { IfOk result (λ read. expr_of read ≡ list.read_of (fam_of fam) output) }
-{
-    match output {
-        Some(output) => {
-            let child = boxed_fam(alloc, fam)?;
-            Ok(build::output(child, output))
-        }
-        None => Ok(build::read(fam)),
-    }
+    let (index, rest) = index(alloc, dialect, room, tokens)?;
+    let (output, rest) = dot(rest)?;
+    push(pieces, read_of(name, index, output))?;
+    Ok(rest)
 }
 
 /// The operator between expressions that a token is.
@@ -136,19 +134,21 @@ fn op<'t, 'a>(tokens: &'t [Placed<'a>]) -> Result<(Op, &'t [Placed<'a>]), ReadFa
     }
 }
 
-/// The expression in front, and what follows it. `room` brackets may still be opened.
+/// Puts the pieces of the expression in front behind others; and what follows it. `room` brackets may still be opened.
 #[cycle(exprs)]
 #[tactic(auto, using(crate::proofs::OnlyExprs::expr_opened))]
 pub fn expr<'t, 'a>(
     alloc: Global,
     dialect: Dialect,
     room: usize,
+    pieces: &mut Vec<Piece<'a>>,
     tokens: &'t [Placed<'a>],
-) -> Result<(Expr, &'t [Placed<'a>]), ReadFault>
-    ensures { Gives (with_rest expr_of) result (list.expr_at dialect room (placed tokens.now)) }
+) -> Result<&'t [Placed<'a>], ReadFault>
+    ensures reads { Gives (λ rest. (top (exprs_of pieces.new.items), placed rest.now)) result (list.expr_at dialect room (placed tokens.now)) }
+    ensures behind { OnOk result (exprs_of pieces.new.items ≡ top (exprs_of pieces.new.items) ∷ exprs_of pieces.old.items) }
 {
-    let (value, rest) = prim(alloc, dialect, room, tokens)?;
-    slice(alloc, dialect, room, value, rest)
+    let rest = prim(alloc, dialect, room, pieces, tokens)?;
+    slice(alloc, dialect, room, pieces, rest)
 }
 
 /// The expression in front, up to a slice at its end, and what follows it.
@@ -157,24 +157,29 @@ fn prim<'t, 'a>(
     alloc: Global,
     dialect: Dialect,
     room: usize,
+    pieces: &mut Vec<Piece<'a>>,
     tokens: &'t [Placed<'a>],
-) -> Result<(Expr, &'t [Placed<'a>]), ReadFault>
-    ensures { Gives (with_rest expr_of) result (list.prim_step dialect room (list.inner_expr dialect room) (placed tokens.now)) }
+) -> Result<&'t [Placed<'a>], ReadFault>
+    ensures reads { Gives (λ rest. (top (exprs_of pieces.new.items), placed rest.now)) result (list.prim_step dialect room (list.inner_expr dialect room) (placed tokens.now)) }
+    ensures behind { OnOk result (exprs_of pieces.new.items ≡ top (exprs_of pieces.new.items) ∷ exprs_of pieces.old.items) }
 {
     match tokens {
         [first, rest @ ..] => match first.token {
-            Token::Name(name) => read(alloc, dialect, room, name, rest),
-            Token::Mark(Mark::LeftParen) => bracket(alloc, dialect, room, tokens),
-            Token::Mark(Mark::Tilde) => unary(alloc, dialect, room, UnOp::Not, rest),
-            Token::Keyword(Keyword::All) => unary(alloc, dialect, room, UnOp::All, rest),
-            Token::Keyword(Keyword::Any) => unary(alloc, dialect, room, UnOp::Any, rest),
-            Token::Keyword(Keyword::Parity) => unary(alloc, dialect, room, UnOp::Parity, rest),
-            Token::Keyword(Keyword::Cat) => cat(alloc, dialect, room, rest),
-            Token::Keyword(Keyword::Mux) => mux(alloc, dialect, room, rest),
-            Token::Keyword(Keyword::Zext) => zext(alloc, dialect, room, rest),
+            Token::Name(name) => read(alloc, dialect, room, name, pieces, rest),
+            Token::Mark(Mark::LeftParen) => bracket(alloc, dialect, room, pieces, tokens),
+            Token::Mark(Mark::Tilde) => unary(alloc, dialect, room, UnOp::Not, pieces, rest),
+            Token::Keyword(Keyword::All) => unary(alloc, dialect, room, UnOp::All, pieces, rest),
+            Token::Keyword(Keyword::Any) => unary(alloc, dialect, room, UnOp::Any, pieces, rest),
+            Token::Keyword(Keyword::Parity) => {
+                unary(alloc, dialect, room, UnOp::Parity, pieces, rest)
+            }
+            Token::Keyword(Keyword::Cat) => cat(alloc, dialect, room, pieces, rest),
+            Token::Keyword(Keyword::Mux) => mux(alloc, dialect, room, pieces, rest),
+            Token::Keyword(Keyword::Zext) => zext(alloc, dialect, room, pieces, rest),
             _ => {
                 let (lit, rest) = lit(alloc, dialect, room, tokens)?;
-                Ok((Expr::Value(lit), rest))
+                push(pieces, Piece::Value(lit))?;
+                Ok(rest)
             }
         },
         [] => Err(ReadFault::At { left: 0 }),
@@ -187,17 +192,19 @@ fn bracket<'t, 'a>(
     alloc: Global,
     dialect: Dialect,
     room: usize,
+    pieces: &mut Vec<Piece<'a>>,
     tokens: &'t [Placed<'a>],
-) -> Result<(Expr, &'t [Placed<'a>]), ReadFault>
-    ensures { Gives (with_rest expr_of) result (list.bracket_at room (list.inner_expr dialect room) (placed tokens.now)) }
+) -> Result<&'t [Placed<'a>], ReadFault>
+    ensures reads { Gives (λ rest. (top (exprs_of pieces.new.items), placed rest.now)) result (list.bracket_at room (list.inner_expr dialect room) (placed tokens.now)) }
+    ensures behind { OnOk result (exprs_of pieces.new.items ≡ top (exprs_of pieces.new.items) ∷ exprs_of pieces.old.items) }
 {
     let rest = open(tokens, Mark::LeftParen, room)?;
-    let (first, rest) = expr(alloc, dialect, room - 1, rest)?;
-    let first = boxed(alloc, first)?;
+    let rest = expr(alloc, dialect, room - 1, pieces, rest)?;
     let (op, rest) = op(rest)?;
-    let (second, rest) = closed(expr(alloc, dialect, room - 1, rest)?, Mark::RightParen)?;
-    let second = boxed(alloc, second)?;
-    Ok((build::binary(op, first, second), rest))
+    let rest = expr(alloc, dialect, room - 1, pieces, rest)?;
+    let rest = mark(rest, Mark::RightParen)?;
+    push(pieces, Piece::Bin(op))?;
+    Ok(rest)
 }
 
 /// What stands behind an operator on one value, and what follows it.
@@ -207,14 +214,17 @@ fn unary<'t, 'a>(
     dialect: Dialect,
     room: usize,
     op: UnOp,
+    pieces: &mut Vec<Piece<'a>>,
     tokens: &'t [Placed<'a>],
-) -> Result<(Expr, &'t [Placed<'a>]), ReadFault>
-    ensures { Gives (with_rest expr_of) result (list.unary_at room (list.inner_expr dialect room) op (placed tokens.now)) }
+) -> Result<&'t [Placed<'a>], ReadFault>
+    ensures reads { Gives (λ rest. (top (exprs_of pieces.new.items), placed rest.now)) result (list.unary_at room (list.inner_expr dialect room) op (placed tokens.now)) }
+    ensures behind { OnOk result (exprs_of pieces.new.items ≡ top (exprs_of pieces.new.items) ∷ exprs_of pieces.old.items) }
 {
     let rest = open(tokens, Mark::LeftParen, room)?;
-    let (value, rest) = closed(expr(alloc, dialect, room - 1, rest)?, Mark::RightParen)?;
-    let value = boxed(alloc, value)?;
-    Ok((build::unary(op, value), rest))
+    let rest = expr(alloc, dialect, room - 1, pieces, rest)?;
+    let rest = mark(rest, Mark::RightParen)?;
+    push(pieces, Piece::Un(op))?;
+    Ok(rest)
 }
 
 /// What stands behind `cat`, and what follows it.
@@ -223,16 +233,19 @@ fn cat<'t, 'a>(
     alloc: Global,
     dialect: Dialect,
     room: usize,
+    pieces: &mut Vec<Piece<'a>>,
     tokens: &'t [Placed<'a>],
-) -> Result<(Expr, &'t [Placed<'a>]), ReadFault>
-    ensures { Gives (with_rest expr_of) result (list.cat_at room (list.inner_expr dialect room) (placed tokens.now)) }
+) -> Result<&'t [Placed<'a>], ReadFault>
+    ensures reads { Gives (λ rest. (top (exprs_of pieces.new.items), placed rest.now)) result (list.cat_at room (list.inner_expr dialect room) (placed tokens.now)) }
+    ensures behind { OnOk result (exprs_of pieces.new.items ≡ top (exprs_of pieces.new.items) ∷ exprs_of pieces.old.items) }
 {
     let rest = open(tokens, Mark::LeftParen, room)?;
-    let (high, rest) = closed(expr(alloc, dialect, room - 1, rest)?, Mark::Comma)?;
-    let high = boxed(alloc, high)?;
-    let (low, rest) = closed(expr(alloc, dialect, room - 1, rest)?, Mark::RightParen)?;
-    let low = boxed(alloc, low)?;
-    Ok((build::binary(Op::Cat, high, low), rest))
+    let rest = expr(alloc, dialect, room - 1, pieces, rest)?;
+    let rest = mark(rest, Mark::Comma)?;
+    let rest = expr(alloc, dialect, room - 1, pieces, rest)?;
+    let rest = mark(rest, Mark::RightParen)?;
+    push(pieces, Piece::Bin(Op::Cat))?;
+    Ok(rest)
 }
 
 /// What stands behind `zext`, and what follows it.
@@ -241,15 +254,18 @@ fn zext<'t, 'a>(
     alloc: Global,
     dialect: Dialect,
     room: usize,
+    pieces: &mut Vec<Piece<'a>>,
     tokens: &'t [Placed<'a>],
-) -> Result<(Expr, &'t [Placed<'a>]), ReadFault>
-    ensures { Gives (with_rest expr_of) result (list.zext_at dialect room (list.inner_expr dialect room) (placed tokens.now)) }
+) -> Result<&'t [Placed<'a>], ReadFault>
+    ensures reads { Gives (λ rest. (top (exprs_of pieces.new.items), placed rest.now)) result (list.zext_at dialect room (list.inner_expr dialect room) (placed tokens.now)) }
+    ensures behind { OnOk result (exprs_of pieces.new.items ≡ top (exprs_of pieces.new.items) ∷ exprs_of pieces.old.items) }
 {
     let rest = open(tokens, Mark::LeftParen, room)?;
-    let (value, rest) = closed(expr(alloc, dialect, room - 1, rest)?, Mark::Comma)?;
-    let value = boxed(alloc, value)?;
+    let rest = expr(alloc, dialect, room - 1, pieces, rest)?;
+    let rest = mark(rest, Mark::Comma)?;
     let (width, rest) = closed(int(alloc, dialect, room - 1, rest)?, Mark::RightParen)?;
-    Ok((build::zext(value, width), rest))
+    push(pieces, Piece::Zext(width))?;
+    Ok(rest)
 }
 
 /// What stands behind `mux`, and what follows it.
@@ -258,50 +274,41 @@ fn mux<'t, 'a>(
     alloc: Global,
     dialect: Dialect,
     room: usize,
+    pieces: &mut Vec<Piece<'a>>,
     tokens: &'t [Placed<'a>],
-) -> Result<(Expr, &'t [Placed<'a>]), ReadFault>
-    ensures { Gives (with_rest expr_of) result (list.mux_at room (list.inner_expr dialect room) (placed tokens.now)) }
+) -> Result<&'t [Placed<'a>], ReadFault>
+    ensures reads { Gives (λ rest. (top (exprs_of pieces.new.items), placed rest.now)) result (list.mux_at room (list.inner_expr dialect room) (placed tokens.now)) }
+    ensures behind { OnOk result (exprs_of pieces.new.items ≡ top (exprs_of pieces.new.items) ∷ exprs_of pieces.old.items) }
 {
     let rest = open(tokens, Mark::LeftParen, room)?;
-    let (test, rest) = closed(expr(alloc, dialect, room - 1, rest)?, Mark::Comma)?;
-    let test = boxed(alloc, test)?;
-    choice(alloc, dialect, room - 1, test, rest)
+    let rest = expr(alloc, dialect, room - 1, pieces, rest)?;
+    let rest = mark(rest, Mark::Comma)?;
+    let rest = expr(alloc, dialect, room - 1, pieces, rest)?;
+    let rest = mark(rest, Mark::Comma)?;
+    let rest = expr(alloc, dialect, room - 1, pieces, rest)?;
+    let rest = mark(rest, Mark::RightParen)?;
+    push(pieces, Piece::Mux)?;
+    Ok(rest)
 }
 
-/// The two values that `mux` chooses from, behind its condition, and what follows them.
-#[cycle(exprs)]
-fn choice<'t, 'a>(
-    alloc: Global,
-    dialect: Dialect,
-    room: usize,
-    test: Box<Expr>,
-    tokens: &'t [Placed<'a>],
-) -> Result<(Expr, &'t [Placed<'a>]), ReadFault>
-    ensures { Gives (with_rest expr_of) result (list.choice_at (list.expr_at dialect room) (expr_of test.value) (placed tokens.now)) }
-{
-    let (first, rest) = closed(expr(alloc, dialect, room, tokens)?, Mark::Comma)?;
-    let first = boxed(alloc, first)?;
-    let (second, rest) = closed(expr(alloc, dialect, room, rest)?, Mark::RightParen)?;
-    let second = boxed(alloc, second)?;
-    Ok((build::mux(test, first, second), rest))
-}
-
-/// A value with a slice behind it, or without, and what follows.
+/// Puts a slice that stands in front behind the pieces of its value, or nothing where none stands there; and what follows it.
 fn slice<'t, 'a>(
     alloc: Global,
     dialect: Dialect,
     room: usize,
-    value: Expr,
+    pieces: &mut Vec<Piece<'a>>,
     tokens: &'t [Placed<'a>],
-) -> Result<(Expr, &'t [Placed<'a>]), ReadFault>
-    ensures { Gives (with_rest expr_of) result (list.slice_at dialect room (expr_of value) (placed tokens.now)) }
+) -> Result<&'t [Placed<'a>], ReadFault>
+    requires { exprs_of pieces.old.items ≡ top (exprs_of pieces.old.items) ∷ below (exprs_of pieces.old.items) }
+    ensures reads { Gives (λ rest. (top (exprs_of pieces.new.items), placed rest.now)) result (list.slice_at dialect room (top (exprs_of pieces.old.items)) (placed tokens.now)) }
+    ensures behind { OnOk result (exprs_of pieces.new.items ≡ top (exprs_of pieces.new.items) ∷ below (exprs_of pieces.old.items)) }
 {
     if !begins_mark(tokens, Mark::LeftBracket) {
-        return Ok((value, tokens));
+        return Ok(tokens);
     }
-    let value = boxed(alloc, value)?;
     let ((high, low), rest) = bounds(alloc, dialect, room, tokens)?;
-    Ok((build::slice(value, high, low), rest))
+    push(pieces, Piece::Slice(high, low))?;
+    Ok(rest)
 }
 
 /// The bounds of a slice, whatever it is of, and what follows them.

@@ -129,7 +129,7 @@ fn int_group<'t, 'a>(
 }
 
 /// The index behind a name, or none, and what follows it.
-fn index<'t, 'a>(
+pub(crate) fn index<'t, 'a>(
     alloc: Global,
     dialect: Dialect,
     room: usize,

@@ -4,7 +4,7 @@ ghost use Rattle.gen_tree.specs.View.{item_of, items_of, else_items_of};
 ghost use Rattle.gen_text.specs.Faults.{Gives, with_rest};
 ghost use Rattle.gen_text.specs.Reading as list;
 
-use crate::exprs::{expr, lit};
+use crate::exprs::lit;
 use crate::fault::ReadFault;
 use crate::ints::{fam, int};
 use crate::members::{conns, params};

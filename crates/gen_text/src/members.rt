@@ -4,9 +4,9 @@ ghost use Rattle.gen_tree.specs.View.{param_of, conn_of};
 ghost use Rattle.gen_text.specs.Faults.{Gives, with_rest};
 ghost use Rattle.gen_text.specs.Reading as list;
 
-use crate::exprs::expr;
 use crate::fault::ReadFault;
 use crate::ints::int;
+use crate::tree::expr_tree;
 use crate::words::{begins_mark, closed, mark, name, open};
 use gen_token::{Mark, Placed, Token};
 use gen_tree::{Conn, Dialect, Param};
@@ -102,7 +102,7 @@ fn conn_rest<'t, 'a>(
     ensures { Gives (with_rest conn_of) result (list.conn_rest_at room line port.now (placed tokens.now)) }
 {
     let rest = mark(tokens, Mark::Equals)?;
-    let (value, rest) = closed(expr(alloc, Dialect::Source, room, rest)?, Mark::Semicolon)?;
+    let (value, rest) = closed(expr_tree(alloc, room, rest)?, Mark::Semicolon)?;
     let port = Text::new(alloc, port)?;
     Ok((Conn { line, port, value }, rest))
 }

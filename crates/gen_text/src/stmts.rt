@@ -4,9 +4,9 @@ ghost use Rattle.gen_tree.specs.View.{int_of, stmt_of, stmts_of, else_of};
 ghost use Rattle.gen_text.specs.Faults.{Gives, with_rest};
 ghost use Rattle.gen_text.specs.Reading as list;
 
-use crate::exprs::expr;
 use crate::fault::ReadFault;
 use crate::ints::{cmp, fam, fam_rest, int};
+use crate::tree::expr_tree;
 use crate::words::{begins_keyword, begins_mark, closed, keyword, mark, name, open};
 use gen_token::{Keyword, Mark, Placed, Token};
 use gen_tree::{Cmp, Dialect, Int, Stmt};
@@ -98,7 +98,7 @@ fn assign<'t, 'a>(
 {
     let (target, rest) = fam_rest(alloc, Dialect::Source, room, name, tokens)?;
     let rest = assign_mark(clocked, rest)?;
-    let (value, rest) = closed(expr(alloc, Dialect::Source, room, rest)?, Mark::Semicolon)?;
+    let (value, rest) = closed(expr_tree(alloc, room, rest)?, Mark::Semicolon)?;
     let assign = Stmt::Assign {
         line,
         target,
@@ -118,7 +118,7 @@ fn bind<'t, 'a>(
     ensures { Gives (with_rest stmt_of) result (list.let_at room line (placed tokens.now)) }
 {
     let (name, rest) = closed(fam(alloc, room, tokens)?, Mark::Equals)?;
-    let (value, rest) = closed(expr(alloc, Dialect::Source, room, rest)?, Mark::Semicolon)?;
+    let (value, rest) = closed(expr_tree(alloc, room, rest)?, Mark::Semicolon)?;
     Ok((Stmt::Let { line, name, value }, rest))
 }
 
@@ -134,7 +134,7 @@ fn choose<'t, 'a>(
 ) -> Result<(Stmt, &'t [Placed<'a>]), ReadFault>
     ensures { Gives (with_rest stmt_of) result (list.if_at room (list.inner_stmts clocked room) line (placed tokens.now)) }
 {
-    let (test, rest) = expr(alloc, Dialect::Source, room, tokens)?;
+    let (test, rest) = expr_tree(alloc, room, tokens)?;
     let (yes, rest) = block(alloc, clocked, room, rest)?;
     let (no, rest) = otherwise(alloc, clocked, room, rest)?;
     Ok((

@@ -1,5 +1,5 @@
 //! The expressions and integers of a source. What is rare in an expression (the index of a member, a child's name, the bounds of a slice)
-//! stands behind a box of its own, so that a node takes 48 bytes: the time that a long expression takes is mostly that of its memory.
+//! stands behind a box of its own, so that a node takes 48 bytes.
 
 use std::boxed::Box;
 use text_core::Text;

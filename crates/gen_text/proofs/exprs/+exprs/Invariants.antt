@@ -21,6 +21,3 @@ decreases-zext l = 4 * l.room
 
 abbrev pub decreases-mux : goal.decreases-mux
 decreases-mux l = 4 * l.room
-
-abbrev pub decreases-choice : goal.decreases-choice
-decreases-choice l = 4 * l.room + 3
