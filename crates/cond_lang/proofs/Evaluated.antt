@@ -1,6 +1,5 @@
 -- Each step of the evaluation of a form: what it asks of the trees behind an operator, and what the operator's tree comes to.
-use Rattle.std.proofs.Common.{◌≡◌, ◌≤◌, ◌-◌, arith, length, get_or, take, drop, ℕ, List, [], ◌∷◌, Some, sym, ap, ap₂, ◌∙◌, subst}
-use Rattle.std.proofs.lemmas.List.{take_rest}
+use Rattle.std.proofs.Common.{◌≡◌, ◌≤◌, ◌-◌, arith, length, get_or, take, drop, ℕ, List, Some, sym, ap, ap₂, ◌∙◌, subst}
 use Rattle.bv_core.specs.Value.{Bits}
 use Rattle.bv_core.specs.Operators.{Fits1, Fits2, FitsMux, apply1_of, apply2_of, choose_of, width1_of, width2_of}
 use Rattle.bv_core.specs.declared.Op1.{Op1}
@@ -10,17 +9,17 @@ use Rattle.bv_core.specs.declared.Ref.{Ref}
 use Rattle.bv_core.specs.declared.Sample.{Sample}
 use Rattle.bv_core.specs.declared.Sample.TheVariants.{Known, Unknown}
 use Rattle.bv_core.proofs.Results.{one_fits, two_fit, choice_fits, one_has_width, two_have_width, choice_has_width}
-use Rattle.tree_core.specs.Tree.{Tree, Two}
-use Rattle.tree_core.specs.Width.{width_of, WellFormed, IsOf}
-use Rattle.cond_lang.specs.Bound.{EachNode, HasWidth, IsRef, known, ref_width}
+use Rattle.tree_core.specs.Tree.{Tree, Const, One, Two, Mux}
+use Rattle.tree_core.specs.Width.{width_of, IsOf}
+use Rattle.cond_lang.specs.Bound.{HasWidth, known, ref_width}
 use Rattle.cond_lang.specs.declared.form.Unary.{Unary}
-use Rattle.cond_lang.specs.declared.form.Node.{Node}
-use Rattle.cond_lang.specs.declared.form.Node.TheVariants as node
 use Rattle.cond_lang.specs.declared.form.Part.{Part}
-use Rattle.cond_lang.specs.Form.{op_of, with_one, with_two, with_three, grown, first_tree}
+use Rattle.cond_lang.specs.declared.form.Part.TheVariants as part
+use Rattle.cond_lang.specs.Form.{op_of, first_tree, later}
 use Rattle.cond_lang.specs.Places.{ref_at, trees_at}
-use Rattle.cond_lang.specs.Sampled.{Fits1At, Fits2At, FitsChoiceAt, IsReady, ComesTo, FirstIs, FirstComesTo}
+use Rattle.cond_lang.specs.Sampled.{Fits1At, Fits2At, FitsChoiceAt, IsReady, ComesTo}
 use Rattle.cond_lang.specs.Strict.{on_one, on_two, on_three}
+use Rattle.cond_lang.proofs.Forms.{headed}
 
 -- ---- widths
 
@@ -71,144 +70,80 @@ choice_at u v w (Known c) (Known a) Unknown f g h k = tt
 choice_at u v w (Known c) Unknown t f g h k = tt
 choice_at u v w Unknown s t f g h k = tt
 
--- the trees of a form, by its first node
-pub headed : (refs : List Ref) (parts : List Part) (d : Part) (n : Node) → 1 ≤ length parts → (get_or parts 0 d).node ≡ n
-    → trees_at refs parts ≡ grown (ref_at refs) n (trees_at refs (take (length parts - 1) (drop 1 parts)))
-headed refs [] d n h e = absurd (omega arith)
-headed refs (p ∷ ps) d n h e = ap₂ (λ (n : Node) (rest : List Part). grown (ref_at refs) n (trees_at refs rest)) e (sym (take_rest (p ∷ ps) 1))
+-- no values are asked for where no tree is left
+pub none_asks : {X : Type 0} (pre : NodeId → Type 0) (post : NodeId → Sample → Type 0) → IsReady pre post (Const (record { width = 0; value = 0 })) → X
+none_asks pre post h = let none : 1 ≤ 0 = h.fits.some in absurd (omega arith)
 
 -- ---- steps
 
 module _ (pre : NodeId → Type 0) (post : NodeId → Sample → Type 0) where
-  abbrev pub Asks : List (Tree Ref) → Type 0
-  Asks ts = FirstIs (IsReady pre post) ts
+  abbrev Asks : Tree Ref → Type 0
+  Asks t = IsReady pre post t
 
-  abbrev pub Comes : List (Tree Ref) → Sample → List (Tree Ref) → Type 0
-  Comes ts s rest = FirstComesTo post ts s rest
+  abbrev Comes : Tree Ref → Sample → Type 0
+  Comes t s = ComesTo post t s
 
-  pub one_first : (o : Op1) (ts : List (Tree Ref)) → Asks (with_one o ts) → Asks ts
-  one_first o [] h = absurd h
-  one_first o (a ∷ ts) h = record { fits = h.fits.0; callable = h.callable; widths = h.widths }
+  pub one_asks : (o : Op1) (a : Tree Ref) → Asks (One o a) → Asks a
+  one_asks o a h = record { fits = h.fits.0; callable = h.callable; widths = h.widths }
 
-  pub one_takes : (o : Op1) (ts rest : List (Tree Ref)) (s : Sample) → Asks (with_one o ts) → Comes ts s rest → Fits1At o s
-  one_takes o [] rest s h c = absurd h
-  one_takes o (a ∷ ts) rest s h c = one_at o (width_of ref_width a) s h.fits.1 c.0.width
+  pub one_takes : (o : Op1) (a : Tree Ref) (s : Sample) → Asks (One o a) → Comes a s → Fits1At o s
+  one_takes o a s h c = one_at o (width_of ref_width a) s h.fits.1 c.width
 
-  pub one_comes : (o : Op1) (ts rest : List (Tree Ref)) (s r : Sample) → Asks (with_one o ts) → Comes ts s rest → known r ≡ on_one (apply1_of o) (known s) → Comes (with_one o ts) r rest
-  one_comes o [] rest s r h c e = absurd h
-  one_comes o (a ∷ ts) rest s r h c e =
-      (record { width = one_wide o (width_of ref_width a) s r h.fits.1 c.0.width e; value = λ samples each. e ∙ ap (on_one (apply1_of o)) (c.0.value samples each) }, c.1)
+  pub one_comes : (o : Op1) (a : Tree Ref) (s r : Sample) → Asks (One o a) → Comes a s → known r ≡ on_one (apply1_of o) (known s) → Comes (One o a) r
+  one_comes o a s r h c e = record { width = one_wide o (width_of ref_width a) s r h.fits.1 c.width e; value = λ samples each. e ∙ ap (on_one (apply1_of o)) (c.value samples each) }
 
-  pub two_first : (o : Op2) (ts : List (Tree Ref)) → Asks (with_two (Two o) ts) → Asks ts
-  two_first o [] h = absurd h
-  two_first o (a ∷ []) h = absurd h
-  two_first o (a ∷ b ∷ ts) h = record { fits = h.fits.0; callable = h.callable.0; widths = h.widths.0 }
+  pub two_asks : (o : Op2) (a b : Tree Ref) → Asks (Two o a b) → Asks a × Asks b
+  two_asks o a b h = (record { fits = h.fits.0; callable = h.callable.0; widths = h.widths.0 }, record { fits = h.fits.1; callable = h.callable.1; widths = h.widths.1 })
 
-  pub two_second : (o : Op2) (ts rest : List (Tree Ref)) (s : Sample) → Asks (with_two (Two o) ts) → Comes ts s rest → Asks rest
-  two_second o [] rest s h c = absurd h
-  two_second o (a ∷ []) rest s h c = absurd h
-  two_second o (a ∷ b ∷ ts) rest s h c = subst Asks c.1 (record { fits = h.fits.1; callable = h.callable.1; widths = h.widths.1 })
+  pub two_takes : (o : Op2) (a b : Tree Ref) (s t : Sample) → Asks (Two o a b) → Comes a s → Comes b t → Fits2At o s t
+  two_takes o a b s t h c d = two_at o (width_of ref_width a) (width_of ref_width b) s t h.fits.2 c.width d.width
 
-  pub two_takes : (o : Op2) (ts mid rest : List (Tree Ref)) (s t : Sample) → Asks (with_two (Two o) ts) → Comes ts s mid → Comes mid t rest → Fits2At o s t
-  two_takes o [] mid rest s t h c d = absurd h
-  two_takes o (a ∷ []) mid rest s t h c d = absurd h
-  two_takes o (a ∷ b ∷ ts) mid rest s t h c d =
-      let second = subst (λ (l : List (Tree Ref)). Comes l t rest) (sym c.1) d in
-      two_at o (width_of ref_width a) (width_of ref_width b) s t h.fits.2 c.0.width second.0.width
+  pub two_comes : (o : Op2) (a b : Tree Ref) (s t r : Sample) → Asks (Two o a b) → Comes a s → Comes b t → known r ≡ on_two (apply2_of o) (known s) (known t) → Comes (Two o a b) r
+  two_comes o a b s t r h c d e = record {
+    width = two_wide o (width_of ref_width a) (width_of ref_width b) s t r h.fits.2 c.width d.width e;
+    value = λ samples each. e ∙ ap₂ (on_two (apply2_of o)) (c.value samples each.0) (d.value samples each.1);
+  }
 
-  pub two_comes : (o : Op2) (ts mid rest : List (Tree Ref)) (s t r : Sample) → Asks (with_two (Two o) ts) → Comes ts s mid → Comes mid t rest → known r ≡ on_two (apply2_of o) (known s) (known t) → Comes (with_two (Two o) ts) r rest
-  two_comes o [] mid rest s t r h c d e = absurd h
-  two_comes o (a ∷ []) mid rest s t r h c d e = absurd h
-  two_comes o (a ∷ b ∷ ts) mid rest s t r h c d e =
-      let second = subst (λ (l : List (Tree Ref)). Comes l t rest) (sym c.1) d in (
-        record {
-          width = two_wide o (width_of ref_width a) (width_of ref_width b) s t r h.fits.2 c.0.width second.0.width e;
-          value = λ samples each. e ∙ ap₂ (on_two (apply2_of o)) (c.0.value samples each.0) (second.0.value samples each.1);
-        },
-        second.1,
-      )
+  pub mux_asks : (c a b : Tree Ref) → Asks (Mux c a b) → Asks c × Asks a × Asks b
+  mux_asks c a b h = (
+    record { fits = h.fits.0; callable = h.callable.0; widths = h.widths.0 },
+    record { fits = h.fits.1; callable = h.callable.1; widths = h.widths.1 },
+    record { fits = h.fits.2; callable = h.callable.2; widths = h.widths.2 },
+  )
 
-  pub mux_first : (ts : List (Tree Ref)) → Asks (with_three ts) → Asks ts
-  mux_first [] h = absurd h
-  mux_first (c ∷ []) h = absurd h
-  mux_first (c ∷ a ∷ []) h = absurd h
-  mux_first (c ∷ a ∷ b ∷ ts) h = record { fits = h.fits.0; callable = h.callable.0; widths = h.widths.0 }
+  pub mux_takes : (c a b : Tree Ref) (q s t : Sample) → Asks (Mux c a b) → Comes c q → Comes a s → Comes b t → FitsChoiceAt q s t
+  mux_takes c a b q s t h z x y = choice_at (width_of ref_width c) (width_of ref_width a) (width_of ref_width b) q s t h.fits.3 z.width x.width y.width
 
-  pub mux_second : (ts mid : List (Tree Ref)) (q : Sample) → Asks (with_three ts) → Comes ts q mid → Asks mid
-  mux_second [] mid q h z = absurd h
-  mux_second (c ∷ []) mid q h z = absurd h
-  mux_second (c ∷ a ∷ []) mid q h z = absurd h
-  mux_second (c ∷ a ∷ b ∷ ts) mid q h z = subst Asks z.1 (record { fits = h.fits.1; callable = h.callable.1; widths = h.widths.1 })
-
-  pub mux_third : (ts mid late : List (Tree Ref)) (q s : Sample) → Asks (with_three ts) → Comes ts q mid → Comes mid s late → Asks late
-  mux_third [] mid late q s h z x = absurd h
-  mux_third (c ∷ []) mid late q s h z x = absurd h
-  mux_third (c ∷ a ∷ []) mid late q s h z x = absurd h
-  mux_third (c ∷ a ∷ b ∷ ts) mid late q s h z x =
-      let second = subst (λ (l : List (Tree Ref)). Comes l s late) (sym z.1) x in
-      subst Asks second.1 (record { fits = h.fits.2; callable = h.callable.2; widths = h.widths.2 })
-
-  -- the three operands of a choice
-  record Three (c a b : Tree Ref) (ts : List (Tree Ref)) (q s t : Sample) (rest : List (Tree Ref)) : Type 0 where
-    test : ComesTo post c q
-    yes : ComesTo post a s
-    no : ComesTo post b t
-    same : ts ≡ rest
-
-  three : (c a b : Tree Ref) (ts mid late rest : List (Tree Ref)) (q s t : Sample) → Comes (c ∷ a ∷ b ∷ ts) q mid → Comes mid s late → Comes late t rest → Three c a b ts q s t rest
-  three c a b ts mid late rest q s t z x y =
-      let second = subst (λ (l : List (Tree Ref)). Comes l s late) (sym z.1) x in
-      let third = subst (λ (l : List (Tree Ref)). Comes l t rest) (sym second.1) y in
-      record { test = z.0; yes = second.0; no = third.0; same = third.1 }
-
-  pub mux_takes : (ts mid late rest : List (Tree Ref)) (q s t : Sample) → Asks (with_three ts) → Comes ts q mid → Comes mid s late → Comes late t rest → FitsChoiceAt q s t
-  mux_takes [] mid late rest q s t h z x y = absurd h
-  mux_takes (c ∷ []) mid late rest q s t h z x y = absurd h
-  mux_takes (c ∷ a ∷ []) mid late rest q s t h z x y = absurd h
-  mux_takes (c ∷ a ∷ b ∷ ts) mid late rest q s t h z x y =
-      let all : Three c a b ts q s t rest = three c a b ts mid late rest q s t z x y in
-      choice_at (width_of ref_width c) (width_of ref_width a) (width_of ref_width b) q s t h.fits.3 all.test.width all.yes.width all.no.width
-
-  pub mux_comes : (ts mid late rest : List (Tree Ref)) (q s t r : Sample) → Asks (with_three ts) → Comes ts q mid → Comes mid s late → Comes late t rest → known r ≡ on_three choose_of (known q) (known s) (known t) → Comes (with_three ts) r rest
-  mux_comes [] mid late rest q s t r h z x y e = absurd h
-  mux_comes (c ∷ []) mid late rest q s t r h z x y e = absurd h
-  mux_comes (c ∷ a ∷ []) mid late rest q s t r h z x y e = absurd h
-  mux_comes (c ∷ a ∷ b ∷ ts) mid late rest q s t r h z x y e =
-      let all : Three c a b ts q s t rest = three c a b ts mid late rest q s t z x y in (
-        record {
-          width = choice_wide (width_of ref_width c) (width_of ref_width a) (width_of ref_width b) q s t r h.fits.3 all.test.width all.yes.width all.no.width e;
-          value = λ samples each. e ∙ (λ i. on_three choose_of (all.test.value samples each.0 i) (all.yes.value samples each.1 i) (all.no.value samples each.2 i));
-        },
-        all.same,
-      )
-
-  -- the first tree of a form at which widths fit
-  pub first_asks : (ts : List (Tree Ref)) → WellFormed IsRef ref_width (first_tree ts) → EachNode (λ node w. pre node) (first_tree ts)
-      → EachNode (λ node w. (found : Sample) → post node found → HasWidth w found) (first_tree ts) → Asks ts
-  first_asks [] fits callable widths = let none : 1 ≤ 0 = fits.some in absurd (omega arith)
-  first_asks (t ∷ ts) fits callable widths = record { fits = fits; callable = callable; widths = widths }
+  pub mux_comes : (c a b : Tree Ref) (q s t r : Sample) → Asks (Mux c a b) → Comes c q → Comes a s → Comes b t → known r ≡ on_three choose_of (known q) (known s) (known t) → Comes (Mux c a b) r
+  mux_comes c a b q s t r h z x y e = record {
+    width = choice_wide (width_of ref_width c) (width_of ref_width a) (width_of ref_width b) q s t r h.fits.3 z.width x.width y.width e;
+    value = λ samples each. e ∙ (λ i. on_three choose_of (z.value samples each.0 i) (x.value samples each.1 i) (y.value samples each.2 i));
+  }
 
   -- a form that begins with an operator
-  pub one_told : (refs : List Ref) (parts : List Part) (d : Part) (o : Unary) (rest : List (Tree Ref)) (s r : Sample) → 1 ≤ length parts → (get_or parts 0 d).node ≡ node.One o
-      → Asks (trees_at refs parts) → Comes (trees_at refs (take (length parts - 1) (drop 1 parts))) s rest → known r ≡ on_one (apply1_of (op_of o)) (known s) → Comes (trees_at refs parts) r rest
-  one_told refs parts d o rest s r some is h c e =
-      let split = headed refs parts d (node.One o) some is in
-      subst (λ (ts : List (Tree Ref)). Comes ts r rest) (sym split) (one_comes (op_of o) (trees_at refs (take (length parts - 1) (drop 1 parts))) rest s r (subst Asks split h) c e)
+  abbrev Behind : List Ref → List Part → List (Tree Ref)
+  Behind refs parts = trees_at refs (take (length parts - 1) (drop 1 parts))
 
-  pub two_told : (refs : List Ref) (parts : List Part) (d : Part) (o : Op2) (mid rest : List (Tree Ref)) (s t r : Sample) → 1 ≤ length parts → (get_or parts 0 d).node ≡ node.Two o
-      → Asks (trees_at refs parts) → Comes (trees_at refs (take (length parts - 1) (drop 1 parts))) s mid → Comes mid t rest → known r ≡ on_two (apply2_of o) (known s) (known t) → Comes (trees_at refs parts) r rest
-  two_told refs parts d o mid rest s t r some is h c x e =
-      let split = headed refs parts d (node.Two o) some is in
-      subst (λ (ts : List (Tree Ref)). Comes ts r rest) (sym split) (two_comes o (trees_at refs (take (length parts - 1) (drop 1 parts))) mid rest s t r (subst Asks split h) c x e)
+  pub one_told : (refs : List Ref) (parts : List Part) (d : Part) (o : Unary) (s r : Sample) → 1 ≤ length parts → get_or parts 0 d ≡ part.One o → Asks (first_tree (trees_at refs parts))
+      → Comes (first_tree (Behind refs parts)) s → known r ≡ on_one (apply1_of (op_of o)) (known s) → Comes (first_tree (trees_at refs parts)) r
+  one_told refs parts d o s r some is h c e =
+      let split = headed (λ s. ref_at refs s.place) parts d (part.One o) some is in
+      subst (λ (ts : List (Tree Ref)). Comes (first_tree ts) r) (sym split)
+      (one_comes (op_of o) (first_tree (Behind refs parts)) s r (subst (λ (ts : List (Tree Ref)). Asks (first_tree ts)) split h) c e)
 
-  pub mux_told : (refs : List Ref) (parts : List Part) (d : Part) (mid late rest : List (Tree Ref)) (q s t r : Sample) → 1 ≤ length parts → (get_or parts 0 d).node ≡ node.Mux
-      → Asks (trees_at refs parts) → Comes (trees_at refs (take (length parts - 1) (drop 1 parts))) q mid → Comes mid s late → Comes late t rest
-      → known r ≡ on_three choose_of (known q) (known s) (known t) → Comes (trees_at refs parts) r rest
-  mux_told refs parts d mid late rest q s t r some is h z x y e =
-      let split = headed refs parts d node.Mux some is in
-      subst (λ (ts : List (Tree Ref)). Comes ts r rest) (sym split) (mux_comes (trees_at refs (take (length parts - 1) (drop 1 parts))) mid late rest q s t r (subst Asks split h) z x y e)
+  pub two_told : (refs : List Ref) (parts : List Part) (d : Part) (o : Op2) (mid : List (Tree Ref)) (s t r : Sample) → 1 ≤ length parts → get_or parts 0 d ≡ part.Two o → Asks (first_tree (trees_at refs parts))
+      → Comes (first_tree (Behind refs parts)) t → mid ≡ later (Behind refs parts) → Comes (first_tree mid) s → known r ≡ on_two (apply2_of o) (known s) (known t) → Comes (first_tree (trees_at refs parts)) r
+  two_told refs parts d o mid s t r some is h c later_is x e =
+      let split = headed (λ s. ref_at refs s.place) parts d (part.Two o) some is in
+      subst (λ (ts : List (Tree Ref)). Comes (first_tree ts) r) (sym split)
+      (two_comes o (first_tree (later (Behind refs parts))) (first_tree (Behind refs parts)) s t r (subst (λ (ts : List (Tree Ref)). Asks (first_tree ts)) split h)
+      (subst (λ (ts : List (Tree Ref)). Comes (first_tree ts) s) later_is x) c e)
 
--- what the first tree comes to
-pub first_comes : (post : NodeId → Sample → Type 0) (ts rest : List (Tree Ref)) (s : Sample) → FirstComesTo post ts s rest → ComesTo post (first_tree ts) s
-first_comes post [] rest s h = absurd h
-first_comes post (t ∷ ts) rest s h = h.0
+  pub mux_told : (refs : List Ref) (parts : List Part) (d : Part) (mid low : List (Tree Ref)) (q s t r : Sample) → 1 ≤ length parts → get_or parts 0 d ≡ part.Mux → Asks (first_tree (trees_at refs parts))
+      → Comes (first_tree (Behind refs parts)) t → mid ≡ later (Behind refs parts) → Comes (first_tree mid) s → low ≡ later mid → Comes (first_tree low) q → known r ≡ on_three choose_of (known q) (known s) (known t) → Comes (first_tree (trees_at refs parts)) r
+  mux_told refs parts d mid low q s t r some is h c mid_is x low_is z e =
+      let split = headed (λ s. ref_at refs s.place) parts d part.Mux some is in
+      let ts = Behind refs parts in
+      subst (λ (ts : List (Tree Ref)). Comes (first_tree ts) r) (sym split)
+      (mux_comes (first_tree (later (later ts))) (first_tree (later ts)) (first_tree ts) q s t r (subst (λ (ts : List (Tree Ref)). Asks (first_tree ts)) split h)
+      (subst (λ (l : List (Tree Ref)). Comes (first_tree l) q) (low_is ∙ ap later mid_is) z) (subst (λ (l : List (Tree Ref)). Comes (first_tree l) s) mid_is x) c e)

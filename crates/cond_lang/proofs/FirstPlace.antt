@@ -1,6 +1,6 @@
 -- The place that is told is the least of those that there are.
 use Rattle.std.proofs.Common.{◌≡◌, ◌≤◌, ◌-◌, ◌+◌, ℕ, Bool, true, false, List, [], ◌∷◌, ◌++◌, length, get_or, length-append, Option, Some, None, Ok, Err, refl, sym, ap, subst, ◌∙◌, arith, inl, inr, if◌then◌else◌, nat_eq, ◌==◌, ◌&&◌, ◌||◌, append-nil, not, is_none}
-use Rattle.std.specs.Prelude.{take, min, position}
+use Rattle.std.specs.Prelude.{take, min, position, IsSomeAnd}
 use Rattle.std.proofs.lemmas.Bool.{cases_lt}
 use Rattle.gen_token.specs.Bytes.{is_text_byte, is_blank, begins}
 use Rattle.gen_token.specs.Spelling.{IsTokenOf}
@@ -19,10 +19,13 @@ use Rattle.cond_lang.specs.declared.fault.CondFault.{CondFault}
 use Rattle.cond_lang.specs.declared.fault.CondFault.TheVariants as cond_faults
 use Rattle.cond_lang.specs.Faults.{IsCause, IsFormCause, or_other}
 use Rattle.cond_lang.specs.Laws.{HasOneAnswer}
-use Rattle.cond_lang.specs.Reader.{cond_at}
+use Rattle.cond_lang.specs.Form.{seated}
+use Rattle.cond_lang.specs.Places.{size}
+use Rattle.cond_lang.specs.Reader.{cond_at, word_before, tokens_by, expr_or_nought, read_as}
 use Rattle.cond_lang.specs.Reading.{start, rest_of, next, behind, offset_behind, offsets_from, offset_of, IsCondition, Reads, ReadsForm, IsBadToken, IsBadForm, IsPlace, other_byte, bad_token, bad_form, IsFirstPlace, IsFirstForm, AreTaken}
-use Rattle.cond_lang.proofs.Conditions.{one_tree, read_found, read_fault}
+use Rattle.cond_lang.proofs.Conditions.{one_tree, read_found, read_fault, read_only}
 use Rattle.cond_lang.proofs.Offsets.{behind_more}
+use Rattle.cond_lang.proofs.Sizes.{spelled_long}
 
 -- ---- what stands behind more tokens stands no earlier
 
@@ -194,6 +197,30 @@ one_reading : (text : List ℕ) (first second : Expr) (offsets others : List ℕ
 one_reading text first second offsets others r q =
     let is : q.tokens ≡ r.tokens = ((only_tokens text r.tokens None r.are).only q.tokens None q.are).0 in
     (one_tree first second r.tokens r.spelled (subst (λ (ts : List Tok). SpellsExpr dialect.Condition second ts []) is q.spelled), r.places ∙ ap (offsets_from (length text) (start text)) (sym is) ∙ sym q.places)
+
+-- ---- what a text is read as, by its bytes
+
+tokens_are : (ts : List Tok) (at : ℕ × List ℕ) (end : Option ℕ) → TokensFrom at ts end → tokens_by (length ts) at ≡ ts
+tokens_are [] at end h = refl
+tokens_are (t ∷ ts) at end h = by (token_at at.1) h.1 (λ found k. tokens_are ts (skip false at.0 found.1) end k)
+  where
+    by : (o : Option (Word × List ℕ)) → IsSomeAnd o (λ found. (found.0 ≡ t.word) × TokensFrom (skip false at.0 found.1) ts end)
+        → ((found : Word × List ℕ) → TokensFrom (skip false at.0 found.1) ts end → tokens_by (length ts) (skip false at.0 found.1) ≡ ts)
+        → word_before at.0 o (tokens_by (length ts) (skip false at.0 (rest_of o))) ≡ t ∷ ts
+    by (Some found) k more = (λ i. record { line = sym h.0 i; word = k.0 i } ∷ more found k.1 i)
+    by None k more = absurd k
+
+-- as many tokens as an expression has are read as this expression
+pub reads_as : (text : List ℕ) (e : Expr) (offsets : List ℕ) → ReadsForm text e offsets → read_as (length offsets) text ≡ e
+unfolding read_as
+reads_as text e offsets r =
+    let count : length offsets ≡ length r.tokens = ap length r.places ∙ offsets_length (length text) r.tokens (start text) in
+    ap (λ (n : ℕ). expr_or_nought (cond_at 64 (tokens_by n (start text)))) count
+    ∙ ap (λ (ts : List Tok). expr_or_nought (cond_at 64 ts)) (tokens_are r.tokens (start text) None r.are)
+    ∙ ap expr_or_nought (read_only 64 r.tokens e r.spelled r.within)
+
+pub reads_long : (text : List ℕ) (e : Expr) (offsets : List ℕ) → ReadsForm text e offsets → length offsets ≡ size (seated [] e)
+reads_long text e offsets r = omega (arith, spelled_long e [] r.tokens [] r.spelled, ap length r.places, offsets_length (length text) r.tokens (start text))
 
 pub one_answer : (text : List ℕ) → HasOneAnswer text
 one_answer text = record { one_reading = one_reading text; no_place = no_place text }

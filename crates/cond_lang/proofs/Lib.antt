@@ -2,9 +2,11 @@ pub mod Conditions
 pub mod Evaluated
 pub mod FirstPlace
 pub mod Forms
+pub mod Judging
 pub mod Names
 pub mod Nodes
 pub mod Offsets
 pub mod Refill
+pub mod Sizes
 pub mod Strict
 pub mod Tests

@@ -1,6 +1,6 @@
 -- Names that are found one after another are all found, or the first is refused; and a form at their places is the expression's tree over
 -- them, of the width that is judged.
-use Rattle.std.proofs.Common.{◌≡◌, ◌+◌, ◌<◌, arith, length, get_or, drop, drop-cons, suc, ℕ, List, [], ◌∷◌, ◌++◌, Option, Some, None, Ok, Err, map, refl, sym, ap, ◌∙◌, append_assoc, append-nil}
+use Rattle.std.proofs.Common.{◌≡◌, ◌+◌, ◌<◌, ◌-◌, arith, length, get_or, drop, drop-cons, suc, ℕ, List, [], ◌∷◌, ◌++◌, Option, Some, None, Ok, Err, map, refl, sym, ap, ◌∙◌, append_assoc, append-nil}
 use Rattle.std.specs.Prelude.{option_map, Result, IfOk, IfErr}
 use Rattle.bv_core.specs.declared.Ref.{Ref}
 use Rattle.bv_core.specs.declared.Binding.{Binding}
@@ -14,11 +14,12 @@ use Rattle.cond_lang.specs.Names.{Name}
 use Rattle.cond_lang.specs.Meaning.{tree_of, leaves}
 use Rattle.cond_lang.specs.Faults.{Refuses, MisfitAt, Makes}
 use Rattle.cond_lang.specs.Judged.{Refusal, not_in_scope, was_removed, is_unset, misfit, Judged, width_in, refused_name, or_else, first_refused, status_width, width_or_misfit, unless_refused, judged}
-use Rattle.cond_lang.specs.Bound.{ref_width, status_of, scope_of, ref_or_nought, bound_by}
-use Rattle.cond_lang.specs.Form.{names_in, form_of, first_tree}
+use Rattle.cond_lang.specs.Bound.{ref_width, mapped, status_of, scope_of, ref_or_nought, bound_by}
+use Rattle.cond_lang.specs.Form.{Seat, names_in, first_tree, seats, seated}
 use Rattle.cond_lang.specs.Found.{name_ref, and_then, found_after}
-use Rattle.cond_lang.specs.Places.{unfit, unless_unfit, bound_at}
-use Rattle.cond_lang.proofs.Forms.{trees_of, widths_of, judged_before}
+use Rattle.cond_lang.specs.Places.{size, ref_at, tree_at, judged_at, with_tree, bound_at}
+use Rattle.cond_lang.proofs.Forms.{tree_mapped, seated_is}
+use Rattle.cond_lang.proofs.Judging.{with_left, told_whole}
 use Rattle.cond_lang.proofs.Names.{begins_itself, refused_same}
 
 -- ---- names
@@ -87,49 +88,60 @@ as_bound places e (Ok found) = Ok (bound_by places e, found.0)
 as_bound places e (Err offset) = Err offset
 
 -- where all names are found, the places are those of the names, and the text is judged by its widths
-record IsAt (places : Name → Option Binding) (e : Expr) (offsets : List ℕ) (refs : List Ref) (j : Judged) : Type 0 where
+record IsAt (places : Name → Option Binding) (e : Expr) (offsets : List ℕ) (parts : List Part) (refs : List Ref) (j : Judged) : Type 0 where
   judged_as : judged (scope_of places) e offsets ≡ width_or_misfit j
-  bound : bound_at refs (form_of [] e offsets) ≡ as_bound places e j
+  bound : bound_at refs offsets parts ≡ as_bound places e j
 
-bound_as : (places : Name → Option Binding) (e : Expr) (offsets : List ℕ) → bound_at (map (at_name places) (names_of e)) (form_of [] e offsets) ≡ as_bound places e (width_in (λ x. ref_width (at_name places x)) e offsets)
-bound_as places e offsets =
-    ap (bound_at (map (at_name places) (names_of e))) (sym (append-nil (form_of [] e offsets)))
-    ∙ (λ i. unless_unfit (widths_of (at_name places) (names_of e) [] e offsets [] (begins_itself (names_of e)) i)
-    (first_tree (trees_of (at_name places) (names_of e) [] e offsets [] (begins_itself (names_of e)) i)))
-    ∙ by (width_in (λ x. ref_width (at_name places x)) e offsets)
+-- the form of an expression whose tokens have these offsets
+pub record IsForm (e : Expr) (offsets : List ℕ) (parts : List Part) : Type 0 where
+  pub formed : seats parts ≡ seated [] e ∷ []
+  pub sized : length offsets ≡ size (seated [] e)
+
+bound_as : (places : Name → Option Binding) (e : Expr) (offsets : List ℕ) (parts : List Part) → IsForm e offsets parts
+    → bound_at (map (at_name places) (names_of e)) offsets parts ≡ as_bound places e (width_in (λ x. ref_width (at_name places x)) e offsets)
+bound_as places e offsets parts h =
+    let refs = map (at_name places) (names_of e) in
+    let tree : tree_at refs parts ≡ bound_by places e =
+    tree_mapped refs parts ∙ ap (λ (ts : List (Tree Seat)). mapped (λ s. ref_at refs s.place) (first_tree ts)) h.formed
+    ∙ seated_is (at_name places) (names_of e) [] e (begins_itself (names_of e)) in
+    let whole : length offsets - size (first_tree (seats parts)) ≡ 0 = omega (arith, h.sized, ap (λ (ts : List (Tree Seat)). size (first_tree ts)) h.formed) in
+    (λ i. with_tree (tree i) (judged_at refs offsets (first_tree (h.formed i)) (length offsets - size (first_tree (seats parts)))))
+    ∙ ap (λ (n : ℕ). with_tree (bound_by places e) (judged_at refs offsets (seated [] e) n)) whole
+    ∙ by (judged_at refs offsets (seated [] e) 0) (drop (size (seated [] e)) offsets)
+    ∙ ap (as_bound places e) (sym (told_whole offsets (at_name places) (names_of e) e (begins_itself (names_of e))))
   where
-    by : (j : Judged) → unless_unfit (judged_before j (unfit 0)) (bound_by places e) ≡ as_bound places e j
-    by (Ok found) = refl
-    by (Err offset) = refl
+    by : (j : Result ℕ ℕ) (rest : List ℕ) → with_tree (bound_by places e) j ≡ as_bound places e (with_left j rest)
+    by (Ok w) rest = refl
+    by (Err offset) rest = refl
 
-is_at : (places : Name → Option Binding) (e : Expr) (offsets : List ℕ) (refs : List Ref) → found_after places [] (names_of e) ≡ Ok refs → IsAt places e offsets refs (width_in (λ x. ref_width (at_name places x)) e offsets)
-is_at places e offsets refs h = by (first_refused (scope_of places) (leaves (tree_of e))) refl (told places e (Ok refs) h)
+is_at : (places : Name → Option Binding) (e : Expr) (offsets : List ℕ) (parts : List Part) (refs : List Ref) → IsForm e offsets parts → found_after places [] (names_of e) ≡ Ok refs → IsAt places e offsets parts refs (width_in (λ x. ref_width (at_name places x)) e offsets)
+is_at places e offsets parts refs form h = by (first_refused (scope_of places) (leaves (tree_of e))) refl (told places e (Ok refs) h)
   where
     by : (o : Option Refusal) → first_refused (scope_of places) (leaves (tree_of e)) ≡ o → unless_refused o (Ok (map (at_name places) (names_of e))) ≡ Ok refs
-        → IsAt places e offsets refs (width_in (λ x. ref_width (at_name places x)) e offsets)
+        → IsAt places e offsets parts refs (width_in (λ x. ref_width (at_name places x)) e offsets)
     by None none same =
         let are : map (at_name places) (names_of e) ≡ refs = cc in
         record {
           judged_as = (λ i. unless_refused (none i) (width_or_misfit (width_in (widths_same places i) e offsets)));
-          bound = ap (λ (refs : List Ref). bound_at refs (form_of [] e offsets)) (sym are) ∙ bound_as places e offsets;
+          bound = ap (λ (refs : List Ref). bound_at refs offsets parts) (sym are) ∙ bound_as places e offsets parts form;
         }
     by (Some refusal) none same = absurd cc
 
-pub bound_so : (places : Name → Option Binding) (e : Expr) (offsets : List ℕ) (refs : List Ref) (t : Tree Ref) (w : ℕ) → found_after places [] (names_of e) ≡ Ok refs → bound_at refs (form_of [] e offsets) ≡ Ok (t, w)
+pub bound_so : (places : Name → Option Binding) (e : Expr) (offsets : List ℕ) (parts : List Part) (refs : List Ref) (t : Tree Ref) (w : ℕ) → IsForm e offsets parts → found_after places [] (names_of e) ≡ Ok refs → bound_at refs offsets parts ≡ Ok (t, w)
     → (judged (scope_of places) e offsets ≡ Ok w) × (t ≡ bound_by places e)
-bound_so places e offsets refs t w h made = by (width_in (λ x. ref_width (at_name places x)) e offsets) (is_at places e offsets refs h)
+bound_so places e offsets parts refs t w form h made = by (width_in (λ x. ref_width (at_name places x)) e offsets) (is_at places e offsets parts refs form h)
   where
-    by : (j : Judged) → IsAt places e offsets refs j → (judged (scope_of places) e offsets ≡ Ok w) × (t ≡ bound_by places e)
+    by : (j : Judged) → IsAt places e offsets parts refs j → (judged (scope_of places) e offsets ≡ Ok w) × (t ≡ bound_by places e)
     by (Ok found) b =
         let both : ◌≡◌ {A = Result (Tree Ref × ℕ) ℕ} (Ok (t, w)) (Ok (bound_by places e, found.0)) = sym made ∙ b.bound in
         let pair : ◌≡◌ {A = Tree Ref × ℕ} (t, w) (bound_by places e, found.0) = cc in
         (b.judged_as ∙ ap Ok (sym (ap (λ (p : Tree Ref × ℕ). p.1) pair)), ap (λ (p : Tree Ref × ℕ). p.0) pair)
     by (Err offset) b = absurd (let bad : Ok (t, w) ≡ Err offset = sym made ∙ b.bound in cc)
 
-pub misfit_so : (places : Name → Option Binding) (e : Expr) (offsets : List ℕ) (refs : List Ref) (offset : ℕ) → found_after places [] (names_of e) ≡ Ok refs → bound_at refs (form_of [] e offsets) ≡ Err offset → judged (scope_of places) e offsets ≡ Err (misfit offset)
-misfit_so places e offsets refs offset h made = by (width_in (λ x. ref_width (at_name places x)) e offsets) (is_at places e offsets refs h)
+pub misfit_so : (places : Name → Option Binding) (e : Expr) (offsets : List ℕ) (parts : List Part) (refs : List Ref) (offset : ℕ) → IsForm e offsets parts → found_after places [] (names_of e) ≡ Ok refs → bound_at refs offsets parts ≡ Err offset → judged (scope_of places) e offsets ≡ Err (misfit offset)
+misfit_so places e offsets parts refs offset form h made = by (width_in (λ x. ref_width (at_name places x)) e offsets) (is_at places e offsets parts refs form h)
   where
-    by : (j : Judged) → IsAt places e offsets refs j → judged (scope_of places) e offsets ≡ Err (misfit offset)
+    by : (j : Judged) → IsAt places e offsets parts refs j → judged (scope_of places) e offsets ≡ Err (misfit offset)
     by (Ok found) b = absurd (let bad : Err offset ≡ Ok (bound_by places e, found.0) = sym made ∙ b.bound in cc)
     by (Err other) b = let both : Err offset ≡ Err other = sym made ∙ b.bound in let is : offset ≡ other = cc in b.judged_as ∙ ap (λ (o : ℕ). Err (misfit o)) (sym is)
 
@@ -147,23 +159,23 @@ pub record Reads (places : Name → Option Binding) (e : Expr) (offsets : List �
   pub names : List Name
   pub are : names ≡ names_of e
   pub found : found_after places [] names ≡ Ok refs
-  pub form : parts ≡ form_of [] e offsets
+  pub form : IsForm e offsets parts
 
-pub misfits_so : (places : Name → Option Binding) (e : Expr) (offsets : List ℕ) (refs : List Ref) (parts : List Part) (end : BindEnd) → Reads places e offsets refs parts → MisfitAt end (bound_at refs parts) → Refuses end (judged (scope_of places) e offsets)
+pub misfits_so : (places : Name → Option Binding) (e : Expr) (offsets : List ℕ) (refs : List Ref) (parts : List Part) (end : BindEnd) → Reads places e offsets refs parts → MisfitAt end (bound_at refs offsets parts) → Refuses end (judged (scope_of places) e offsets)
 misfits_so places e offsets refs parts (ends.Unknown x) r m = absurd m
 misfits_so places e offsets refs parts (ends.Removed x) r m = absurd m
 misfits_so places e offsets refs parts (ends.Unset x) r m = absurd m
-misfits_so places e offsets refs parts (ends.Width offset) r m = misfit_so places e offsets refs offset (ap (found_after places []) (sym r.are) ∙ r.found) (ap (bound_at refs) (sym r.form) ∙ m)
+misfits_so places e offsets refs parts (ends.Width offset) r m = misfit_so places e offsets parts refs offset r.form (ap (found_after places []) (sym r.are) ∙ r.found) m
 misfits_so places e offsets refs parts ends.NoMemory r m = tt
 
-pub binds_so : (places : Name → Option Binding) (e : Expr) (offsets : List ℕ) (refs : List Ref) (parts : List Part) (t : Tree Ref) (w : ℕ) → Reads places e offsets refs parts → bound_at refs parts ≡ Ok (t, w)
+pub binds_so : (places : Name → Option Binding) (e : Expr) (offsets : List ℕ) (refs : List Ref) (parts : List Part) (t : Tree Ref) (w : ℕ) → Reads places e offsets refs parts → bound_at refs offsets parts ≡ Ok (t, w)
     → (judged (scope_of places) e offsets ≡ Ok w) × (t ≡ bound_by places e)
-binds_so places e offsets refs parts t w r made = bound_so places e offsets refs t w (ap (found_after places []) (sym r.are) ∙ r.found) (ap (bound_at refs) (sym r.form) ∙ made)
+binds_so places e offsets refs parts t w r made = bound_so places e offsets parts refs t w r.form (ap (found_after places []) (sym r.are) ∙ r.found) made
 
 -- what is made of the places says what the text is there
 module _ {X : Type 0} (tree : X → Tree Ref) (width : X → ℕ) (places : Name → Option Binding) (e : Expr) (offsets : List ℕ) (refs : List Ref) (parts : List Part) (r : Reads places e offsets refs parts) where
   abbrev Made : Result X BindEnd → Type 0
-  Made o = Makes (λ x. (tree x, width x)) o (bound_at refs parts)
+  Made o = Makes (λ x. (tree x, width x)) o (bound_at refs offsets parts)
 
   pub width_told : (o : Result X BindEnd) → Made o → IfOk o (λ x. judged (scope_of places) e offsets ≡ Ok (width x))
   width_told (Ok x) m = (binds_so places e offsets refs parts (tree x) (width x) r m).0

@@ -10,6 +10,7 @@ pub mod Places
 pub mod Reader
 pub mod Reading
 pub mod Sampled
+pub mod Sets
 pub mod Shown
 pub mod Single
 pub mod Strict

@@ -1,5 +1,5 @@
 -- How a form is evaluated: operators take what may be known, and each tree comes to its value.
-use Rattle.std.specs.Prelude.{◌≡◌, List, [], ◌∷◌}
+use Rattle.std.specs.Prelude.{◌≡◌}
 use Rattle.bv_core.specs.Operators.{Fits1, Fits2, FitsMux}
 use Rattle.bv_core.specs.declared.Op1.{Op1}
 use Rattle.bv_core.specs.declared.Op2.{Op2}
@@ -38,13 +38,3 @@ pub record IsReady (pre : NodeId → Type 0) (post : NodeId → Sample → Type 
 pub record ComesTo (post : NodeId → Sample → Type 0) (t : Tree Ref) (found : Sample) : Type 0 where
   pub width : HasWidth (width_of ref_width t) found
   pub value : (samples : NodeId → Sample) → EachNode (λ node w. (found : Sample) → post node found → found ≡ samples node) t → known found ≡ strict_value (value_at samples) t
-
--- there is a first tree, of which this holds
-abbrev pub FirstIs : (Tree Ref → Type 0) → List (Tree Ref) → Type 0
-FirstIs P [] = ⊥
-FirstIs P (t ∷ ts) = P t
-
--- there is a first tree, which comes to this, and these are behind it
-abbrev pub FirstComesTo : (NodeId → Sample → Type 0) → List (Tree Ref) → Sample → List (Tree Ref) → Type 0
-FirstComesTo post [] found rest = ⊥
-FirstComesTo post (t ∷ ts) found rest = ComesTo post t found × (ts ≡ rest)

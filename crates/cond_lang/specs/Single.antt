@@ -1,5 +1,5 @@
 -- What a bound condition keeps holds in one way at most.
-use Rattle.std.specs.Prelude.{ℕ}
+use Rattle.std.specs.Prelude.{◌≡◌, ℕ, List}
 use Rattle.std.proofs.Props.{props}
 use Rattle.bv_core.specs.Operators.{Fits1, Fits2}
 use Rattle.bv_core.specs.declared.Op1.{Op1}
@@ -11,6 +11,8 @@ use Rattle.bv_core.specs.declared.Ref.TheVariants as ref
 use Rattle.tree_core.specs.Tree.{Tree, Const, Leaf, One, Two, Mux}
 use Rattle.tree_core.specs.Width.{WellFormed}
 use Rattle.cond_lang.specs.Bound.{ref_width, IsRef, IsBound}
+use Rattle.cond_lang.specs.Form.{Seat}
+use Rattle.cond_lang.specs.Sets.{tree_set}
 
 one_prop : (o : Op1) (w : ℕ) → IsProp (Fits1 o w)
 one_prop op1.Not w = hlevel props
@@ -48,3 +50,9 @@ formed_prop (Mux c a b) = hlevel (props, formed_prop c, formed_prop a, formed_pr
 
 pub bound_prop : (t : Tree Ref) (width : ℕ) → IsProp (IsBound t width)
 bound_prop t width = hlevel (props, formed_prop)
+
+seat_set : IsSet Seat
+seat_set = hlevel props
+
+pub seats_prop : (first second : List (Tree Seat)) → IsProp (first ≡ second)
+seats_prop first second = hlevel (props, tree_set seat_set)

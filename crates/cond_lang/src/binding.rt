@@ -14,7 +14,6 @@ ghost use Rattle.cond_lang.specs.TextShown.{text_expr, text_offsets};
 
 use crate::cond::Cond;
 use crate::fault::BindEnd;
-use crate::form::Form;
 use crate::text::CondText;
 use crate::widths::judge;
 use bv_core::{Binding, Ref};
@@ -71,14 +70,15 @@ fn refs_of<F: Fn(&str) -> Option<Binding>>(
     Ok(refs)
 }
 
-/// A form over places at which its widths fit.
-fn cond_at(form: &Arc<Form>, refs: Vec<Ref>) -> Result<Cond, BindEnd>
+/// A text's form over places at which its widths fit.
+fn cond_at(text: &CondText, refs: Vec<Ref>) -> Result<Cond, BindEnd>
     requires { AreRefs refs.items }
-    ensures { Makes (λ cond. (cond_tree cond, cond_width cond)) result (bound_at refs.items form.now.value.parts.items) }
+    ensures { Makes (λ cond. (cond_tree cond, cond_width cond)) result (bound_at refs.items text.now.offsets.items text.now.form.value.parts.items) }
 {
-    match judge(&form.parts, &refs) {
-        Ok((width, _)) => Ok(Cond {
-            form: Arc::try_clone(form)?,
+    let (width, _, _) = judge(&text.form.parts, &refs, &text.offsets, text.offsets.len());
+    match width {
+        Ok(width) => Ok(Cond {
+            form: Arc::try_clone(&text.form)?,
             refs,
             width,
         }),
@@ -106,5 +106,5 @@ pub fn bind<F: Fn(&str) -> Option<Binding>>(
     ensures refused { (places : Name → Option binding.Binding) → Finds F.Fn find.now places → IfErr result (λ end. Refuses end (judged (scope_of places) (text_expr text.now) (text_offsets text.now))) }
 {
     let refs = refs_of(alloc, &text.names, find)?;
-    cond_at(&text.form, refs)
+    cond_at(text, refs)
 }

@@ -1,16 +1,18 @@
 //! The names of an expression, each once, in the order in which they first come. They are spelled once, when the text is read, and not each
 //! time that it is bound.
 
-ghost use Rattle.std.specs.Prelude.{◌≡◌, ◌++◌, [], ◌∷◌, false, IfOk, OnOk, codes, decimal};
-ghost use Rattle.gen_tree.specs.View.{fam_of};
+ghost use Rattle.std.specs.Prelude.{◌≡◌, ◌++◌, [], ◌∷◌, false, IfOk, OnOk, codes, decimal, option_map};
+ghost use Rattle.gen_tree.specs.View.{int_of};
+ghost use Rattle.gen_text.specs.Reading.{fam_of_name};
 ghost use Rattle.cond_lang.specs.Form.{place_in, noted};
 ghost use Rattle.cond_lang.specs.Names.{fam_name, output_name};
 ghost use Rattle.names.specs.Known.{has};
 
 use crate::counts::number;
-use gen_tree::Fam;
+use gen_tree::Int;
 use names::NameSet;
 use std::alloc::Global;
+use std::boxed::Box;
 use text_core::{NoMemory, Text};
 
 /// Names in the order in which they came, no two the same; and the same names, found by hash.
@@ -69,42 +71,48 @@ fn push_index(alloc: Global, name: &mut Vec<u8>, index: u64) -> Result<(), NoMem
 }
 
 /// The name of a member of a family, or a plain name.
-fn fam_name(alloc: Global, fam: &Fam) -> Result<Vec<u8>, NoMemory>
-    ensures { IfOk result (λ name. name.items ≡ fam_name (fam_of fam.now)) }
+fn fam_name(alloc: Global, name: &[u8], index: &Option<Box<Int>>) -> Result<Vec<u8>, NoMemory>
+    ensures { IfOk result (λ made. made.items ≡ fam_name (fam_of_name name.now (option_map (λ index. int_of index.value) index.now))) }
 {
-    let mut name = fam.name.bytes().to_vec(alloc)?;
-    match &fam.index {
-        Some(index) => push_index(alloc, &mut name, number(index))?,
+    let mut made = name.to_vec(alloc)?;
+    match index {
+        Some(index) => push_index(alloc, &mut made, number(index))?,
         None => {}
     }
-    Ok(name)
+    Ok(made)
 }
 
 /// The name of an output of a child.
-fn output_name(alloc: Global, fam: &Fam, output: &Text) -> Result<Vec<u8>, NoMemory>
-    ensures { IfOk result (λ name. name.items ≡ output_name (fam_of fam.now) output.now) }
+fn output_name(
+    alloc: Global,
+    name: &[u8],
+    index: &Option<Box<Int>>,
+    output: &[u8],
+) -> Result<Vec<u8>, NoMemory>
+    ensures { IfOk result (λ made. made.items ≡ output_name (fam_of_name name.now (option_map (λ index. int_of index.value) index.now)) output.now) }
 {
-    let mut name = fam_name(alloc, fam)?;
-    name.extend_from_slice(b".")?;
-    name.extend_from_slice(output.bytes())?;
-    Ok(name)
+    let mut made = fam_name(alloc, name, index)?;
+    made.extend_from_slice(b".")?;
+    made.extend_from_slice(output)?;
+    Ok(made)
 }
 
 /// The place of a plain name or a member of a family. A plain name is looked up as it stands.
 pub(crate) fn fam_place(
     alloc: Global,
     names: &mut DistinctNames,
-    fam: &Fam,
+    name: &[u8],
+    index: &Option<Box<Int>>,
 ) -> Result<usize, NoMemory>
     requires { names.old.list.items ≡ names.old.known }
-    ensures place { IfOk result (λ place. place ≡ place_in names.old.known (fam_name (fam_of fam.now))) }
-    ensures known { OnOk result (names.new.known ≡ noted names.old.known (fam_name (fam_of fam.now))) }
+    ensures place { IfOk result (λ place. place ≡ place_in names.old.known (fam_name (fam_of_name name.now (option_map (λ index. int_of index.value) index.now)))) }
+    ensures known { OnOk result (names.new.known ≡ noted names.old.known (fam_name (fam_of_name name.now (option_map (λ index. int_of index.value) index.now)))) }
     ensures same { OnOk result (names.new.list.items ≡ names.new.known) }
 {
-    match &fam.index {
-        None => place(alloc, names, fam.name.bytes()),
+    match index {
+        None => place(alloc, names, name),
         Some(_) => {
-            let name = fam_name(alloc, fam)?;
+            let name = fam_name(alloc, name, index)?;
             place(alloc, names, &name)
         }
     }
@@ -114,14 +122,15 @@ pub(crate) fn fam_place(
 pub(crate) fn output_place(
     alloc: Global,
     names: &mut DistinctNames,
-    fam: &Fam,
-    output: &Text,
+    name: &[u8],
+    index: &Option<Box<Int>>,
+    output: &[u8],
 ) -> Result<usize, NoMemory>
     requires { names.old.list.items ≡ names.old.known }
-    ensures place { IfOk result (λ place. place ≡ place_in names.old.known (output_name (fam_of fam.now) output.now)) }
-    ensures known { OnOk result (names.new.known ≡ noted names.old.known (output_name (fam_of fam.now) output.now)) }
+    ensures place { IfOk result (λ place. place ≡ place_in names.old.known (output_name (fam_of_name name.now (option_map (λ index. int_of index.value) index.now)) output.now)) }
+    ensures known { OnOk result (names.new.known ≡ noted names.old.known (output_name (fam_of_name name.now (option_map (λ index. int_of index.value) index.now)) output.now)) }
     ensures same { OnOk result (names.new.list.items ≡ names.new.known) }
 {
-    let name = output_name(alloc, fam, output)?;
+    let name = output_name(alloc, name, index, output)?;
     place(alloc, names, &name)
 }

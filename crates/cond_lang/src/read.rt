@@ -1,9 +1,10 @@
 //! How a text is read as a condition, by the reader of sources in its dialect for conditions. Of all the places at which a text stops being
 //! one the least is told, so the tokens before a bad one are read too.
 
-ghost use Rattle.std.specs.Prelude.{◌≡◌, ◌<◌, ◌≤◌, ◌^◌, IfOk, IfErr, length};
+ghost use Rattle.std.specs.Prelude.{◌≡◌, ◌<◌, ◌≤◌, ◌^◌, [], ◌∷◌, IfOk, IfErr, length};
 ghost use Rattle.gen_token.specs.Words.{placed};
-ghost use Rattle.gen_tree.specs.View.{expr_of};
+ghost use Rattle.gen_tree.specs.Tree.{Expr};
+ghost use Rattle.gen_text.specs.Pieces.{exprs_of, top};
 ghost use Rattle.gen_text.specs.Faults.{Gives};
 ghost use Rattle.cond_lang.specs.Faults.{IsCause, IsFormCause, or_other};
 ghost use Rattle.cond_lang.specs.declared.fault.CondFault.TheVariants as cond_faults;
@@ -14,9 +15,9 @@ ghost use Rattle.cond_lang.specs.TextShown.{text_expr, text_offsets};
 use crate::fault::CondFault;
 use crate::text::{CondText, cond_text};
 use crate::tokens::{Tokens, tokens_at};
-use gen_text::{ReadFault, expr};
+use gen_text::{Piece, ReadFault, expr};
 use gen_token::{Placed, first_other_byte};
-use gen_tree::{Dialect, Expr};
+use gen_tree::Dialect;
 use std::alloc::Global;
 
 /// Texts of so many bytes or more are not looked at: 2^30.
@@ -25,22 +26,25 @@ const TEXT_MAX: usize = 1 << 30;
 /// How many brackets may be open at once.
 const ROOM: usize = 64;
 
-/// The expression that tokens are, and nothing behind it.
-fn whole(found: Expr, rest: &[Placed<'_>]) -> Result<Expr, ReadFault>
-    ensures { Gives expr_of result (whole_expr (expr_of found, placed rest.now)) }
+/// That nothing stands behind an expression.
+fn whole(rest: &[Placed<'_>]) -> Result<(), ReadFault>
+    ensures { (e : Expr) → Gives (λ _. e) result (whole_expr (e, placed rest.now)) }
 {
     if rest.is_empty() {
-        return Ok(found);
+        return Ok(());
     }
     Err(ReadFault::At { left: rest.len() })
 }
 
-/// The condition that tokens are, or how many tokens are left from the bad one on.
-fn read_tokens(alloc: Global, tokens: &[Placed<'_>]) -> Result<Expr, ReadFault>
-    ensures { Gives expr_of result (cond_at 64 (placed tokens.now)) }
+/// The pieces of the condition that tokens are, or how many tokens are left from the bad one on.
+fn read_tokens<'a>(alloc: Global, tokens: &[Placed<'a>]) -> Result<Vec<Piece<'a>>, ReadFault>
+    ensures reads { Gives (λ pieces. top (exprs_of pieces.items)) result (cond_at 64 (placed tokens.now)) }
+    ensures one { IfOk result (λ pieces. exprs_of pieces.items ≡ top (exprs_of pieces.items) ∷ []) }
 {
-    let (found, rest) = expr(alloc, Dialect::Condition, ROOM, tokens)?;
-    whole(found, rest)
+    let mut pieces = Vec::with_capacity(alloc, tokens.len() / 2 + 1)?;
+    let rest = expr(alloc, Dialect::Condition, ROOM, &mut pieces, tokens)?;
+    whole(rest)?;
+    Ok(pieces)
 }
 
 /// The offset of the token that stands so many tokens before the end, or of the end.
@@ -64,26 +68,27 @@ fn fault_at(offset: u32) -> CondFault
     }
 }
 
-/// The expression that the tokens of a text are, with their offsets.
+/// The pieces of the expression that the tokens of a text are, with the tokens' offsets.
 ///
 /// # Errors
 ///
 /// `At` with the least of the places that the tokens have, and `NoMemory`.
-fn read_form(alloc: Global, text: &[u8]) -> Result<(Expr, Vec<u32>), CondFault>
+fn read_form<'a>(alloc: Global, text: &'a [u8]) -> Result<(Vec<Piece<'a>>, Vec<u32>), CondFault>
     requires { length text.now < 2 ^ 30 }
-    ensures found { IfOk result (λ read. ReadsForm text.now (expr_of read.0) read.1.items) }
+    ensures found { IfOk result (λ read. ReadsForm text.now (top (exprs_of read.0.items)) read.1.items) }
+    ensures one { IfOk result (λ read. exprs_of read.0.items ≡ top (exprs_of read.0.items) ∷ []) }
     ensures refused { IfErr result (IsFormCause text.now) }
 {
     let found = tokens_at(alloc, text)?;
     match read_tokens(alloc, &found.tokens) {
         Err(ReadFault::NoMemory) => Err(CondFault::NoMemory),
         Err(ReadFault::At { left }) => Err(fault_at(offset_at(&found, left))),
-        Ok(expr) => {
+        Ok(pieces) => {
             if !found.is_whole {
-                drop(expr);
+                drop(pieces);
                 return Err(fault_at(found.end));
             }
-            Ok((expr, found.offsets))
+            Ok((pieces, found.offsets))
         }
     }
 }
@@ -116,14 +121,14 @@ pub fn read_cond(alloc: Global, text: &[u8]) -> Result<CondText, CondFault>
     let other = first_other_byte(text);
     match read_form(alloc, text) {
         Err(fault) => Err(or_other(fault, other)),
-        Ok((expr, offsets)) => match other {
+        Ok((pieces, offsets)) => match other {
             Some(offset) => {
-                drop(expr);
+                drop(pieces);
                 Err(CondFault::At {
                     offset: offset as u64,
                 })
             }
-            None => Ok(cond_text(alloc, expr, offsets)?),
+            None => Ok(cond_text(alloc, text, &pieces, offsets)?),
         },
     }
 }

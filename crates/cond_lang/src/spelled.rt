@@ -1,132 +1,71 @@
-//! The form of an expression that was read, made node by node from left to right. The offsets of its tokens are taken from the front of a
-//! list, so that each node gets the first offset that was left when its part began.
+//! The form of an expression that was read, made piece by piece from left to right, so that its names come in the order of the text.
 
-ghost use Rattle.std.specs.Prelude.{◌≡◌, ◌+◌, ◌++◌, [], ◌∷◌, drop, IfOk, OnOk};
-ghost use Rattle.gen_tree.specs.View.{expr_of, fam_of, lit_of};
-ghost use Rattle.gen_tree.specs.Tree as tree;
-ghost use Rattle.cond_lang.specs.Form.{past, part_at, const_of, form_of, noted, names_in};
-ghost use Rattle.cond_lang.specs.Judged.{fam_tokens};
-ghost use Rattle.cond_lang.specs.Names.{fam_name, output_name};
-ghost use Rattle.cond_lang.specs.Meaning.{literal, tree_of};
+ghost use Rattle.std.specs.Prelude.{◌≡◌, [], reverse, IfOk, OnOk};
+ghost use Rattle.gen_tree.specs.View.{lit_of};
+ghost use Rattle.gen_text.specs.Pieces.{exprs_of};
+ghost use Rattle.cond_lang.specs.Form.{const_of, part_of, noted_by, all_names, seats, seats_of};
+ghost use Rattle.cond_lang.specs.Meaning.{literal};
 
-use crate::counts::{behind, fam_tokens, first, number, tokens_before};
+use crate::counts::{index_tokens, number};
 use crate::distinct::{DistinctNames, fam_place, output_place};
-use crate::form::{Node, Part, Unary};
+use crate::form::{Part, Unary};
 use crate::ops::binary_of;
-use gen_tree::{Expr, Fam, Lit};
+use gen_text::Piece;
+use gen_tree::Lit;
 use std::alloc::Global;
-use text_core::{NoMemory, Text};
+use text_core::NoMemory;
 
 /// A literal, whether it is a value or not.
-fn literal(lit: &Lit) -> Node
+fn literal(lit: &Lit) -> Part
     ensures { result ≡ const_of (literal (lit_of lit.now)) }
 {
     match lit {
-        Lit::Plain { width, value } => Node::Const(*width, *value),
-        Lit::Bits { width, value } => Node::Const(number(width), u128::from(number(value))),
+        Lit::Plain { width, value } => Part::Const(*width, *value),
+        Lit::Bits { width, value } => Part::Const(number(width), u128::from(number(value))),
     }
 }
 
-/// Puts a node behind others, whose part begins where these offsets do.
-fn push_node(parts: &mut Vec<Part>, offsets: &[u32], node: Node) -> Result<(), NoMemory>
-    ensures { OnOk result (parts.new.items ≡ parts.old.items ++ part_at offsets.now node ∷ []) }
-{
-    let start = first(offsets);
-    parts.push(Part { start, node })?;
-    Ok(())
-}
-
-/// Puts the node of a plain name or a member of a family behind others; and the offsets behind it.
-fn push_read<'a>(
-    alloc: Global,
-    parts: &mut Vec<Part>,
-    names: &mut DistinctNames,
-    fam: &Fam,
-    offsets: &'a [u32],
-) -> Result<&'a [u32], NoMemory>
+/// The part that a piece is. Its name is put behind the others if it is not among them.
+fn part_of(alloc: Global, names: &mut DistinctNames, piece: &Piece<'_>) -> Result<Part, NoMemory>
     requires { names.old.list.items ≡ names.old.known }
-    ensures parts { OnOk result (parts.new.items ≡ parts.old.items ++ form_of names.old.known (tree.read (fam_of fam.now)) offsets.now) }
-    ensures known { OnOk result (names.new.known ≡ noted names.old.known (fam_name (fam_of fam.now))) }
+    ensures part { IfOk result (λ part. part ≡ part_of names.old.known piece.now) }
+    ensures known { OnOk result (names.new.known ≡ noted_by names.old.known piece.now) }
     ensures same { OnOk result (names.new.list.items ≡ names.new.known) }
-    ensures rest { IfOk result (λ rest. rest.now ≡ drop (fam_tokens (fam_of fam.now)) offsets.now) }
 {
-    let place = fam_place(alloc, names, fam)?;
-    push_node(parts, offsets, Node::Leaf(place))?;
-    Ok(behind(offsets, fam_tokens(fam)))
-}
-
-/// Puts the node of an output of a child behind others; and the offsets behind it.
-fn push_output<'a>(
-    alloc: Global,
-    parts: &mut Vec<Part>,
-    names: &mut DistinctNames,
-    fam: &Fam,
-    output: &Text,
-    offsets: &'a [u32],
-) -> Result<&'a [u32], NoMemory>
-    requires { names.old.list.items ≡ names.old.known }
-    ensures parts { OnOk result (parts.new.items ≡ parts.old.items ++ form_of names.old.known (tree.out (fam_of fam.now) output.now) offsets.now) }
-    ensures known { OnOk result (names.new.known ≡ noted names.old.known (output_name (fam_of fam.now) output.now)) }
-    ensures same { OnOk result (names.new.list.items ≡ names.new.known) }
-    ensures rest { IfOk result (λ rest. rest.now ≡ drop (fam_tokens (fam_of fam.now) + 2) offsets.now) }
-{
-    let place = output_place(alloc, names, fam, output)?;
-    push_node(parts, offsets, Node::Leaf(place))?;
-    Ok(behind(offsets, fam_tokens(fam) + 2))
-}
-
-/// Puts the nodes of an expression behind others, and its names behind those that came before; and the offsets behind it.
-pub(crate) fn push<'a>(
-    alloc: Global,
-    parts: &mut Vec<Part>,
-    names: &mut DistinctNames,
-    expr: &Expr,
-    offsets: &'a [u32],
-) -> Result<&'a [u32], NoMemory>
-    requires { names.old.list.items ≡ names.old.known }
-    ensures parts { OnOk result (parts.new.items ≡ parts.old.items ++ form_of names.old.known (expr_of expr.now) offsets.now) }
-    ensures known { OnOk result (names.new.known ≡ names_in names.old.known (tree_of (expr_of expr.now))) }
-    ensures same { OnOk result (names.new.list.items ≡ names.new.known) }
-    ensures rest { IfOk result (λ rest. rest.now ≡ past (expr_of expr.now) offsets.now) }
-{
-    match expr {
-        Expr::Read(fam) => push_read(alloc, parts, names, fam, offsets),
-        Expr::Out(fam, output) => push_output(alloc, parts, names, fam, output, offsets),
-        Expr::Value(lit) => {
-            push_node(parts, offsets, literal(lit))?;
-            Ok(behind(offsets, 1))
+    match piece {
+        Piece::Read(name, index) => {
+            let place = fam_place(alloc, names, name, index)?;
+            Ok(Part::Leaf(place, index_tokens(index)))
         }
-        Expr::Un(op, a) => {
-            push_node(parts, offsets, Node::One(Unary::Plain(*op)))?;
-            let rest = push(alloc, parts, names, a, behind(offsets, 2))?;
-            Ok(behind(rest, 1))
+        Piece::Out(name, index, output) => {
+            let place = output_place(alloc, names, name, index, output)?;
+            Ok(Part::Leaf(place, index_tokens(index) + 2))
         }
-        Expr::Bin(op, a, b) => {
-            push_node(parts, offsets, Node::Two(binary_of(*op)))?;
-            let rest = push(alloc, parts, names, a, behind(offsets, tokens_before(*op)))?;
-            let rest = push(alloc, parts, names, b, behind(rest, 1))?;
-            Ok(behind(rest, 1))
-        }
-        Expr::Mux(test, a, b) => {
-            push_node(parts, offsets, Node::Mux)?;
-            let rest = push(alloc, parts, names, test, behind(offsets, 2))?;
-            let rest = push(alloc, parts, names, a, behind(rest, 1))?;
-            let rest = push(alloc, parts, names, b, behind(rest, 1))?;
-            Ok(behind(rest, 1))
-        }
-        Expr::Zext(a, width) => {
-            push_node(parts, offsets, Node::One(Unary::Zext(number(width))))?;
-            let rest = push(alloc, parts, names, a, behind(offsets, 2))?;
-            Ok(behind(rest, 3))
-        }
-        Expr::Slice(a, high, low) => {
-            push_node(
-                parts,
-                offsets,
-                Node::One(Unary::Slice(number(high), number(low))),
-            )?;
-            let rest = push(alloc, parts, names, a, offsets)?;
-            Ok(behind(rest, 5))
-        }
+        Piece::Value(lit) => Ok(literal(lit)),
+        Piece::Un(op) => Ok(Part::One(Unary::Plain(*op))),
+        Piece::Bin(op) => Ok(Part::Two(binary_of(*op))),
+        Piece::Mux => Ok(Part::Mux),
+        Piece::Zext(width) => Ok(Part::One(Unary::Zext(number(width)))),
+        Piece::Slice(high, low) => Ok(Part::One(Unary::Slice(number(high), number(low)))),
     }
+}
+
+/// The parts that pieces are, from the last to the first, and their names.
+pub(crate) fn parts_of(
+    alloc: Global,
+    names: &mut DistinctNames,
+    pieces: &[Piece<'_>],
+) -> Result<Vec<Part>, NoMemory>
+    requires none { names.old.known ≡ [] }
+    requires same { names.old.list.items ≡ names.old.known }
+    ensures parts { IfOk result (λ parts. seats parts.items ≡ seats_of (exprs_of pieces.now)) }
+    ensures names { OnOk result (names.new.list.items ≡ all_names (exprs_of pieces.now)) }
+{
+    let mut parts = Vec::with_capacity(alloc, pieces.len())?;
+    for piece in pieces {
+        let part = part_of(alloc, names, piece)?;
+        parts.push(part)?;
+    }
+    parts.reverse();
+    Ok(parts)
 }

@@ -24,8 +24,8 @@ pub(crate) fn tokens_at(alloc: Global, text: &[u8]) -> Result<Tokens<'_>, NoMemo
     requires { length text.now < 2 ^ 30 }
     ensures { IfOk result (λ found. AreTaken text.now (placed found.tokens.items) found.offsets.items found.end found.is_whole) }
 {
-    let mut tokens = Vec::new(alloc);
-    let mut offsets = Vec::new(alloc);
+    let mut tokens = Vec::with_capacity(alloc, text.len())?;
+    let mut offsets = Vec::with_capacity(alloc, text.len())?;
     let (mut line, mut rest) = skip(text, 1);
     while let Some((token, after)) = token_at(rest) {
         tokens.push(Placed { line, token })?;

@@ -1,22 +1,22 @@
-//! The value of a condition, from the bottom up. An operand that is not known leaves nothing known, in a branch of a `mux` that is not
+//! The value of a condition, from the bottom up, the last operand first, since a form begins with what stands last in the text. An operand that is not known leaves nothing known, in a branch of a `mux` that is not
 //! taken too.
 
-ghost use Rattle.std.specs.Prelude.{◌≡◌, ◌<◌, length};
+ghost use Rattle.std.specs.Prelude.{◌≡◌, ◌≤◌, ◌-◌, length};
 ghost use Rattle.bv_core.specs.declared.NodeId as node_id;
 ghost use Rattle.bv_core.specs.declared.Sample as sampled;
 ghost use Rattle.bv_core.specs.declared.Sample.TheVariants as samples;
 ghost use Rattle.tree_core.specs.Tree.{Leaf};
 ghost use Rattle.cond_lang.specs.Bound.{EachNode, HasWidth, known, ref_width, value_at, bound_value};
 ghost use Rattle.bv_core.specs.Value.{IsBits};
-ghost use Rattle.cond_lang.specs.Form.{op_of};
+ghost use Rattle.cond_lang.specs.Form.{op_of, first_tree, later};
 ghost use Rattle.cond_lang.specs.Places.{ref_at, trees_at};
 ghost use Rattle.cond_lang.specs.Shown.{cond_tree, cond_width, truth_of};
 ghost use Rattle.cond_lang.specs.Strict.{on_one, on_two, on_three};
 ghost use Rattle.bv_core.specs.Operators.{apply1_of, apply2_of, choose_of};
-ghost use Rattle.cond_lang.specs.Sampled.{Fits1At, Fits2At, FitsChoiceAt, IsReady, ComesTo, FirstIs, FirstComesTo};
+ghost use Rattle.cond_lang.specs.Sampled.{Fits1At, Fits2At, FitsChoiceAt, IsReady, ComesTo};
 
 use crate::Cond;
-use crate::form::{Node, Part, Unary};
+use crate::form::{Part, Unary};
 use crate::ops::op_of;
 use bv_core::{Bv, NodeId, Op2, Ref, Sample, Truth, apply1, apply2, choose};
 
@@ -94,35 +94,36 @@ fn literal(width: u64, value: u128) -> Sample
     }
 }
 
-/// What the first tree of a form comes to, and the nodes behind it.
+/// What the first tree of a form comes to, and the parts behind it.
 fn sampled<'a, F: Fn(NodeId) -> Sample>(
     parts: &'a [Part],
     refs: &[Ref],
     value: &F,
 ) -> (Sample, &'a [Part])
-    requires { FirstIs (IsReady (λ node. F.pre value.now node) (λ node found. F.post value.now node found)) (trees_at refs.now parts.now) }
-    ensures shorter { length result.1.now < length parts.now }
-    ensures value { FirstComesTo (λ node found. F.post value.now node found) (trees_at refs.now parts.now) result.0 (trees_at refs.now result.1.now) }
+    requires { IsReady (λ node. F.pre value.now node) (λ node found. F.post value.now node found) (first_tree (trees_at refs.now parts.now)) }
+    ensures shorter { length result.1.now ≤ length parts.now - 1 }
+    ensures value { ComesTo (λ node found. F.post value.now node found) (first_tree (trees_at refs.now parts.now)) result.0 }
+    ensures rest { trees_at refs.now result.1.now ≡ later (trees_at refs.now parts.now) }
 {
     let [part, rest @ ..] = parts else {
         return (Sample::Unknown, &[]);
     };
-    match part.node {
-        Node::Const(width, value) => (literal(width, value), rest),
-        Node::Leaf(place) => (leaf(refs, place, value), rest),
-        Node::One(op) => {
+    match *part {
+        Part::Const(width, value) => (literal(width, value), rest),
+        Part::Leaf(place, _) => (leaf(refs, place, value), rest),
+        Part::One(op) => {
             let (a, rest) = sampled(rest, refs, value);
             (on_one(op, a), rest)
         }
-        Node::Two(op) => {
-            let (a, rest) = sampled(rest, refs, value);
+        Part::Two(op) => {
             let (b, rest) = sampled(rest, refs, value);
+            let (a, rest) = sampled(rest, refs, value);
             (on_two(op, a, b), rest)
         }
-        Node::Mux => {
-            let (test, rest) = sampled(rest, refs, value);
-            let (a, rest) = sampled(rest, refs, value);
+        Part::Mux => {
             let (b, rest) = sampled(rest, refs, value);
+            let (a, rest) = sampled(rest, refs, value);
+            let (test, rest) = sampled(rest, refs, value);
             (on_three(test, a, b), rest)
         }
     }

@@ -8,6 +8,5 @@ pub mod Settling
 pub mod Standing
 pub mod Threads
 pub mod Told
-pub mod Trees
 pub mod Turns
 pub mod Values

@@ -20,7 +20,7 @@ use Rattle.slot_sched.specs.declared.armed.Armed.{Armed}
 use Rattle.slot_sched.specs.declared.schedule.Schedule.{Schedule}
 use Rattle.slot_sched.specs.Armed.{trap_place, traps_of, IsBoundAt, IsTrap, IsArmed, AreOf}
 use Rattle.slot_sched.proofs.Matches.{number_told}
-use Rattle.dbg_core.proofs.Trees.{tree_set}
+use Rattle.cond_lang.specs.Sets.{tree_set}
 
 -- ---- what is listed
 

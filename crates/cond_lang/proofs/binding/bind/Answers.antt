@@ -13,17 +13,17 @@ returns-in_err-refs-clause-refused g c = λ places finds.
 pub returns-clause-width : goal.returns-clause-width
 returns-clause-width g c = λ places finds.
     width_told cond_tree cond_width places (text_expr c.args.text.now) (text_offsets c.args.text.now) c.in_ok-refs.refs.items c.args.text.now.form.value.parts.items
-    (record { names = c.deref.result.now; are = c.deref.ensures.value ∙ c.args.text.now.named; found = c.in_ok-refs.ensures.found places finds; form = c.args.text.now.formed })
+    (record { names = c.deref.result.now; are = c.deref.ensures.value ∙ c.args.text.now.named; found = c.in_ok-refs.ensures.found places finds; form = record { formed = c.args.text.now.formed; sized = c.args.text.now.sized } })
     c.cond_at.result c.cond_at.ensures
 
 pub returns-clause-bound : goal.returns-clause-bound
 returns-clause-bound g c = λ places finds.
     tree_told cond_tree cond_width places (text_expr c.args.text.now) (text_offsets c.args.text.now) c.in_ok-refs.refs.items c.args.text.now.form.value.parts.items
-    (record { names = c.deref.result.now; are = c.deref.ensures.value ∙ c.args.text.now.named; found = c.in_ok-refs.ensures.found places finds; form = c.args.text.now.formed })
+    (record { names = c.deref.result.now; are = c.deref.ensures.value ∙ c.args.text.now.named; found = c.in_ok-refs.ensures.found places finds; form = record { formed = c.args.text.now.formed; sized = c.args.text.now.sized } })
     c.cond_at.result c.cond_at.ensures
 
 pub returns-clause-refused : goal.returns-clause-refused
 returns-clause-refused g c = λ places finds.
     end_told cond_tree cond_width places (text_expr c.args.text.now) (text_offsets c.args.text.now) c.in_ok-refs.refs.items c.args.text.now.form.value.parts.items
-    (record { names = c.deref.result.now; are = c.deref.ensures.value ∙ c.args.text.now.named; found = c.in_ok-refs.ensures.found places finds; form = c.args.text.now.formed })
+    (record { names = c.deref.result.now; are = c.deref.ensures.value ∙ c.args.text.now.named; found = c.in_ok-refs.ensures.found places finds; form = record { formed = c.args.text.now.formed; sized = c.args.text.now.sized } })
     c.cond_at.result c.cond_at.ensures
