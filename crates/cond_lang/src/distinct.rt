@@ -1,5 +1,5 @@
 //! The names of an expression, each once, in the order in which they first come. They are spelled once, when the text is read, and not each
-//! time that it is bound.
+//! time that it is bound. Only a name that is new takes memory of its own.
 
 ghost use Rattle.std.specs.Prelude.{◌≡◌, ◌++◌, [], ◌∷◌, false, IfOk, OnOk, codes, decimal, option_map};
 ghost use Rattle.gen_tree.specs.View.{int_of};
@@ -62,45 +62,47 @@ fn place(alloc: Global, names: &mut DistinctNames, name: &[u8]) -> Result<usize,
 }
 
 /// Puts the index of a member of a family behind its name, as `#2`.
-fn push_index(alloc: Global, name: &mut Vec<u8>, index: u64) -> Result<(), NoMemory>
+fn push_index(name: &mut Vec<u8>, index: u64) -> Result<(), NoMemory>
     ensures { OnOk result (name.new.items ≡ name.old.items ++ (codes "#" ++ decimal index)) }
 {
-    let index = format!(in alloc; "#{index}")?;
-    name.extend_from_slice(index.as_bytes())?;
+    let mut digits = itoa::Buffer::new();
+    name.extend_from_slice(b"#")?;
+    name.extend_from_slice(digits.format(index).as_bytes())?;
     Ok(())
 }
 
-/// The name of a member of a family, or a plain name.
-fn fam_name(alloc: Global, name: &[u8], index: &Option<Box<Int>>) -> Result<Vec<u8>, NoMemory>
-    ensures { IfOk result (λ made. made.items ≡ fam_name (fam_of_name name.now (option_map (λ index. int_of index.value) index.now))) }
+/// Spells the name of a member of a family, or a plain name, in place of what was spelled before.
+fn spell_fam(spelled: &mut Vec<u8>, name: &[u8], index: &Option<Box<Int>>) -> Result<(), NoMemory>
+    ensures { OnOk result (spelled.new.items ≡ fam_name (fam_of_name name.now (option_map (λ index. int_of index.value) index.now))) }
 {
-    let mut made = name.to_vec(alloc)?;
+    spelled.clear();
+    spelled.extend_from_slice(name)?;
     match index {
-        Some(index) => push_index(alloc, &mut made, number(index))?,
-        None => {}
+        Some(index) => push_index(spelled, number(index)),
+        None => Ok(()),
     }
-    Ok(made)
 }
 
-/// The name of an output of a child.
-fn output_name(
-    alloc: Global,
+/// Spells the name of an output of a child, in place of what was spelled before.
+fn spell_output(
+    spelled: &mut Vec<u8>,
     name: &[u8],
     index: &Option<Box<Int>>,
     output: &[u8],
-) -> Result<Vec<u8>, NoMemory>
-    ensures { IfOk result (λ made. made.items ≡ output_name (fam_of_name name.now (option_map (λ index. int_of index.value) index.now)) output.now) }
+) -> Result<(), NoMemory>
+    ensures { OnOk result (spelled.new.items ≡ output_name (fam_of_name name.now (option_map (λ index. int_of index.value) index.now)) output.now) }
 {
-    let mut made = fam_name(alloc, name, index)?;
-    made.extend_from_slice(b".")?;
-    made.extend_from_slice(output)?;
-    Ok(made)
+    spell_fam(spelled, name, index)?;
+    spelled.extend_from_slice(b".")?;
+    spelled.extend_from_slice(output)?;
+    Ok(())
 }
 
-/// The place of a plain name or a member of a family. A plain name is looked up as it stands.
+/// The place of a plain name or a member of a family. A plain name is looked up as it stands; a member's is spelled in room that all share.
 pub(crate) fn fam_place(
     alloc: Global,
     names: &mut DistinctNames,
+    spelled: &mut Vec<u8>,
     name: &[u8],
     index: &Option<Box<Int>>,
 ) -> Result<usize, NoMemory>
@@ -112,16 +114,17 @@ pub(crate) fn fam_place(
     match index {
         None => place(alloc, names, name),
         Some(_) => {
-            let name = fam_name(alloc, name, index)?;
-            place(alloc, names, &name)
+            spell_fam(spelled, name, index)?;
+            place(alloc, names, spelled)
         }
     }
 }
 
-/// The place of an output of a child.
+/// The place of an output of a child, whose name is spelled in room that all share.
 pub(crate) fn output_place(
     alloc: Global,
     names: &mut DistinctNames,
+    spelled: &mut Vec<u8>,
     name: &[u8],
     index: &Option<Box<Int>>,
     output: &[u8],
@@ -131,6 +134,6 @@ pub(crate) fn output_place(
     ensures known { OnOk result (names.new.known ≡ noted names.old.known (output_name (fam_of_name name.now (option_map (λ index. int_of index.value) index.now)) output.now)) }
     ensures same { OnOk result (names.new.list.items ≡ names.new.known) }
 {
-    let name = output_name(alloc, name, index, output)?;
-    place(alloc, names, &name)
+    spell_output(spelled, name, index, output)?;
+    place(alloc, names, spelled)
 }

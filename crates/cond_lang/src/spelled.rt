@@ -26,7 +26,12 @@ fn literal(lit: &Lit) -> Part
 }
 
 /// The part that a piece is. Its name is put behind the others if it is not among them.
-fn part_of(alloc: Global, names: &mut DistinctNames, piece: &Piece<'_>) -> Result<Part, NoMemory>
+fn part_of(
+    alloc: Global,
+    names: &mut DistinctNames,
+    spelled: &mut Vec<u8>,
+    piece: &Piece<'_>,
+) -> Result<Part, NoMemory>
     requires { names.old.list.items ≡ names.old.known }
     ensures part { IfOk result (λ part. part ≡ part_of names.old.known piece.now) }
     ensures known { OnOk result (names.new.known ≡ noted_by names.old.known piece.now) }
@@ -34,11 +39,11 @@ fn part_of(alloc: Global, names: &mut DistinctNames, piece: &Piece<'_>) -> Resul
 {
     match piece {
         Piece::Read(name, index) => {
-            let place = fam_place(alloc, names, name, index)?;
+            let place = fam_place(alloc, names, spelled, name, index)?;
             Ok(Part::Leaf(place, index_tokens(index)))
         }
         Piece::Out(name, index, output) => {
-            let place = output_place(alloc, names, name, index, output)?;
+            let place = output_place(alloc, names, spelled, name, index, output)?;
             Ok(Part::Leaf(place, index_tokens(index) + 2))
         }
         Piece::Value(lit) => Ok(literal(lit)),
@@ -62,8 +67,9 @@ pub(crate) fn parts_of(
     ensures names { OnOk result (names.new.list.items ≡ all_names (exprs_of pieces.now)) }
 {
     let mut parts = Vec::with_capacity(alloc, pieces.len())?;
+    let mut spelled = Vec::new(alloc);
     for piece in pieces {
-        let part = part_of(alloc, names, piece)?;
+        let part = part_of(alloc, names, &mut spelled, piece)?;
         parts.push(part)?;
     }
     parts.reverse();
