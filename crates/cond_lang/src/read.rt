@@ -15,7 +15,7 @@ ghost use Rattle.cond_lang.specs.TextShown.{text_expr, text_offsets};
 use crate::fault::CondFault;
 use crate::text::{CondText, cond_text};
 use crate::tokens::{Tokens, tokens_at};
-use gen_text::{Piece, ReadFault, expr};
+use gen_text::{Piece, ReadFault, pieces_of};
 use gen_token::{Placed, first_other_byte};
 use gen_tree::Dialect;
 use std::alloc::Global;
@@ -41,8 +41,7 @@ fn read_tokens<'a>(alloc: Global, tokens: &[Placed<'a>]) -> Result<Vec<Piece<'a>
     ensures reads { Gives (λ pieces. top (exprs_of pieces.items)) result (cond_at 64 (placed tokens.now)) }
     ensures one { IfOk result (λ pieces. exprs_of pieces.items ≡ top (exprs_of pieces.items) ∷ []) }
 {
-    let mut pieces = Vec::with_capacity(alloc, tokens.len() / 2 + 1)?;
-    let rest = expr(alloc, Dialect::Condition, ROOM, &mut pieces, tokens)?;
+    let (pieces, rest) = pieces_of(alloc, Dialect::Condition, ROOM, tokens)?;
     whole(rest)?;
     Ok(pieces)
 }

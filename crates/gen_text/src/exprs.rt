@@ -1,6 +1,6 @@
 //! Expressions, read from left to right with one token ahead, as lists of pieces. `room` is how many brackets may still be opened.
 
-ghost use Rattle.std.specs.Prelude.{◌≡◌, ◌∷◌, List, OnOk, option_map};
+ghost use Rattle.std.specs.Prelude.{◌≡◌, [], ◌∷◌, List, IfOk, OnOk, option_map};
 ghost use Rattle.gen_token.specs.Words.{placed, word_of};
 ghost use Rattle.gen_tree.specs.Tree as tree;
 ghost use Rattle.gen_tree.specs.View.{int_of, lit_of};
@@ -137,7 +137,7 @@ fn op<'t, 'a>(tokens: &'t [Placed<'a>]) -> Result<(Op, &'t [Placed<'a>]), ReadFa
 /// Puts the pieces of the expression in front behind others; and what follows it. `room` brackets may still be opened.
 #[cycle(exprs)]
 #[tactic(auto, using(crate::proofs::OnlyExprs::expr_opened))]
-pub fn expr<'t, 'a>(
+pub(crate) fn expr<'t, 'a>(
     alloc: Global,
     dialect: Dialect,
     room: usize,
@@ -326,4 +326,25 @@ fn bounds<'t, 'a>(
     let (low, rest) = closed(int(alloc, dialect, room - 1, rest)?, Mark::RightBracket)?;
     let low = boxed_int(alloc, low)?;
     Ok(((high, low), rest))
+}
+
+/// The pieces of the expression in front, and what follows it. `room` brackets may still be opened.
+///
+/// The list takes its room once, for as many pieces as so many tokens can be.
+///
+/// # Errors
+///
+/// `At` with how many tokens are left from the first on that no expression goes on with, and `NoMemory`.
+pub fn pieces_of<'t, 'a>(
+    alloc: Global,
+    dialect: Dialect,
+    room: usize,
+    tokens: &'t [Placed<'a>],
+) -> Result<(Vec<Piece<'a>>, &'t [Placed<'a>]), ReadFault>
+    ensures reads { Gives (λ read. (top (exprs_of read.0.items), placed read.1.now)) result (list.expr_at dialect room (placed tokens.now)) }
+    ensures one { IfOk result (λ read. exprs_of read.0.items ≡ top (exprs_of read.0.items) ∷ []) }
+{
+    let mut pieces = Vec::with_capacity(alloc, tokens.len() / 2 + 1)?;
+    let rest = expr(alloc, dialect, room, &mut pieces, tokens)?;
+    Ok((pieces, rest))
 }

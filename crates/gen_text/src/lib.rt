@@ -15,7 +15,7 @@ mod stmts;
 mod tree;
 mod words;
 
-pub use exprs::expr;
+pub use exprs::pieces_of;
 pub use fault::{ReadFault, TextFault};
 pub use laws::{one_answer, one_place, one_spelling, spells_the_sample};
 pub use pieces::Piece;
