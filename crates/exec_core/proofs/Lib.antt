@@ -11,3 +11,10 @@ pub mod Running
 pub mod Keeping
 pub mod Samples
 pub mod KeptTrees
+pub mod Casing
+pub mod Replacing
+pub mod Deciding
+pub mod WholeNaming
+pub mod Totals
+pub mod Telling
+pub mod Showing

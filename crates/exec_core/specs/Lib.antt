@@ -4,6 +4,13 @@ pub mod Trees
 pub mod Agree
 pub mod Leaves
 pub mod Paths
+pub mod Cases
+pub mod Parts
+pub mod Decided
+pub mod WholeNames
+pub mod Shown
+pub mod Total
+pub mod Told
 pub mod Whole
 pub mod Design
 pub mod Run
