@@ -2,3 +2,4 @@ pub mod Views
 pub mod PortNames
 mod PortSteps
 pub mod InOrder
+pub mod LetNames

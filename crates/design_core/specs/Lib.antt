@@ -7,5 +7,6 @@ pub mod WellFormed
 pub mod Single
 pub mod Ports
 pub mod Statements
+pub mod Heads
 pub mod Dotted
 pub mod Widths

@@ -5,6 +5,7 @@
 mod design;
 mod dotted;
 mod expr;
+mod let_list;
 mod number;
 mod parts;
 mod ports;
@@ -17,6 +18,7 @@ mod widths;
 pub use design::{Design, Instance};
 pub use dotted::below;
 pub use expr::{Expr, Literal, Op, UnOp};
+pub use let_list::{let_names, lets};
 pub use number::in_32_bits;
 pub use parts::{blocks_of, children_of, signals_of};
 pub use ports::Ports;

@@ -1,13 +1,12 @@
 //! The ports of a design, read off the signals of its top in their order.
 
-ghost use Rattle.std.specs.Prelude.{◌≡◌, ◌++◌, ◌≤◌, true, false, IfOk, OnOk, map};
+ghost use Rattle.std.specs.Prelude.{◌≡◌, ◌++◌, ◌≤◌, true, false, IfOk, OnOk};
 ghost use Rattle.design_core.specs.DesignView.{design_of};
 ghost use Rattle.design_core.specs.Ports.{all_fit, fits, is_port, is_width, one_port, ports_in, top_signals};
 ghost use Rattle.design_core.specs.Widths.{bits};
-ghost use Rattle.design_core.specs.View.{variant_of};
-ghost use Rattle.design_core.specs.WellFormed.{regs, registers, signals_at};
+ghost use Rattle.design_core.specs.WellFormed.{regs, registers};
 
-use crate::{Design, Kind, Ports, Signal, Variant};
+use crate::{Design, Kind, Ports, Signal, signals_of};
 use std::alloc::Global;
 use text_core::{Listed, NoMemory, Text};
 
@@ -78,16 +77,6 @@ fn count_registers(signals: &[Signal]) -> u32
         }
     }
     count
-}
-
-/// The signals of a variant, by its number; none where there is no such variant.
-fn signals_of(variants: &[Variant], variant: u32) -> &[Signal]
-    ensures { result.now ≡ signals_at variant (map variant_of variants.now) }
-{
-    match variants.get(variant as usize) {
-        Some(variant) => variant.signals.items(),
-        None => &[],
-    }
 }
 
 /// How many registers all instances have.
