@@ -5,8 +5,7 @@ use Rattle.tree_core.specs.Tree as tree
 use Rattle.tree_core.specs.Tree.{Tree}
 use Rattle.bv_core.specs.Operators.{flag_of}
 use Rattle.exec_core.specs.Block.{Name, Key, Now, Next, same_key, Body, body_assigns}
-use Rattle.exec_core.specs.Exec.{start}
-use Rattle.exec_core.specs.Trees.{body_rows, body_trees_after}
+use Rattle.exec_core.specs.Shown.{shown_start, body_shown_rows, body_shown_after}
 use Rattle.names.specs.Maps.{put_value, no_value}
 use Rattle.block_net.specs.declared.key.Key as code_key
 use Rattle.block_net.specs.declared.key.Key.TheVariants as keys
@@ -59,7 +58,7 @@ pub begins_fit : (ns : List Term) (keys : Key → Bool) (now next : Names) → n
 begins_fit ns keys now next is none =
     subst (λ f. FitBy ns f next) (sym is) (subst (λ g. FitBy ns (hidden keys) g) (sym none) (record { now_held = λ x. held_none ns (keys (Now x)); next_held = λ x. tt }))
 
-pub begins_env : (ns : List Term) (keys : Key → Bool) (now next : Names) (body : Body) → now ≡ hidden keys → next ≡ no_value → keys ≡ body_assigns body → env_by ns now next ≡ start body tree.Leaf
+pub begins_env : (ns : List Term) (keys : Key → Bool) (now next : Names) (body : Body) → now ≡ hidden keys → next ≡ no_value → keys ≡ body_assigns body → env_by ns now next ≡ shown_start body
 begins_env ns keys now next body is none same =
     (λ j. env_by ns (is j) (none j)) ∙ ap (λ k. env_by ns (hidden k) no_value) same ∙ (λ j y. at y j)
   where
@@ -67,7 +66,7 @@ begins_env ns keys now next body is none same =
     one x true = refl
     one x false = refl
 
-    at : (y : Key) → env_by ns (hidden (body_assigns body)) no_value y ≡ start body tree.Leaf y
+    at : (y : Key) → env_by ns (hidden (body_assigns body)) no_value y ≡ shown_start body y
     at (Now x) = one x (body_assigns body (Now x))
     at (Next x) = refl
 
@@ -79,15 +78,15 @@ linked walk new enable body none w = record {
   ends = w.fits;
 }
 
-pub told : (walk grown new : Walk) (enable : Option TermId) (body : Body) → env_of walk ≡ start body tree.Leaf → walk.log.items ≡ [] → Grown walk grown → Stands grown.terms enable (Some (tree.Const (flag_of true)))
+pub told : (walk grown new : Walk) (enable : Option TermId) (body : Body) → env_of walk ≡ shown_start body → walk.log.items ≡ [] → Grown walk grown → Stands grown.terms enable (Some (tree.Const (flag_of true)))
     → Through (tree_for grown.terms enable) body grown new → Tells (record { terms = new.terms; log = new.log.items; names = new.now; registers = new.next }) body
 told walk grown new enable body starts none g s w =
     let all = w.log ∙ ap (λ l. l ++ w.more) (g.log ∙ none) in
     let from = g.env ∙ starts in
     record {
-      rows = ap (λ log. rows_of new.terms log (start body tree.Leaf)) all ∙ ap (rows_of new.terms w.more) (sym from) ∙ w.told ∙ (λ j. body_rows body (s.is j) (from j));
-      ends = w.env ∙ ap (body_trees_after body) from;
-      log_ends = ap (λ log. ends_of new.terms log (start body tree.Leaf)) all ∙ ap (ends_of new.terms w.more) (sym from) ∙ w.ends ∙ ap (body_trees_after body) from;
+      rows = ap (λ log. rows_of new.terms log (shown_start body)) all ∙ ap (rows_of new.terms w.more) (sym from) ∙ w.told ∙ (λ j. body_shown_rows body (s.is j) (from j));
+      ends = w.env ∙ ap (body_shown_after body) from;
+      log_ends = ap (λ log. ends_of new.terms log (shown_start body)) all ∙ ap (ends_of new.terms w.more) (sym from) ∙ w.ends ∙ ap (body_shown_after body) from;
     }
 
 pub hide_now : (key : code_key.Key) (x y : Name) (old new : Names) → key ≡ keys.Now x → y ≡ x → new ≡ put_value y None old → new ≡ hide (key_of key) old

@@ -3,8 +3,8 @@ use Rattle.std.specs.Prelude.{◌≡◌, ◌<◌, Bool, List, length, Option, So
 use Rattle.tree_core.specs.Tree as tree
 use Rattle.tree_core.specs.Tree.{Tree}
 use Rattle.exec_core.specs.Block.{Name, Expr, Key, Now, Next, Body}
-use Rattle.exec_core.specs.Exec.{Env, start}
-use Rattle.exec_core.specs.Trees.{block_rows, block_trees}
+use Rattle.exec_core.specs.Exec.{Env}
+use Rattle.exec_core.specs.Shown.{shown_start, block_shown_rows, block_shown_trees}
 use Rattle.names.specs.Maps.{value_of, put_value}
 use Rattle.block_net.specs.declared.effect.Effect.{Effect}
 use Rattle.block_net.specs.declared.term.Term.{Term}
@@ -29,11 +29,11 @@ pub record AreLinked (parts : BlockParts) : Type 0 where
   pub log : AreWithin parts.terms parts.log
   pub ends : FitBy parts.terms (value_of parts.names) (value_of parts.registers)
 
--- they tell of a block exactly its rows, and the trees that it ends with
+-- they tell of a block whose assignments are whole exactly its rows, and the trees that it ends with
 pub record Tells (parts : BlockParts) (body : Body) : Type 0 where
-  pub rows : rows_of parts.terms parts.log (start body tree.Leaf) ≡ block_rows body
-  pub ends : ends_in parts ≡ block_trees body
-  pub log_ends : ends_of parts.terms parts.log (start body tree.Leaf) ≡ block_trees body
+  pub rows : rows_of parts.terms parts.log (shown_start body) ≡ block_shown_rows body
+  pub ends : ends_in parts ≡ block_shown_trees body
+  pub log_ends : ends_of parts.terms parts.log (shown_start body) ≡ block_shown_trees body
 
 -- a term has this tree
 pub record TellsExpr (terms : List Term) (id : TermId) (e : Expr) : Type 0 where

@@ -9,9 +9,9 @@ use Rattle.design_core.specs.declared.expr.Op.TheVariants.{Add, And, Eq}
 use Rattle.tree_core.specs.Tree as tree
 use Rattle.tree_core.specs.Tree.{Tree}
 use Rattle.exec_core.specs.Block.{Name, Now}
-use Rattle.exec_core.specs.Exec.{start}
 use Rattle.exec_core.specs.Trees.{Row, block_rows}
-use Rattle.exec_core.specs.Sample.{child_body, q_tree}
+use Rattle.exec_core.specs.Shown.{shown_start}
+use Rattle.exec_core.specs.Sample.{child_body, fours, q_tree}
 use Rattle.block_net.specs.declared.key.Key as code_key
 use Rattle.block_net.specs.declared.key.Key.TheVariants as keys
 use Rattle.block_net.specs.declared.effect.Effect.{Effect}
@@ -44,7 +44,7 @@ sample_log =
     ∷ Set q (Some (id 10)) ∷ []
 
 abbrev pub sample_rows : List Row
-sample_rows = rows_of sample_terms sample_log (start child_body tree.Leaf)
+sample_rows = rows_of sample_terms sample_log (shown_start child_body)
 
 -- what a name has before each slot
 abbrev pub column : Name → List Row → List (Option (Tree Name))
@@ -54,8 +54,8 @@ column x rows = map (λ (row : Row). row.before (Now x)) rows
 pub record SampleTold : Type 0 where
   pub numbered : AreNumbered sample_terms
   pub slots : map (λ (row : Row). row.slot) sample_rows ≡ 0 ∷ 1 ∷ 2 ∷ 3 ∷ []
-  pub enables : map (λ (row : Row). row.enable) sample_rows ≡ map (λ (row : Row). row.enable) (block_rows child_body)
-  pub sums : column (codes "s") sample_rows ≡ column (codes "s") (block_rows child_body)
+  pub enables : map (λ (row : Row). row.enable) sample_rows ≡ map (λ (row : Row). row.enable) (block_rows fours child_body)
+  pub sums : column (codes "s") sample_rows ≡ column (codes "s") (block_rows fours child_body)
   pub choices : column (codes "q") sample_rows ≡ None ∷ None ∷ None ∷ None ∷ []
-  pub inputs : column (codes "a") sample_rows ≡ column (codes "a") (block_rows child_body)
-  pub end : ends_of sample_terms sample_log (start child_body tree.Leaf) (Now (codes "q")) ≡ Some (q_tree (tree.Leaf (codes "a")))
+  pub inputs : column (codes "a") sample_rows ≡ column (codes "a") (block_rows fours child_body)
+  pub end : ends_of sample_terms sample_log (shown_start child_body) (Now (codes "q")) ≡ Some (q_tree (tree.Leaf (codes "a")))

@@ -4,7 +4,8 @@ use Rattle.tree_core.specs.Tree as tree
 use Rattle.tree_core.specs.Tree.{Tree}
 use Rattle.exec_core.specs.Block.{Name, Key, Now, Next, same_key, key_name, Stmt, Body, body_assigns}
 use Rattle.exec_core.specs.Exec.{Env, on_three}
-use Rattle.exec_core.specs.Trees.{Row, rows, body_rows, trees_after, body_trees_after}
+use Rattle.exec_core.specs.Trees.{Row}
+use Rattle.exec_core.specs.Shown.{shown_rows, body_shown_rows, shown_after, body_shown_after}
 use Rattle.names.specs.Maps.{value_of}
 use Rattle.block_net.specs.declared.key.Key as code_key
 use Rattle.block_net.specs.declared.bindings.Binding.{Binding}
@@ -111,13 +112,13 @@ Cover keys body = (y : Key) → among keys y ≡ false → body_assigns body y �
 
 -- a statement with this enable was walked through; statements were
 abbrev pub ThroughStmt : Option (Tree Name) → Stmt → Walk → Walk → Type 0
-ThroughStmt enable s old new = Walked old new (rows s enable (env_of old)) (trees_after s (env_of old))
+ThroughStmt enable s old new = Walked old new (shown_rows s enable (env_of old)) (shown_after s (env_of old))
 
 abbrev pub Through : Option (Tree Name) → Body → Walk → Walk → Type 0
-Through enable body old new = Walked old new (body_rows body enable (env_of old)) (body_trees_after body (env_of old))
+Through enable body old new = Walked old new (body_shown_rows body enable (env_of old)) (body_shown_after body (env_of old))
 
 -- what an else-branch leaves, with a choice for each of these keys between some trees and its own
 abbrev pub Joins : Option (Tree Name) → Option (Tree Name) → Body → List Binding → Walk → Walk → Type 0
 Joins enable test body firsts old new =
     (trees : Env (Tree Name)) → Bind old.terms trees firsts
-    → Walked old new (body_rows body enable (env_of old)) (overlay (among (keys_of firsts)) (chosen test trees (body_trees_after body (env_of old))) (body_trees_after body (env_of old)))
+    → Walked old new (body_shown_rows body enable (env_of old)) (overlay (among (keys_of firsts)) (chosen test trees (body_shown_after body (env_of old))) (body_shown_after body (env_of old)))

@@ -2,8 +2,7 @@
 //! row can be read off it without another run.
 
 ghost use Rattle.std.specs.Prelude.{◌≡◌, ◌<◌, [], length, IfOk, OnOk};
-ghost use Rattle.tree_core.specs.Tree.{Leaf};
-ghost use Rattle.exec_core.specs.Exec.{start};
+ghost use Rattle.exec_core.specs.Shown.{shown_start};
 ghost use Rattle.names.specs.Maps.{value_of};
 ghost use Rattle.design_core.specs.View.{block_of};
 ghost use Rattle.design_exec.specs.Processes.{body_of};
@@ -128,7 +127,7 @@ fn hide_all(alloc: Global, keys: &[Key]) -> Result<NameMap<Option<TermId>>, NoMe
 fn begin(alloc: Global, clocked: bool, stmts: &[Stmt]) -> Result<Walk, NoMemory>
     ensures fits { IfOk result (λ walk. Fits walk) }
     ensures log { IfOk result (λ walk. walk.log.items ≡ []) }
-    ensures env { IfOk result (λ walk. env_of walk ≡ start (body_in clocked stmts.now) Leaf) }
+    ensures env { IfOk result (λ walk. env_of walk ≡ shown_start (body_in clocked stmts.now)) }
 {
     let keys = assigned_by(alloc, clocked, stmts)?;
     let now = hide_all(alloc, &keys)?;

@@ -1,7 +1,8 @@
-ghost use Rattle.std.specs.Prelude.{◌≡◌, ◌∷◌, [], IfOk, OnOk};
+ghost use Rattle.std.specs.Prelude.{◌≡◌, ◌∷◌, [], IfOk, OnOk, Some};
 ghost use Rattle.exec_core.specs.Block.{If};
 ghost use Rattle.exec_core.specs.Exec.{put};
-ghost use Rattle.exec_core.specs.Trees.{body_rows, body_trees_after, else_enable, then_enable, tree_in};
+ghost use Rattle.exec_core.specs.Trees.{else_enable, then_enable, tree_in};
+ghost use Rattle.exec_core.specs.Shown.{body_shown_rows, body_shown_after};
 ghost use Rattle.block_net.specs.Logs.{key_of};
 ghost use Rattle.block_net.specs.Source.{body_in, else_in, expr_in, stmt_in};
 ghost use Rattle.block_net.specs.Terms.{IsWithin, tree_for};
@@ -115,7 +116,7 @@ fn walk_if(
 ) -> Result<(), NoMemory>
     requires fits { Fits walk.old }
     requires within { IsWithin walk.old.terms enable }
-    ensures { OnOk result (ThroughStmt (tree_for walk.old.terms enable) (If slot (expr_in test.now) (body_in clocked yes.now) (else_in clocked no.now)) walk.old walk.new) }
+    ensures { OnOk result (ThroughStmt (tree_for walk.old.terms enable) (If (Some slot) (expr_in test.now) (body_in clocked yes.now) (else_in clocked no.now)) walk.old walk.new) }
 {
     walk.visit(slot, enable)?;
     let test = walk.term_of(alloc, test)?;
@@ -140,9 +141,9 @@ fn walk_first(
     requires within { IsWithin walk.old.terms enable }
     requires test { IsWithin walk.old.terms test }
     requires cover { Cover keys.now (body_in clocked yes.now) }
-    ensures through { OnOk result (Walked walk.old walk.new (body_rows (body_in clocked yes.now) (then_enable (tree_for walk.old.terms enable) (tree_for walk.old.terms test)) (env_of walk.old)) (env_of walk.old)) }
+    ensures through { OnOk result (Walked walk.old walk.new (body_shown_rows (body_in clocked yes.now) (then_enable (tree_for walk.old.terms enable) (tree_for walk.old.terms test)) (env_of walk.old)) (env_of walk.old)) }
     ensures keys { IfOk result (λ firsts. among (keys_of firsts.items) ≡ among keys.now) }
-    ensures bind { IfOk result (λ firsts. Bind walk.new.terms (body_trees_after (body_in clocked yes.now) (env_of walk.old)) firsts.items) }
+    ensures bind { IfOk result (λ firsts. Bind walk.new.terms (body_shown_after (body_in clocked yes.now) (env_of walk.old)) firsts.items) }
 {
     let before = pick(alloc, walk, keys)?;
     walk_yes(alloc, walk, clocked, enable, test, yes)?;

@@ -7,7 +7,7 @@ use Rattle.list_core.proofs.Lists.{each_member, each_append}
 use Rattle.list_core.proofs.Listing.{got_in}
 use Rattle.tree_core.specs.Tree.{Leaf}
 use Rattle.exec_core.specs.Block.{Name, Now, own}
-use Rattle.exec_core.specs.Trees.{block_trees}
+use Rattle.exec_core.specs.Shown.{block_shown_trees}
 use Rattle.exec_core.specs.Leaves.{EachLeaf}
 use Rattle.exec_core.specs.Whole.{Place}
 use Rattle.exec_core.specs.Design.{Process, place, driver_of}
@@ -19,7 +19,8 @@ use Rattle.dep_order.specs.Either.{HasOrder, HasLoop}
 use Rattle.dep_order.proofs.Found.{order_or_loop}
 use Rattle.chain_laws.proofs.Cells.{span, cell_signals, comb_body, cell_output, cell_blocks, chain_signals, output_block, design_child, design_cell, design_top, chain_design}
 use Rattle.chain_laws.proofs.Names.{cell_output_name}
-use Rattle.chain_laws.proofs.Ranks.{LinkLower, IfTree, ProcessLower, all_lower, ranks_rule_out}
+use Rattle.chain_laws.proofs.Ranks.{LinkLower, IfTree, ProcessLower, AllLower, all_lower, ranks_rule_out}
+use Rattle.dep_order.proofs.Sound.{accepted_drivers}
 
 -- an input of the top, a register, an output of a cell, that output in the top, and what is driven from there
 abbrev rank_in : ℕ → Name → ℕ
@@ -91,7 +92,7 @@ links_lower k =
 -- ---- processes
 
 abbrev EndsLower : Process → Name → Type 0
-EndsLower b x = IfTree signal_rank (λ t. EachLeaf (λ y. signal_rank (place b.instance y) < signal_rank (place b.instance x)) t) (block_trees b.body (Now x))
+EndsLower b x = IfTree signal_rank (λ t. EachLeaf (λ y. signal_rank (place b.instance y) < signal_rank (place b.instance x)) t) (block_shown_trees b.body (Now x))
 
 -- its only own name is `y`
 only_y : (b : Process) → EndsLower b (codes "y") → (x : Name) (c : Bool) → bytes_eq (codes "y") x ≡ c → (c ≡ false → own b.body x ≡ false) → own b.body x ≡ true → EndsLower b x
@@ -120,8 +121,10 @@ processes_lower k =
 
 -- ---- the order
 
-no_loop_told : (k : ℕ) → HasLoop (chain_design k) → ⊥
-no_loop_told k h = ranks_rule_out signal_rank (driver_of (processes_of (chain_design k))) (all_lower signal_rank (chain_design k) (links_lower k) (processes_lower k)) h.tells.loop h.tells.depend
+no_loop_told : (k : ℕ) → IsSound (chain_design k) → HasLoop (chain_design k) → ⊥
+no_loop_told k sound h =
+    ranks_rule_out signal_rank (driver_of (processes_of (chain_design k)))
+    (subst (AllLower signal_rank) (accepted_drivers (chain_design k) sound).shown (all_lower signal_rank (chain_design k) (links_lower k) (processes_lower k))) h.tells.loop h.tells.depend
 
 pub chain_has_order : (k : ℕ) → IsSound (chain_design k) → HasOrder (chain_design k)
-chain_has_order k sound = elim (order_or_loop (chain_design k) sound) [ inl order ↦ order | inr loop ↦ absurd (no_loop_told k loop) ]
+chain_has_order k sound = elim (order_or_loop (chain_design k) sound) [ inl order ↦ order | inr loop ↦ absurd (no_loop_told k sound loop) ]

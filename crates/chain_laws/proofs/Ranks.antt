@@ -8,14 +8,16 @@ use Rattle.list_core.proofs.Lists.{each_member, find_member}
 use Rattle.list_core.proofs.Options.{some_same}
 use Rattle.tree_core.specs.Tree.{Tree, Const, Leaf, One, Two, Mux}
 use Rattle.exec_core.specs.Block.{Name, Now, own}
-use Rattle.exec_core.specs.Trees.{block_trees}
+use Rattle.exec_core.specs.Shown.{block_shown_trees}
 use Rattle.exec_core.specs.Leaves.{EachLeaf}
 use Rattle.exec_core.specs.Whole.{Place, Drivers}
-use Rattle.exec_core.specs.Design.{Process, place, moved, links_to, assigns_to, process_tree, or_else, driver_of}
+use Rattle.exec_core.specs.Design.{Process, place, moved, links_to, assigns_to, or_else}
 use Rattle.design_core.specs.Design as design
 use Rattle.design_exec.specs.Processes.{Link, processes_of}
 use Rattle.check_exec.proofs.Facts.{same_name}
 use Rattle.dep_order.specs.Standing.{SomeLeaf}
+use Rattle.dep_order.specs.Wiring.{shown_tree}
+use Rattle.dep_order.specs.Ordering.{shown_driver}
 use Rattle.dep_order.specs.Results.{DependsOn, Depend, IsLoop}
 
 -- ---- ranks along a loop
@@ -60,7 +62,7 @@ module _ (rank : Place → ℕ) where
 
   -- what an own name of a process ends with
   abbrev pub ProcessLower : Process → Type 0
-  ProcessLower b = (x : Name) → own b.body x ≡ true → IfTree (λ t. EachLeaf (λ y. rank (place b.instance y) < rank (place b.instance x)) t) (block_trees b.body (Now x))
+  ProcessLower b = (x : Name) → own b.body x ≡ true → IfTree (λ t. EachLeaf (λ y. rank (place b.instance y) < rank (place b.instance x)) t) (block_shown_trees b.body (Now x))
 
   moved_leaf : (P : Place → Type 0) (i : ℕ) (t : Tree Name) → EachLeaf (λ y. P (place i y)) t → EachLeaf P (moved i t)
   moved_leaf P i (Const b) h = tt
@@ -80,10 +82,10 @@ module _ (rank : Place → ℕ) where
   equal_numbers : (m n : ℕ) → (m == n) ≡ true → m ≡ n
   equal_numbers m n e = grind (arith, nat_tests)
 
-  process_lower : (p : Place) (b : Process) (t : Tree Place) → ProcessLower b → assigns_to p b ≡ true → process_tree p b ≡ Some t → ReadsLower p t
+  process_lower : (p : Place) (b : Process) (t : Tree Place) → ProcessLower b → assigns_to p b ≡ true → shown_tree p b ≡ Some t → ReadsLower p t
   process_lower p b t h a e =
       let parts = and_both (b.instance == p.instance) (own b.body p.name) a in
-      subst (λ (i : ℕ). ReadsLower (place i p.name) t) (equal_numbers b.instance p.instance parts.0) (by_tree b.instance p.name (block_trees b.body (Now p.name)) t e (h p.name parts.1))
+      subst (λ (i : ℕ). ReadsLower (place i p.name) t) (equal_numbers b.instance p.instance parts.0) (by_tree b.instance p.name (block_shown_trees b.body (Now p.name)) t e (h p.name parts.1))
 
   link_lower : (p : Place) (link : Link) → LinkLower link → links_to p link ≡ true → ReadsLower p link.1
   link_lower p link h a =
@@ -93,7 +95,7 @@ module _ (rank : Place → ℕ) where
 
   driver_lower : (p : Place) (links : List Link) (processes : List Process) → EachOf LinkLower links → EachOf ProcessLower processes
       → (o : Option Link) (u : Option Process) → find (links_to p) links ≡ o → find (assigns_to p) processes ≡ u
-      → (t : Tree Place) → or_else (option_map (λ link. link.1) o) (option_and_then (process_tree p) u) ≡ Some t → ReadsLower p t
+      → (t : Tree Place) → or_else (option_map (λ link. link.1) o) (option_and_then (shown_tree p) u) ≡ Some t → ReadsLower p t
   driver_lower p links processes hl hp (Some link) u e f t g =
       let found = find_member (links_to p) links link e in
       subst (ReadsLower p) (some_same link.1 t g) (link_lower p link (each_member LinkLower links hl link found.0) found.1)
@@ -102,5 +104,5 @@ module _ (rank : Place → ℕ) where
       let found = find_member (assigns_to p) processes b f in
       process_lower p b t (each_member ProcessLower processes hp b found.0) found.1 g
 
-  pub all_lower : (d : design.Design) → EachOf LinkLower (processes_of d).links → EachOf ProcessLower (processes_of d).processes → AllLower (driver_of (processes_of d))
+  pub all_lower : (d : design.Design) → EachOf LinkLower (processes_of d).links → EachOf ProcessLower (processes_of d).processes → AllLower (shown_driver d)
   all_lower d hl hp p t e = driver_lower p (processes_of d).links (processes_of d).processes hl hp (find (links_to p) (processes_of d).links) (find (assigns_to p) (processes_of d).processes) refl refl t e

@@ -2,13 +2,14 @@
 use Rattle.std.specs.Prelude.{ℕ, ◌||◌, not, bytes_eq, List, [], ◌∷◌, Option, Some, None, option_map, if◌then◌else◌}
 use Rattle.std.specs.List.{list_any}
 use Rattle.design_core.specs.declared.variant.Signal.{Signal}
-use Rattle.design_core.specs.Design.{Stmt, Assign, Let, If, Conn, Child, Block, Variant}
+use Rattle.design_core.specs.Design.{Stmt, Conn, Child, Block, Variant}
 use Rattle.check_core.specs.declared.fault.CheckFault.{CheckFault}
 use Rattle.check_core.specs.declared.fault.CheckFault.TheVariants.{TwoDrivers, Undriven}
-use Rattle.names.specs.Known.{Name, Known, with}
+use Rattle.names.specs.Known.{Name, Known}
 use Rattle.design_core.specs.Statements.{statements}
+use Rattle.design_core.specs.Heads.{head_of, target_name}
 use Rattle.check_core.specs.Faults.{earlier, first_of, spot}
-use Rattle.check_core.specs.Names.{is_driven, unless_known}
+use Rattle.check_core.specs.Names.{is_driven, unless_known, named_before, with_name}
 
 -- what is driven at a line
 abbrev pub Drive : Type 0
@@ -50,9 +51,7 @@ twice_in_child c = connected_twice undriven_yet c.conns
 -- the assignments of statements, each with its line
 abbrev pub assignments : List Stmt → List Drive
 assignments [] = []
-assignments (Assign slot line gens x e ∷ rest) = (line, x) ∷ assignments rest
-assignments (Let slot line gens x e ∷ rest) = assignments rest
-assignments (If slot line gens c first second ∷ rest) = assignments rest
+assignments (s ∷ rest) = named_before (head_of s).line (target_name s) (assignments rest)
 
 abbrev pub driven_in : Block → List Drive
 driven_in b = assignments (statements b.body)
@@ -72,9 +71,7 @@ drives all x = list_any (λ (d : Drive). bytes_eq x d.1) all
 
 -- what is assigned after a statement, without those inside it
 abbrev pub assigned_after : Known → Stmt → Known
-assigned_after known (Assign slot line gens x e) = with x known
-assigned_after known (Let slot line gens x e) = known
-assigned_after known (If slot line gens c first second) = known
+assigned_after known s = with_name (target_name s) known
 
 abbrev pub is_assigned : List Block → Known
 is_assigned blocks x = list_any (λ (b : Block). drives (driven_in b) x) blocks

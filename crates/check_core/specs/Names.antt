@@ -12,6 +12,7 @@ use Rattle.check_core.specs.declared.kinds.Kinds.TheVariants as kinds
 use Rattle.names.specs.Known.{Name, Known, none, with, either}
 use Rattle.design_core.specs.Dotted.{below}
 use Rattle.design_core.specs.Statements.{statements}
+use Rattle.design_core.specs.Heads.{head_of, let_name}
 use Rattle.check_core.specs.Faults.{earlier, first_of, spot}
 
 -- ---- what has a name
@@ -102,11 +103,14 @@ unknown_in scope assigned lets (Assign slot line gens x e) = earlier (unknown_re
 unknown_in scope assigned lets (Let slot line gens x e) = unknown_read scope lets line e
 unknown_in scope assigned lets (If slot line gens c first second) = unknown_read scope lets line c
 
+-- one name more, if there is one
+abbrev pub with_name : Option Name → Known → Known
+with_name None known = known
+with_name (Some x) known = with x known
+
 -- the lets after a statement, without those inside it
 abbrev pub lets_after : Known → Stmt → Known
-lets_after lets (Assign slot line gens x e) = lets
-lets_after lets (Let slot line gens x e) = with x lets
-lets_after lets (If slot line gens c first second) = lets
+lets_after lets s = with_name (let_name s) lets
 
 -- statements in preorder
 abbrev pub unknown_among : Scope → Known → Known → List Stmt → Option CheckFault
@@ -149,12 +153,15 @@ child_thing c = (c.line, c.name)
 abbrev pub things : Variant → List (ℕ × Name)
 things v = map signal_thing v.signals ++ map child_thing v.children
 
+-- a name with its line before others, if there is one
+abbrev pub named_before : ℕ → Option Name → List (ℕ × Name) → List (ℕ × Name)
+named_before line None rest = rest
+named_before line (Some x) rest = (line, x) ∷ rest
+
 -- the lets of statements, each with its line
 abbrev pub lets_in : List Stmt → List (ℕ × Name)
 lets_in [] = []
-lets_in (Assign slot line gens x e ∷ rest) = lets_in rest
-lets_in (Let slot line gens x e ∷ rest) = (line, x) ∷ lets_in rest
-lets_in (If slot line gens c first second ∷ rest) = lets_in rest
+lets_in (s ∷ rest) = named_before (head_of s).line (let_name s) (lets_in rest)
 
 -- a block, where these are signals and children
 abbrev pub duplicate_in_block : Known → Block → Option CheckFault

@@ -3,11 +3,12 @@ use Rattle.std.specs.Prelude.{ℕ, ◌||◌, not, bytes_eq, List, [], Option, No
 use Rattle.std.specs.List.{list_any}
 use Rattle.design_core.specs.declared.variant.Signal.{Signal}
 use Rattle.design_core.specs.WellFormed.{signals_at}
-use Rattle.design_core.specs.Design.{Expr, Read, Out, Value, Unary, Binary, Mux, Zext, Slice, Stmt, Assign, Let, If, Conn, Child, Block, Variant}
+use Rattle.design_core.specs.Design.{Expr, Read, Out, Value, Unary, Binary, Mux, Zext, Slice, Stmt, Conn, Child, Block, Variant}
 use Rattle.check_core.specs.declared.fault.CheckFault.{CheckFault}
 use Rattle.check_core.specs.declared.fault.CheckFault.TheVariants.{UnknownPort, UnboundInput}
 use Rattle.names.specs.Known.{Name, Known}
 use Rattle.design_core.specs.Statements.{statements}
+use Rattle.design_core.specs.Heads.{head_of, stmt_value}
 use Rattle.check_core.specs.Faults.{earlier, first_of, spot}
 use Rattle.check_core.specs.Names.{named, is_input, is_child_output, unless_known}
 use Rattle.design_core.specs.Dotted.{below}
@@ -31,9 +32,7 @@ unknown_port_at outputs inputs c = earlier (unknown_output outputs c.line c.valu
 
 -- a statement without those inside it
 abbrev pub unknown_port_in : Known → Stmt → Option CheckFault
-unknown_port_in outputs (Assign slot line gens x e) = unknown_output outputs line e
-unknown_port_in outputs (Let slot line gens x e) = unknown_output outputs line e
-unknown_port_in outputs (If slot line gens c first second) = unknown_output outputs line c
+unknown_port_in outputs s = unknown_output outputs (head_of s).line (stmt_value s)
 
 abbrev pub unknown_port_in_child : Known → List Variant → Child → Option CheckFault
 unknown_port_in_child outputs variants c = first_of (unknown_port_at outputs (named is_input (signals_at c.variant variants))) c.conns

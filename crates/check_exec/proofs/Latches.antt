@@ -2,7 +2,8 @@
 use Rattle.std.proofs.Common.{◌≡◌, ℕ, Bool, true, false, true≢false, List, [], ◌∷◌, None, inl, inr, refl, sym, ap, ◌∙◌, subst, if◌then◌else◌}
 use Rattle.exec_core.specs.Block.{Name, Now}
 use Rattle.list_core.specs.Lists.{IsIn}
-use Rattle.exec_core.specs.Paths.{BodySkips}
+use Rattle.exec_core.specs.Paths.{BodySkips, SomeBit}
+use Rattle.exec_core.specs.Design.{width_in}
 use Rattle.exec_core.specs.Run.{IsTarget}
 use Rattle.list_core.proofs.Lists.{each_member, each_from}
 use Rattle.list_core.proofs.Options.{none_if}
@@ -41,14 +42,14 @@ all_assigned b comb e line x i =
     (none_if (body_skips b.body x) (Latch (spot b.line x)) None (each_member (λ p. latch_at b p ≡ None) (driven_in b) (none_found (latch_at b) (driven_in b) none) (line, x) i)).0
 
 no_latch : (d : Design) (i : ℕ) (r : Instance) (v : Variant) (b : Block) → Stands d i r v → IsClean d.variants v → IsIn b v.blocks → (x : Name)
-    → IsTarget (processes_of d) (process i v.signals b) x → BodySkips (body_of b.clocked b.body) (Now x) → ⊥
+    → IsTarget (processes_of d) (process i v.signals b) x → SomeBit (width_in (processes_of d) (process i v.signals b) x) (BodySkips (body_of b.clocked b.body) (Now x)) → ⊥
 no_latch d i r v b s c at x target path = by_statement (set_by b.clocked x b.body target.0)
   where
     by_kind : (s : Stmt) → IsIn s (statements b.body) → Sets b.clocked x s → ⊥
     by_kind (Assign slot line gens y e) here sets =
         let off = each_from (IsOff b.clocked x) (statements b.body) (λ t j. off_comb b.clocked x sets.0 t) in
         let found : IsIn (line, x) (driven_in b) = subst (λ z. IsIn (line, z) (driven_in b)) sets.1 (assignment_in (statements b.body) slot line gens y e here) in
-        true≢false (sym (skip_body b.clocked x b.body off path) ∙ all_assigned b sets.0 (each_member (λ k. latch_in k ≡ None) v.blocks (none_found latch_in v.blocks c.no_latch) b at) line x found)
+        true≢false (sym (skip_body b.clocked x b.body off path.0 path.2) ∙ all_assigned b sets.0 (each_member (λ k. latch_in k ≡ None) v.blocks (none_found latch_in v.blocks c.no_latch) b at) line x found)
     by_kind (Let slot line gens y e) here sets =
         let_no_signal v b at c.apart slot line gens y e here (subst (λ z. named any_kind v.signals z ≡ true) (sym sets) (sym (signals_named d i r v s x) ∙ target.1))
     by_kind (If slot line gens t first second) here sets = sets

@@ -67,10 +67,10 @@ FitsStmt good F (Let slot line gens x e) = HasTree good F e (F x)
 FitsStmt good F (If slot line gens c first second) = HasTree good F c 1
 
 -- a let is good
-abbrev pub LetIsGood : (Name → Type 0) → Stmt → Type 0
-LetIsGood good (Assign slot line gens x e) = Unit {0}
-LetIsGood good (Let slot line gens x e) = good x
-LetIsGood good (If slot line gens c first second) = Unit {0}
+abbrev pub LetIsGood : (Name → Type 0) → (Name → ℕ) → Stmt → Type 0
+LetIsGood good F (Assign slot line gens x e) = Unit {0}
+LetIsGood good F (Let slot line gens x e) = HasTree good F e (F x) → good x
+LetIsGood good F (If slot line gens c first second) = Unit {0}
 
 -- what is known before statements: the widths of the checks, those of execution and those in the end
 pub record IsAt (scope : Scope) (assigned lets taken outputs : Known) (W : Widths) (E F : processes.Widths) (good : Name → Type 0) (list : List Stmt) : Type 0 where
@@ -186,7 +186,7 @@ same_behind scope assigned lets taken outputs W E F good a b e f h = record {
 }
 
 pub list_fits : (scope : Scope) (assigned lets taken outputs : Known) (W : Widths) (E F : processes.Widths) (good : Name → Type 0) (list : List Stmt)
-    → IsAt scope assigned lets taken outputs W E F good list → EachOf (LetIsGood good) list → unknown_among scope assigned lets list ≡ None → mismatch_among W list ≡ None
+    → IsAt scope assigned lets taken outputs W E F good list → EachOf (LetIsGood good F) list → unknown_among scope assigned lets list ≡ None → mismatch_among W list ≡ None
     → EachOf (λ s. bad_stmt s ≡ None) list → EachOf (λ s. unknown_port_in outputs s ≡ None) list → EachOf (FitsStmt good F) list
 list_fits scope assigned lets taken outputs W E F good [] h g u m s p = tt
 list_fits scope assigned lets taken outputs W E F good (Assign slot line gens x e ∷ rest) h g u m s p =
@@ -201,7 +201,7 @@ list_fits scope assigned lets taken outputs W E F good (Let slot line gens x e �
     let width = earlier_left (stmt_mismatch W t) _ m in (
       let_fits scope assigned lets taken outputs W E F good slot line gens x e rest h here width s.0 p.0,
       list_fits scope assigned (with x lets) (with x taken) outputs (put_let x (width_in W e) W) (put x (width_of E (tree_of e)) E) F good rest
-          (let_behind scope assigned lets taken outputs W E F good slot line gens x e rest h here width s.0 p.0 g.0) g.1
+          (let_behind scope assigned lets taken outputs W E F good slot line gens x e rest h here width s.0 p.0 (g.0 (let_fits scope assigned lets taken outputs W E F good slot line gens x e rest h here width s.0 p.0))) g.1
           (earlier_right (unknown_in scope assigned lets t) _ u) (earlier_right (stmt_mismatch W t) _ m) s.1 p.1,
     )
 list_fits scope assigned lets taken outputs W E F good (If slot line gens c first second ∷ rest) h g u m s p =

@@ -23,3 +23,5 @@ pub mod Ready
 pub mod Settling
 pub mod Sampled
 pub mod Orders
+pub mod Wide
+pub mod Whole

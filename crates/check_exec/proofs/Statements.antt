@@ -1,5 +1,5 @@
 -- The statements of a body, and those of the block that it is translated to.
-use Rattle.std.proofs.Common.{◌≡◌, Bool, true, false, true≢false, bytes_eq, List, ◌∷◌, ◌++◌, inl, inr, refl, sym, ap, ◌∙◌, subst}
+use Rattle.std.proofs.Common.{◌≡◌, ℕ, ◌&&◌, Bool, true, false, true≢false, bytes_eq, List, ◌∷◌, ◌++◌, inl, inr, refl, sym, ap, ◌∙◌, subst}
 use Rattle.std.proofs.lemmas.Bool.{or_cases, or_left, or_right, and_from, not_from_false}
 use Rattle.exec_core.specs.Block.{Name, Now, same_key, assigns, body_assigns}
 use Rattle.list_core.specs.Lists.{EachOf, IsIn}
@@ -94,23 +94,27 @@ IsOff clocked y (Assign slot line gens x e) = clocked ≡ true → bytes_eq y x 
 IsOff clocked y (Let slot line gens x e) = Unit {0}
 IsOff clocked y (If slot line gens c first second) = Unit {0}
 
+plain : (b : Bool) → (b && true) ≡ false → b ≡ false
+plain true e = e
+plain false e = refl
+
 -- a path of the translated statements that does not assign a name is one of the statements
 mutual
-  pub skip_stmt : (clocked : Bool) (y : Name) (s : Stmt) → EachOf (IsOff clocked y) (s ∷ inside s) → Skips (stmt_of clocked s) (Now y) → skips s y ≡ true
-  skip_stmt true y (Assign slot line gens x e) off h = not_from_false (bytes_eq y x) (off.0 refl)
-  skip_stmt false y (Assign slot line gens x e) off h = not_from_false (bytes_eq y x) (eq_turned y x ∙ h)
-  skip_stmt clocked y (Let slot line gens x e) off h = not_from_false (bytes_eq y x) (eq_turned y x ∙ h)
-  skip_stmt clocked y (If slot line gens c first second) off (inl h) =
-      or_left (body_skips first y) (else_skips second y) (skip_body clocked y first (each_left (IsOff clocked y) (statements first) (else_statements second) off.1) h)
-  skip_stmt clocked y (If slot line gens c first second) off (inr h) =
-      or_right (body_skips first y) (else_skips second y) (skip_else clocked y second (each_right (IsOff clocked y) (statements first) (else_statements second) off.1) h)
+  pub skip_stmt : (clocked : Bool) (y : Name) (s : Stmt) → EachOf (IsOff clocked y) (s ∷ inside s) → (i : ℕ) → Skips (stmt_of clocked s) (Now y) i → skips s y ≡ true
+  skip_stmt true y (Assign slot line gens x e) off i h = not_from_false (bytes_eq y x) (off.0 refl)
+  skip_stmt false y (Assign slot line gens x e) off i h = not_from_false (bytes_eq y x) (eq_turned y x ∙ plain (bytes_eq x y) h)
+  skip_stmt clocked y (Let slot line gens x e) off i h = not_from_false (bytes_eq y x) (eq_turned y x ∙ plain (bytes_eq x y) h)
+  skip_stmt clocked y (If slot line gens c first second) off i (inl h) =
+      or_left (body_skips first y) (else_skips second y) (skip_body clocked y first (each_left (IsOff clocked y) (statements first) (else_statements second) off.1) i h)
+  skip_stmt clocked y (If slot line gens c first second) off i (inr h) =
+      or_right (body_skips first y) (else_skips second y) (skip_else clocked y second (each_right (IsOff clocked y) (statements first) (else_statements second) off.1) i h)
 
-  pub skip_body : (clocked : Bool) (y : Name) (b : Body) → EachOf (IsOff clocked y) (statements b) → BodySkips (body_of clocked b) (Now y) → body_skips b y ≡ true
-  skip_body clocked y Done off h = refl
-  skip_body clocked y (Then s rest) off h =
-      and_from (skips s y) (body_skips rest y) (skip_stmt clocked y s (each_left (IsOff clocked y) (s ∷ inside s) (statements rest) off) h.0)
-      (skip_body clocked y rest (each_right (IsOff clocked y) (s ∷ inside s) (statements rest) off) h.1)
+  pub skip_body : (clocked : Bool) (y : Name) (b : Body) → EachOf (IsOff clocked y) (statements b) → (i : ℕ) → BodySkips (body_of clocked b) (Now y) i → body_skips b y ≡ true
+  skip_body clocked y Done off i h = refl
+  skip_body clocked y (Then s rest) off i h =
+      and_from (skips s y) (body_skips rest y) (skip_stmt clocked y s (each_left (IsOff clocked y) (s ∷ inside s) (statements rest) off) i h.0)
+      (skip_body clocked y rest (each_right (IsOff clocked y) (s ∷ inside s) (statements rest) off) i h.1)
 
-  pub skip_else : (clocked : Bool) (y : Name) (b : Else) → EachOf (IsOff clocked y) (else_statements b) → BodySkips (else_of clocked b) (Now y) → else_skips b y ≡ true
-  skip_else clocked y NoElse off h = refl
-  skip_else clocked y (Otherwise body) off h = skip_body clocked y body off h
+  pub skip_else : (clocked : Bool) (y : Name) (b : Else) → EachOf (IsOff clocked y) (else_statements b) → (i : ℕ) → BodySkips (else_of clocked b) (Now y) i → else_skips b y ≡ true
+  skip_else clocked y NoElse off i h = refl
+  skip_else clocked y (Otherwise body) off i h = skip_body clocked y body off i h

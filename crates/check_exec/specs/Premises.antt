@@ -4,7 +4,7 @@ use Rattle.bv_core.specs.Value.{Bits}
 use Rattle.exec_core.specs.Block.{Name, Now}
 use Rattle.list_core.specs.Lists.{EachOf, AreApart}
 use Rattle.exec_core.specs.Design.{driver_of, signals_of, width_in}
-use Rattle.exec_core.specs.Paths.{BodySkips, Checked}
+use Rattle.exec_core.specs.Paths.{BodySkips, SomeBit, Checked}
 use Rattle.exec_core.specs.Whole.{Place, IsOrder}
 use Rattle.exec_core.specs.Run.{IsTarget, slots_in}
 use Rattle.exec_core.specs.Accepted.{Accepted, source_count, LinkFits, GivenFits, OriginsApart}
@@ -26,7 +26,7 @@ SlotsAreApart = (d : Design) → IsDesign d → (i : ℕ) → AreApart (slots_in
 -- no path of a block leaves a target unassigned
 abbrev pub NoLatchIsLeft : Type 0
 NoLatchIsLeft =
-    (d : Design) → IsSound d → EachOf (λ b. (x : Name) → IsTarget (processes_of d) b x → BodySkips b.body (Now x) → ⊥) (processes_of d).processes
+    (d : Design) → IsSound d → EachOf (λ b. (x : Name) → IsTarget (processes_of d) b x → SomeBit (width_in (processes_of d) b x) (BodySkips b.body (Now x)) → ⊥) (processes_of d).processes
 
 -- what is given is a signal; the inputs of the top have widths from 1 to 128, and a register starts with a value of its width
 abbrev pub GivensFit : Type 0

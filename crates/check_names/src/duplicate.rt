@@ -67,18 +67,13 @@ fn put_child_names<'a>(
 }
 
 /// Puts the name of a `let` behind those that are there.
-#[tactic(auto, using(design_core::proofs::Views::design_views))]
 fn put_let<'a>(found: &mut Vec<(u32, &'a [u8])>, stmt: &'a Stmt) -> Result<(), NoMemory>
     ensures { OnOk result (things_at found.new.items ≡ things_at found.old.items ++ lets_in (stmt_of stmt.now ∷ [])) }
 {
-    match stmt {
-        Stmt::Assign { .. } => Ok(()),
-        Stmt::Let { line, name, .. } => {
-            found.push((*line, name.bytes()))?;
-            Ok(())
-        }
-        Stmt::If { .. } => Ok(()),
+    if let Some(name) = stmt.let_name() {
+        found.push((stmt.line(), name))?;
     }
+    Ok(())
 }
 
 /// The lets of statements, each with its line.

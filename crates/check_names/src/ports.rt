@@ -74,24 +74,10 @@ fn unknown_output(
 }
 
 /// Refuses a statement, without those inside it.
-#[tactic(auto, using(design_core::proofs::Views::design_views))]
 fn unknown_port_in(alloc: Global, outputs: &NameSet, stmt: &Stmt) -> Result<(), CheckFault>
     ensures { Tells result (unknown_port_in (has outputs.now) (stmt_of stmt.now)) }
 {
-    match stmt {
-        Stmt::Assign { line, value, .. } => {
-            unknown_output(alloc, outputs, *line, value)?;
-            Ok(())
-        }
-        Stmt::Let { line, value, .. } => {
-            unknown_output(alloc, outputs, *line, value)?;
-            Ok(())
-        }
-        Stmt::If { line, test, .. } => {
-            unknown_output(alloc, outputs, *line, test)?;
-            Ok(())
-        }
-    }
+    unknown_output(alloc, outputs, stmt.line(), stmt.value())
 }
 
 /// The same of statements in order.

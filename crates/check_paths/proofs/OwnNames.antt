@@ -4,39 +4,14 @@ use Rattle.std.specs.Borrow.{Bor}
 use Rattle.std.proofs.lemmas.List.{drop_more}
 use Rattle.std.proofs.Math.ListN.{drop_of_length-le}
 use Rattle.design_core.specs.declared.statement.Stmt as code_stmt
-use Rattle.design_core.specs.Design.{Stmt, Assign, Let, If, Body, Done, Then, Else, NoElse, Otherwise, Block}
-use Rattle.design_core.specs.Slots.{let_of, lets_of, else_lets}
+use Rattle.design_core.specs.Design.{Stmt, Assign, Let, If, Block}
 use Rattle.names.specs.Known.{Name, Known, has, with, none}
-use Rattle.design_core.specs.Statements.{statements, inside, else_statements, stmt_at, stmts_at}
+use Rattle.design_core.specs.Statements.{statements, stmt_at, stmts_at}
 use Rattle.check_core.specs.Drivers.{assignments, drives}
 use Rattle.check_core.specs.Paths.{own}
-use Rattle.check_paths.specs.Walked.{own_after, own_among, let_names}
-
--- ---- the lets of a body are those of its statements
-
-names_both : (a b : List Stmt) → let_names (a ++ b) ≡ let_names a ++ let_names b
-names_both [] b = refl
-names_both (Assign slot line gens x e ∷ a) b = names_both a b
-names_both (Let slot line gens x e ∷ a) b = ap (λ l. x ∷ l) (names_both a b)
-names_both (If slot line gens c first second ∷ a) b = names_both a b
-
-mutual
-  names_of : (s : Stmt) (rest : List Stmt) → let_names (s ∷ (inside s ++ rest)) ≡ let_of s ++ let_names rest
-  names_of (Assign slot line gens x e) rest = refl
-  names_of (Let slot line gens x e) rest = refl
-  names_of (If slot line gens c first second) rest =
-      names_both (statements first ++ else_statements second) rest
-      ∙ ap (λ l. l ++ let_names rest) (names_both (statements first) (else_statements second))
-      ∙ ap (λ l. (l ++ let_names (else_statements second)) ++ let_names rest) (names_in first)
-      ∙ ap (λ l. (lets_of first ++ l) ++ let_names rest) (names_else second)
-
-  names_in : (b : Body) → let_names (statements b) ≡ lets_of b
-  names_in Done = refl
-  names_in (Then s rest) = names_of s (statements rest) ∙ ap (λ l. let_of s ++ l) (names_in rest)
-
-  names_else : (e : Else) → let_names (else_statements e) ≡ else_lets e
-  names_else NoElse = refl
-  names_else (Otherwise b) = names_in b
+use Rattle.design_core.specs.Heads.{let_names}
+use Rattle.design_core.proofs.LetNames.{names_in}
+use Rattle.check_paths.specs.Walked.{own_after, own_among}
 
 -- ---- what statements put in
 
@@ -75,8 +50,10 @@ among false known [] y = end (known y)
     end false = refl
 among true known (Assign slot line gens x e ∷ rest) y = among true known rest y
 among false known (Assign slot line gens x e ∷ rest) y = among false (with x known) rest y ∙ behind (known y) (bytes_eq y x) (has (let_names rest) y) (drives (assignments rest) y)
-among clocked known (Let slot line gens x e ∷ rest) y = among clocked (with x known) rest y ∙ front (known y) (bytes_eq y x) (has (let_names rest) y) (not clocked && drives (assignments rest) y)
-among clocked known (If slot line gens c first second ∷ rest) y = among clocked known rest y
+among true known (Let slot line gens x e ∷ rest) y = among true (with x known) rest y ∙ front (known y) (bytes_eq y x) (has (let_names rest) y) false
+among false known (Let slot line gens x e ∷ rest) y = among false (with x known) rest y ∙ front (known y) (bytes_eq y x) (has (let_names rest) y) (drives (assignments rest) y)
+among true known (If slot line gens c first second ∷ rest) y = among true known rest y
+among false known (If slot line gens c first second ∷ rest) y = among false known rest y
 
 pub own_all : (b : Block) → own_among b.clocked none (statements b.body) ≡ own b
 own_all b = λ i y. (among b.clocked none (statements b.body) y ∙ ap (λ (l : List Name). has l y || (not b.clocked && drives (assignments (statements b.body)) y)) (names_in b.body)) i

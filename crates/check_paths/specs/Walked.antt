@@ -1,11 +1,12 @@
 -- What is assigned on every path so far, while a block is walked.
 use Rattle.std.specs.Prelude.{ℕ, Bool, not, ◌||◌, ◌&&◌, if◌then◌else◌, List, [], ◌∷◌, Option}
-use Rattle.design_core.specs.Design.{Stmt, Assign, Let, If, Body, Else}
+use Rattle.design_core.specs.Design.{Stmt, Body, Else}
 use Rattle.check_core.specs.declared.fault.CheckFault.{CheckFault}
 use Rattle.check_core.specs.declared.fault.CheckFault.TheVariants.{Latch}
-use Rattle.names.specs.Known.{Name, Known, with}
+use Rattle.names.specs.Known.{Known}
 use Rattle.check_core.specs.Faults.{spot}
-use Rattle.check_core.specs.Names.{unless_known}
+use Rattle.design_core.specs.Heads.{let_name, target_name}
+use Rattle.check_core.specs.Names.{unless_known, with_name}
 use Rattle.check_core.specs.Drivers.{Drive}
 use Rattle.check_core.specs.Paths.{skips, body_skips, else_skips}
 
@@ -29,20 +30,11 @@ after_both assigned first second = λ y. assigned y || not (body_skips first y |
 
 -- the own names of statements, one after another: targets, unless the block is clocked, and lets
 abbrev pub own_after : Bool → Known → Stmt → Known
-own_after clocked known (Assign slot line gens x e) = if clocked then known else with x known
-own_after clocked known (Let slot line gens x e) = with x known
-own_after clocked known (If slot line gens c first second) = known
+own_after clocked known s = if clocked then with_name (let_name s) known else with_name (target_name s) (with_name (let_name s) known)
 
 abbrev pub own_among : Bool → Known → List Stmt → Known
 own_among clocked known [] = known
 own_among clocked known (s ∷ rest) = own_among clocked (own_after clocked known s) rest
-
--- the lets of statements, without those inside them
-abbrev pub let_names : List Stmt → List Name
-let_names [] = []
-let_names (Assign slot line gens x e ∷ rest) = let_names rest
-let_names (Let slot line gens x e ∷ rest) = x ∷ let_names rest
-let_names (If slot line gens c first second ∷ rest) = let_names rest
 
 -- a target that is not among those that every path assigns, in a block of this line
 abbrev pub left_out : Known → ℕ → Drive → Option CheckFault

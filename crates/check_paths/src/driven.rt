@@ -14,18 +14,13 @@ use std::alloc::Global;
 use text_core::NoMemory;
 
 /// Puts the target of an assignment in.
-#[tactic(auto, using(design_core::proofs::Views::design_views))]
 fn put_target(alloc: Global, assigned: &mut NameSet, stmt: &Stmt) -> Result<(), NoMemory>
     ensures { OnOk result (has assigned.new ≡ assigned_after (has assigned.old) (stmt_of stmt.now)) }
 {
-    match stmt {
-        Stmt::Assign { target, .. } => {
-            assigned.insert(alloc, target.bytes())?;
-            Ok(())
-        }
-        Stmt::Let { .. } => Ok(()),
-        Stmt::If { .. } => Ok(()),
+    if let Some(target) = stmt.target() {
+        assigned.insert(alloc, target)?;
     }
+    Ok(())
 }
 
 /// Puts the targets of statements in.

@@ -3,7 +3,9 @@
 ghost use Rattle.std.specs.Prelude.{◌≡◌, IfOk, OnOk};
 ghost use Rattle.design_core.specs.View.{block_of, stmt_of, variant_of};
 ghost use Rattle.names.specs.Known.{has};
+ghost use Rattle.design_core.specs.Heads.{name_at};
 ghost use Rattle.check_core.specs.Faults.{Tells};
+ghost use Rattle.check_core.specs.Names.{with_name};
 ghost use Rattle.design_core.specs.Statements.{stmts_at};
 ghost use Rattle.check_core.specs.Paths.{early_in_block, own, read_before_write as the_read_before_write};
 ghost use Rattle.check_paths.specs.Walked.{own_after, own_among};
@@ -15,24 +17,25 @@ use names::NameSet;
 use std::alloc::Global;
 use text_core::NoMemory;
 
+/// Puts a name in, if there is one.
+fn put_name(alloc: Global, names: &mut NameSet, name: Option<&[u8]>) -> Result<(), NoMemory>
+    ensures { OnOk result (has names.new ≡ with_name (name_at name.entry) (has names.old)) }
+{
+    if let Some(name) = name {
+        names.insert(alloc, name)?;
+    }
+    Ok(())
+}
+
 /// Puts the own name of a statement in: the target of an assignment, unless its block is clocked, or a `let`.
-#[tactic(auto, using(design_core::proofs::Views::design_views))]
 fn put_own(alloc: Global, clocked: bool, names: &mut NameSet, stmt: &Stmt) -> Result<(), NoMemory>
     ensures { OnOk result (has names.new ≡ own_after clocked (has names.old) (stmt_of stmt.now)) }
 {
-    match stmt {
-        Stmt::Assign { target, .. } => {
-            if !clocked {
-                names.insert(alloc, target.bytes())?;
-            }
-            Ok(())
-        }
-        Stmt::Let { name, .. } => {
-            names.insert(alloc, name.bytes())?;
-            Ok(())
-        }
-        Stmt::If { .. } => Ok(()),
+    put_name(alloc, names, stmt.let_name())?;
+    if !clocked {
+        put_name(alloc, names, stmt.target())?;
     }
+    Ok(())
 }
 
 /// Puts the own names of statements in.

@@ -27,20 +27,15 @@ fn assigned_in(alloc: Global, stmts: &[Stmt]) -> Result<NameSet, CheckFault>
 }
 
 /// Refuses an assignment to what is not assigned on every path.
-#[tactic(auto, using(design_core::proofs::Views::design_views))]
 fn left_out_at(alloc: Global, assigned: &NameSet, line: u32, stmt: &Stmt) -> Result<(), CheckFault>
     ensures { Tells result (first_of (left_out (has assigned.now) line) (assignments (stmt_of stmt.now ∷ []))) }
 {
-    match stmt {
-        Stmt::Assign { target, .. } => {
-            if !assigned.contains(target.bytes()) {
-                return Err(CheckFault::Latch(spot(alloc, line, target.bytes())?));
-            }
-            Ok(())
+    if let Some(target) = stmt.target() {
+        if !assigned.contains(target) {
+            return Err(CheckFault::Latch(spot(alloc, line, target)?));
         }
-        Stmt::Let { .. } => Ok(()),
-        Stmt::If { .. } => Ok(()),
     }
+    Ok(())
 }
 
 /// Refuses the first of these assignments to what is not assigned on every path.

@@ -93,18 +93,13 @@ fn children_once(alloc: Global, children: &[Child]) -> Result<(), CheckFault>
 }
 
 /// Keeps the line of an assignment.
-#[tactic(auto, using(design_core::proofs::Views::design_views))]
 fn note_stmt(alloc: Global, lines: &mut NameMap<u32>, stmt: &Stmt) -> Result<(), NoMemory>
     ensures { OnOk result (value_of lines.new ≡ all_driven (value_of lines.old) (assignments (stmt_of stmt.now ∷ []))) }
 {
-    match stmt {
-        Stmt::Assign { line, target, .. } => {
-            note(alloc, lines, *line, target.bytes())?;
-            Ok(())
-        }
-        Stmt::Let { .. } => Ok(()),
-        Stmt::If { .. } => Ok(()),
+    if let Some(target) = stmt.target() {
+        note(alloc, lines, stmt.line(), target)?;
     }
+    Ok(())
 }
 
 /// Keeps the lines of assignments in order.
@@ -118,18 +113,13 @@ fn note_stmts(alloc: Global, lines: &mut NameMap<u32>, stmts: &[&Stmt]) -> Resul
 }
 
 /// Refuses an assignment to what is driven already.
-#[tactic(auto, using(design_core::proofs::Views::design_views))]
 fn second_stmt(alloc: Global, lines: &NameMap<u32>, stmt: &Stmt) -> Result<(), CheckFault>
     ensures { Tells result (first_of (second_drive (value_of lines.now)) (assignments (stmt_of stmt.now ∷ []))) }
 {
-    match stmt {
-        Stmt::Assign { line, target, .. } => {
-            second(alloc, lines, *line, target.bytes())?;
-            Ok(())
-        }
-        Stmt::Let { .. } => Ok(()),
-        Stmt::If { .. } => Ok(()),
+    if let Some(target) = stmt.target() {
+        second(alloc, lines, stmt.line(), target)?;
     }
+    Ok(())
 }
 
 /// Refuses the first of these assignments to what is driven already.

@@ -3,8 +3,9 @@ use Rattle.std.proofs.Common.{◌≡◌, ◌≢◌, ℕ, ◌<◌, ◌≤◌, Boo
 use Rattle.std.specs.Prelude.{option_map, option_and_then, unwrap_or, find, filter}
 use Rattle.std.proofs.lemmas.Bool.{cases_Bool}
 use Rattle.std.proofs.lemmas.Option.{slice_get-get_or}
+use Rattle.tree_core.specs.Tree.{Tree}
 use Rattle.exec_core.specs.Whole.{Place, Drivers}
-use Rattle.exec_core.specs.Design.{Process, place, driver_of, links_to, assigns_to, process_tree, or_else}
+use Rattle.exec_core.specs.Design.{Process, place, driver_of, links_to, assigns_to, or_else}
 use Rattle.list_core.proofs.Options.{some_same}
 use Rattle.place_core.proofs.Signals.{is_signal}
 use Rattle.design_core.specs.Design as design
@@ -13,12 +14,12 @@ use Rattle.list_core.specs.Lists.{EachOf, IsIn, AreApart}
 use Rattle.list_core.proofs.Lists.{in_left, in_last, none_in, not_in}
 use Rattle.graph_order.specs.Graphs.{Graph}
 use Rattle.dep_order.specs.Reaching.{SignalsAfter}
-use Rattle.dep_order.specs.Wiring.{driver_in, is_met}
+use Rattle.dep_order.specs.Wiring.{driver_in, is_met, shown_tree, IsWired}
 use Rattle.place_core.specs.Linking.{Link}
 use Rattle.dep_order.specs.Joined.{IsJoined, with_drivers}
 use Rattle.place_core.specs.Orders.{Pair, signal_at, StandsFirst}
 use Rattle.place_core.specs.Numbering.{AllCounted, number_in, place_at, IsNumbering, AreCounted}
-use Rattle.dep_order.specs.Ordering.{is_met_in, DriversAreTrees, pair_of, pairs_of, marked_in, IsWiredDesign, OrdersAnswer, CyclesAnswer}
+use Rattle.dep_order.specs.Ordering.{is_met_in, shown_driver, DriversAreTrees, pair_of, pairs_of, marked_in, IsWiredDesign, OrdersAnswer, CyclesAnswer}
 use Rattle.dep_order.proofs.Joining.{apart_places, cycles_join, orders_join}
 use Rattle.place_core.proofs.Numbers.{at_within, numbered}
 
@@ -37,7 +38,7 @@ place_is d pairs n p e = ap (λ (o : Option Place). unwrap_or o (place 0 [])) e
 none_met : (links : List Link) (processes : List Process) (p : Place) → is_met links processes p ≡ false → is_some (driver_in links processes p) ≡ false
 none_met links processes p e = go (find (links_to p) links) (find (assigns_to p) processes) e
   where
-    go : (o : Option Link) (u : Option Process) → (is_some o || is_some u) ≡ false → is_some (or_else (option_map (λ (link : Link). link.1) o) (option_and_then (process_tree p) u)) ≡ false
+    go : (o : Option Link) (u : Option Process) → (is_some o || is_some u) ≡ false → is_some (or_else (option_map (λ (link : Link). link.1) o) (option_and_then (shown_tree p) u)) ≡ false
     go None None f = refl
     go None (Some b) f = absurd (true≢false f)
     go (Some l) u f = absurd (true≢false f)
@@ -45,7 +46,7 @@ none_met links processes p e = go (find (links_to p) links) (find (assigns_to p)
 met_is_driven : (d : design.Design) (p : Place) → DriversAreTrees d → is_signal_of d p ≡ true → is_met_in d p ≡ is_some (driver_of (processes_of d) p)
 met_is_driven d p w s = elim (cases_Bool (is_met_in d p)) [
   | inl met ↦ met ∙ sym (w.trees p s met)
-  | inr not ↦ not ∙ sym (none_met (processes_of d).links (processes_of d).processes p not)
+  | inr not ↦ not ∙ sym (none_met (processes_of d).links (processes_of d).processes p not) ∙ ap (λ (f : Place → Option (Tree Place)). is_some (f p)) w.shown
 ]
 
 -- ---- a design
@@ -75,7 +76,7 @@ joined d all g driven counted wired trees =
       };
       driven = driven;
       met = is_met_in d;
-      wired = wired;
+      wired = subst (IsWired (length all.1) (number_in all.0) g driven (is_met_in d)) trees.shown wired;
       places = λ n low. (placed d all n w.0 low).number;
       numbered = w.2;
       over = trees.over;

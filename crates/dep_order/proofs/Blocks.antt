@@ -5,7 +5,7 @@ use Rattle.std.proofs.lemmas.Bool.{cases_Bool}
 use Rattle.std.proofs.lemmas.List.{drop_more, drop_all}
 use Rattle.tree_core.specs.Tree.{Leaf}
 use Rattle.exec_core.specs.Block.{Name, Now}
-use Rattle.exec_core.specs.Exec.{start}
+use Rattle.exec_core.specs.Shown.{shown_start}
 use Rattle.design_core.specs.Design as design
 use Rattle.design_exec.specs.Processes as processes
 use Rattle.graph_order.specs.Graphs.{Graph, IsGraph}
@@ -66,21 +66,21 @@ pub signal_stands : (signals : ℕ) (g : Graph) (number : Numbers) (x : Name) (o
 signal_stands signals g number x None e all = stand_unknown signals g number x e
 signal_stands signals g number x (Some n) e all = stand_signal signals g number x n e (all x n e)
 
-tree_here : (b : design.Block) (x : Name) → owns b x ≡ true → start (processes.body_of b.clocked b.body) (λ (y : Name). Leaf y) (Now x) ≡ None
+tree_here : (b : design.Block) (x : Name) → owns b x ≡ true → shown_start (processes.body_of b.clocked b.body) (Now x) ≡ None
 tree_here b x e = ap (λ (c : Bool). if c then None else Some (Leaf x)) e
 
-tree_off : (b : design.Block) (x : Name) → owns b x ≡ false → start (processes.body_of b.clocked b.body) (λ (y : Name). Leaf y) (Now x) ≡ Some (Leaf x)
+tree_off : (b : design.Block) (x : Name) → owns b x ≡ false → shown_start (processes.body_of b.clocked b.body) (Now x) ≡ Some (Leaf x)
 tree_off b x e = ap (λ (c : Bool). if c then None else Some (Leaf x)) e
 
 start_stands : (signals : ℕ) (g : Graph) (number : Numbers) (b : design.Block) → AreSignals signals number →
-    AllStand signals g number (readings (owns b) number no_versions) (start (processes.body_of b.clocked b.body) (λ (y : Name). Leaf y))
+    AllStand signals g number (readings (owns b) number no_versions) (shown_start (processes.body_of b.clocked b.body))
 start_stands signals g number b all x =
     elim (cases_Bool (owns b x)) [
       | inl here ↦
-          subst (λ (o : Option (List ℕ)). Stand signals g number o (start (processes.body_of b.clocked b.body) (λ (y : Name). Leaf y) (Now x))) (sym (start_here (owns b) number x here))
+          subst (λ (o : Option (List ℕ)). Stand signals g number o (shown_start (processes.body_of b.clocked b.body) (Now x))) (sym (start_here (owns b) number x here))
           (subst (Stand signals g number None) (sym (tree_here b x here)) tt)
       | inr off ↦
-          subst (λ (o : Option (List ℕ)). Stand signals g number o (start (processes.body_of b.clocked b.body) (λ (y : Name). Leaf y) (Now x))) (sym (start_off (owns b) number x off))
+          subst (λ (o : Option (List ℕ)). Stand signals g number o (shown_start (processes.body_of b.clocked b.body) (Now x))) (sym (start_off (owns b) number x off))
           (subst (Stand signals g number (Some (listed (number x)))) (sym (tree_off b x off)) (signal_stands signals g number x (number x) refl all))
     ]
 
@@ -103,4 +103,4 @@ ends_stand own number g h before ends b is none_yet f signals low all x e =
     let g' : FollowedBlock (owns b) number g no_versions h ends b =
     subst (λ (v : Versions). FollowedBlock (owns b) number g v h ends b) none_yet (subst (λ (k : Known). FollowedBlock k number g before h ends b) is f) in
     subst (λ (o : Option (List ℕ)). Stand signals h number o (end_trees b (Now x))) (own_reads (owns b) number ends x e)
-    (g'.stand signals (start (processes.body_of b.clocked b.body) (λ (y : Name). Leaf y)) low (start_stands signals g number b all) x)
+    (g'.stand signals (shown_start (processes.body_of b.clocked b.body)) low (start_stands signals g number b all) x)

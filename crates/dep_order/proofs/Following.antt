@@ -7,7 +7,8 @@ use Rattle.std.proofs.lemmas.Slice.Eq.{bytes_eq-Decides}
 use Rattle.tree_core.specs.Tree.{Tree, Mux}
 use Rattle.exec_core.specs.Block.{Name, Now}
 use Rattle.exec_core.specs.Exec.{Env, on_three}
-use Rattle.exec_core.specs.Trees.{tree_in, merged}
+use Rattle.exec_core.specs.Trees.{tree_in}
+use Rattle.exec_core.specs.Shown.{shown_merged}
 use Rattle.design_core.specs.declared.statement.Stmt as code_stmt
 use Rattle.design_core.specs.declared.expr.Expr as code_expr
 use Rattle.design_core.specs.declared.statement.Stmt.TheVariants as code_stmts
@@ -215,11 +216,11 @@ followed_if own number g0 g1 g2 g3 g4 v0 v1 v2 v3 test names clocked c first sec
     chosen : (trees : Env (Tree Name)) (x : Name) → has names x ≡ true →
         branches clocked c first second trees (Now x) ≡ on_three Mux (tree_in (processes.tree_of c) trees) (step_in clocked first trees (Now x)) (step_else clocked second trees (Now x))
     chosen trees x e =
-        ap (λ (b : Bool). merged b (tree_in (processes.tree_of c) trees) (step_in clocked first trees (Now x)) (step_else clocked second trees (Now x)) (trees (Now x))) (is_assigned x true e)
+        ap (λ (b : Bool). shown_merged b (tree_in (processes.tree_of c) trees) (step_in clocked first trees (Now x)) (step_else clocked second trees (Now x)) (trees (Now x))) (is_assigned x true e)
 
     kept_tree : (trees : Env (Tree Name)) (x : Name) → has names x ≡ false → branches clocked c first second trees (Now x) ≡ trees (Now x)
     kept_tree trees x e =
-        ap (λ (b : Bool). merged b (tree_in (processes.tree_of c) trees) (step_in clocked first trees (Now x)) (step_else clocked second trees (Now x)) (trees (Now x))) (is_assigned x false e)
+        ap (λ (b : Bool). shown_merged b (tree_in (processes.tree_of c) trees) (step_in clocked first trees (Now x)) (step_else clocked second trees (Now x)) (trees (Now x))) (is_assigned x false e)
 
 -- ---- statements one after another
 

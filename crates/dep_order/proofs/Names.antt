@@ -6,7 +6,7 @@ use Rattle.std.proofs.lemmas.Slice.Eq.{bytes_eq-Decides}
 use Rattle.tree_core.specs.Tree.{Tree}
 use Rattle.exec_core.specs.Block.{Name, Now}
 use Rattle.exec_core.specs.Whole.{Place}
-use Rattle.exec_core.specs.Design.{Process, place, moved, links_to, assigns_to, process_tree, or_else}
+use Rattle.exec_core.specs.Design.{Process, place, moved, links_to, assigns_to, or_else}
 use Rattle.design_core.specs.Design as design
 use Rattle.design_exec.specs.Processes as processes
 use Rattle.graph_order.specs.Graphs.{Graph, edges_of, IsGraph}
@@ -16,7 +16,7 @@ use Rattle.dep_order.specs.Reaching.{KeepsVersions}
 use Rattle.dep_order.specs.Standing.{Stand, StandFor, AreVertices}
 use Rattle.place_core.specs.Numbering.{Numbers, PlaceNumbers}
 use Rattle.dep_order.specs.Blocks.{Versions, single, owns, end_trees, Grown, EndsStand}
-use Rattle.dep_order.specs.Wiring.{AreNumbers, AreOf, DriverStands, IsWired, met_with, driver_with, Drives, DrivesBlock, DrivesName, DrivesNames, KeepsOthers, met_named, driver_named, BlockIsProcess, LinkIsMet}
+use Rattle.dep_order.specs.Wiring.{AreNumbers, AreOf, DriverStands, IsWired, met_with, driver_with, Drives, DrivesBlock, DrivesName, DrivesNames, KeepsOthers, met_named, driver_named, shown_tree, BlockIsProcess, LinkIsMet}
 use Rattle.place_core.specs.Linking.{Link}
 use Rattle.place_core.proofs.Targets.{has_push}
 use Rattle.dep_order.proofs.Versions.{stand_kept}
@@ -175,8 +175,8 @@ block_is_process links before i signals b p =
     let c = processes.process i signals b in (
       ap (λ (u : Option Process). is_some (find (links_to p) links) || is_some u) (find_push (assigns_to p) before c)
           ∙ process_marked (is_some (find (links_to p) links)) (find (assigns_to p) before) (assigns_to p c) c,
-      ap (λ (u : Option Process). or_else (option_map (λ (link : Link). link.1) (find (links_to p) links)) (option_and_then (process_tree p) u)) (find_push (assigns_to p) before c)
-          ∙ process_picked (option_map (λ (link : Link). link.1) (find (links_to p) links)) (process_tree p) (find (assigns_to p) before) (is_some (find (links_to p) links)) (assigns_to p c) c
+      ap (λ (u : Option Process). or_else (option_map (λ (link : Link). link.1) (find (links_to p) links)) (option_and_then (shown_tree p) u)) (find_push (assigns_to p) before c)
+          ∙ process_picked (option_map (λ (link : Link). link.1) (find (links_to p) links)) (shown_tree p) (find (assigns_to p) before) (is_some (find (links_to p) links)) (assigns_to p c) c
           (none_link (find (links_to p) links)) (link_none (find (links_to p) links)),
     )
 

@@ -4,7 +4,8 @@ use Rattle.tree_core.specs.Tree.{Tree}
 use Rattle.exec_core.specs.Block.{Name, Now}
 use Rattle.exec_core.specs.Block as blocks
 use Rattle.exec_core.specs.Exec.{Env, put, on_three}
-use Rattle.exec_core.specs.Trees.{trees_after, body_trees_after, block_trees, tree_in, merged}
+use Rattle.exec_core.specs.Trees.{tree_in}
+use Rattle.exec_core.specs.Shown.{shown_merged, shown_after, body_shown_after, block_shown_trees}
 use Rattle.design_core.specs.Design as design
 use Rattle.design_exec.specs.Processes as processes
 use Rattle.list_core.specs.Lists.{EachOf}
@@ -89,13 +90,13 @@ pub record Followed (own : Known) (number : Numbers) (g : Graph) (before : Versi
 
 -- what a block's trees are afterwards
 abbrev pub step_by : Bool → design.Stmt → Env (Tree Name) → Env (Tree Name)
-step_by clocked s = trees_after (processes.stmt_of clocked s)
+step_by clocked s = shown_after (processes.stmt_of clocked s)
 
 abbrev pub step_in : Bool → design.Body → Env (Tree Name) → Env (Tree Name)
-step_in clocked b = body_trees_after (processes.body_of clocked b)
+step_in clocked b = body_shown_after (processes.body_of clocked b)
 
 abbrev pub step_else : Bool → design.Else → Env (Tree Name) → Env (Tree Name)
-step_else clocked e = body_trees_after (processes.else_of clocked e)
+step_else clocked e = body_shown_after (processes.else_of clocked e)
 
 -- an assignment of a name by `=` or `let`
 abbrev pub sets : Name → Name → Bool
@@ -107,7 +108,7 @@ step_set y e trees = put (Now y) (tree_in (processes.tree_of e) trees) trees
 -- an `if` with this test and these branches
 abbrev pub branches : Bool → design.Expr → design.Body → design.Else → Env (Tree Name) → Env (Tree Name)
 branches clocked c first second trees =
-    λ y. merged (blocks.body_assigns (processes.body_of clocked first) y || blocks.body_assigns (processes.else_of clocked second) y) (tree_in (processes.tree_of c) trees)
+    λ y. shown_merged (blocks.body_assigns (processes.body_of clocked first) y || blocks.body_assigns (processes.else_of clocked second) y) (tree_in (processes.tree_of c) trees)
     (step_in clocked first trees y) (step_else clocked second trees y) (trees y)
 
 -- versions for names, one after another
@@ -127,7 +128,7 @@ owns b = assigned_in b.clocked b.body
 
 -- the trees that a block ends with
 abbrev pub end_trees : design.Block → Env (Tree Name)
-end_trees b = block_trees (processes.body_of b.clocked b.body)
+end_trees b = block_shown_trees (processes.body_of b.clocked b.body)
 
 -- the versions that own names of a block end with are vertices
 abbrev pub EndVertices : ℕ → design.Block → Versions → Type 0

@@ -19,8 +19,13 @@ use Rattle.place_core.specs.Orders.{Pair, TellsOrder}
 abbrev pub is_met_in : design.Design → Place → Bool
 is_met_in d = is_met (processes_of d).links (processes_of d).processes
 
--- a signal to which a link goes or that a process assigns has a tree, and each tree is one of signals
+-- what drives a signal, by the links of a design and the shown trees of its processes
+abbrev pub shown_driver : design.Design → Place → Option (Tree Place)
+shown_driver d = driver_in (processes_of d).links (processes_of d).processes
+
+-- what is shown are the drivers; a signal to which a link goes or that a process assigns has a tree, and each tree is one of signals
 pub record DriversAreTrees (d : design.Design) : Type 0 where
+  pub shown : shown_driver d ≡ driver_of (processes_of d)
   pub trees : (p : Place) → is_signal_of d p ≡ true → is_met_in d p ≡ true → is_some (driver_of (processes_of d) p) ≡ true
   pub over : (p : Place) (t : Tree Place) → driver_of (processes_of d) p ≡ Some t → OverSignals (is_signal_of d) t
 
@@ -37,14 +42,14 @@ marked_in marks vs = filter (λ v. slice_index_or marks v false) vs
 
 -- a graph in which each signal of a design has edges to what drives it
 abbrev pub IsWiredDesign : design.Design → AllCounted → Graph → List Bool → Type 0
-IsWiredDesign d all g driven = IsWired (length all.1) (number_in all.0) g driven (is_met_in d) (driver_of (processes_of d))
+IsWiredDesign d all g driven = IsWired (length all.1) (number_in all.0) g driven (is_met_in d) (shown_driver d)
 
 -- what a call does that drives all signals, which nothing drives yet, by the links and processes of a design
 abbrev pub DrivesDesign : Graph → List Bool → Graph → List Bool → List Numbers → design.Design → Type 0
 DrivesDesign g driven h marked all d =
     (signals : ℕ) → signals ≤ length g → AreNumbers signals (number_in all) →
     IsWired signals (number_in all) g driven (is_met [] []) (driver_in [] []) →
-    IsWired signals (number_in all) h marked (is_met_in d) (driver_of (processes_of d))
+    IsWired signals (number_in all) h marked (is_met_in d) (shown_driver d)
 
 -- the marked ones in an order of all signals' numbers are an order of the driven signals; and a cycle is a loop
 abbrev pub OrdersAnswer : Type 0

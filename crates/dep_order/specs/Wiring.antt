@@ -3,7 +3,8 @@ use Rattle.std.specs.Prelude.{◌≡◌, ℕ, ◌<◌, ◌≤◌, ◌==◌, ◌|
 use Rattle.tree_core.specs.Tree.{Tree, Leaf}
 use Rattle.exec_core.specs.Block.{Name, Now}
 use Rattle.exec_core.specs.Whole.{Place}
-use Rattle.exec_core.specs.Design.{Process, place, moved, same_place, links_to, assigns_to, process_tree, or_else}
+use Rattle.exec_core.specs.Design.{Process, place, moved, same_place, links_to, assigns_to, or_else}
+use Rattle.exec_core.specs.Shown.{block_shown_trees}
 use Rattle.graph_order.specs.Graphs.{Graph, edges_of, IsGraph}
 use Rattle.names.specs.Known.{Known}
 use Rattle.design_core.specs.declared.variant.Signal.{Signal}
@@ -20,10 +21,14 @@ pub record AreNumbers (signals : ℕ) (number : PlaceNumbers) : Type 0 where
   pub below : (p : Place) (n : ℕ) → number p ≡ Some n → n < signals
   pub apart : (p q : Place) (n : ℕ) → number p ≡ Some n → number q ≡ Some n → p ≡ q
 
+-- the tree that a process ends with for a place, by its shown trees
+abbrev pub shown_tree : Place → Process → Option (Tree Place)
+shown_tree p b = option_map (moved b.instance) (block_shown_trees b.body (Now p.name))
+
 -- the tree that drives a place, by these links and processes: the first link to it, or the first process that assigns it
 abbrev pub driver_in : List Link → List Process → Place → Option (Tree Place)
 driver_in links processes p =
-    or_else (option_map (λ link. link.1) (find (links_to p) links)) (option_and_then (process_tree p) (find (assigns_to p) processes))
+    or_else (option_map (λ link. link.1) (find (links_to p) links)) (option_and_then (shown_tree p) (find (assigns_to p) processes))
 
 -- whether there is such a link or process
 abbrev pub is_met : List Link → List Process → Place → Bool

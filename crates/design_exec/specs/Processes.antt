@@ -71,9 +71,9 @@ target clocked x = if clocked then Next x else Now x
 
 abbrev mutual
   pub stmt_of : Bool → design.Stmt → blocks.Stmt
-  stmt_of clocked (design.Assign slot line gens x e) = blocks.Assign slot (target clocked x) (tree_of e)
-  stmt_of clocked (design.Let slot line gens x e) = blocks.Assign slot (Now x) (tree_of e)
-  stmt_of clocked (design.If slot line gens c first second) = blocks.If slot (tree_of c) (body_of clocked first) (else_of clocked second)
+  stmt_of clocked (design.Assign slot line gens x e) = blocks.Assign slot (target clocked x) None (tree_of e)
+  stmt_of clocked (design.Let slot line gens x e) = blocks.Assign slot (Now x) None (tree_of e)
+  stmt_of clocked (design.If slot line gens c first second) = blocks.If (Some slot) (tree_of c) (body_of clocked first) (else_of clocked second)
 
   pub body_of : Bool → design.Body → blocks.Body
   body_of clocked design.Done = blocks.Done

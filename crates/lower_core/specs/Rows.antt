@@ -41,7 +41,7 @@ pub record RowTold (d : Design) (n : ℕ) (nodes : List Shape) (site : Site) (i 
   pub slot : full.slot ≡ site.slot
   pub instance : full.instance ≡ i
   pub row : Row
-  pub is : row_at site.slot (block_rows (site_body site)) ≡ Some row
+  pub is : row_at site.slot (block_rows site.widths (site_body site)) ≡ Some row
   pub on : EnableTold d n nodes i row full.on
   pub cells : CellsTold d n nodes i row site.names full.cells
 

@@ -2,7 +2,7 @@
 use Rattle.std.proofs.Common.{◌≡◌, ℕ, ◌+◌, ◌<◌, ◌≤◌, Bool, true, false, ◌||◌, bytes_eq, List, [], ◌∷◌, ◌++◌, length, drop, get_or, refl, sym, ap, ◌∙◌}
 use Rattle.std.specs.Borrow.{Bor}
 use Rattle.std.proofs.lemmas.List.Folds.{list_any-append}
-use Rattle.std.proofs.lemmas.List.{drop_more, drop_all}
+use Rattle.std.proofs.lemmas.List.{append-nil, drop_more, drop_all}
 use Rattle.std.proofs.lemmas.Slice.Eq.{bytes_eq-Decides}
 use Rattle.std.proofs.Math.Bool.{or_assoc}
 use Rattle.design_core.specs.declared.statement.Stmt as code_stmt
@@ -32,16 +32,28 @@ adds_both : (clocked : Bool) (names : List Name) (a b : List Stmt) → adds_targ
 adds_both clocked names [] b = refl
 adds_both clocked names (s ∷ a) b = adds_both clocked (adds_target clocked names s) a b
 
+in_branches : (clocked : Bool) (names : List Name) (first : Body) (second : Else) (x : Name)
+    → has (adds_targets clocked names (statements first)) x ≡ (has names x || assigned_in clocked first x)
+    → has (adds_targets clocked (adds_targets clocked names (statements first)) (else_statements second)) x ≡ (has (adds_targets clocked names (statements first)) x || assigned_else clocked second x)
+    → has (adds_targets clocked names (statements first ++ else_statements second)) x ≡ (has names x || (assigned_in clocked first x || assigned_else clocked second x))
+in_branches clocked names first second x one two =
+    ap (λ (l : List Name). has l x) (adds_both clocked names (statements first) (else_statements second))
+    ∙ two
+    ∙ ap (λ (b : Bool). b || assigned_else clocked second x) one
+    ∙ or_assoc (has names x) (assigned_in clocked first x) (assigned_else clocked second x)
+
 mutual
   in_stmt : (clocked : Bool) (names : List Name) (s : Stmt) (x : Name) → has (adds_targets clocked (adds_target clocked names s) (inside s)) x ≡ (has names x || assigned_by clocked s x)
-  in_stmt true names (Assign slot line gens y e) x = or_false (has names x)
-  in_stmt false names (Assign slot line gens y e) x = has_push names y x
-  in_stmt clocked names (Let slot line gens y e) x = has_push names y x
-  in_stmt clocked names (If slot line gens c first second) x =
-      ap (λ (l : List Name). has l x) (adds_both clocked names (statements first) (else_statements second))
-      ∙ in_else clocked (adds_targets clocked names (statements first)) second x
-      ∙ ap (λ (b : Bool). b || assigned_else clocked second x) (in_body clocked names first x)
-      ∙ or_assoc (has names x) (assigned_in clocked first x) (assigned_else clocked second x)
+  in_stmt true names (Assign slot line gens y e) x = ap (λ (l : List Name). has l x) (append-nil names) ∙ or_false (has names x)
+  in_stmt false names (Assign slot line gens y e) x = ap (λ (l : List Name). has l x) (append-nil (names ++ y ∷ [])) ∙ has_push names y x
+  in_stmt true names (Let slot line gens y e) x = has_push names y x
+  in_stmt false names (Let slot line gens y e) x = ap (λ (l : List Name). has (l ++ y ∷ []) x) (append-nil names) ∙ has_push names y x
+  in_stmt true names (If slot line gens c first second) x =
+      ap (λ (l : List Name). has (adds_targets true l (statements first ++ else_statements second)) x) (append-nil names)
+      ∙ in_branches true names first second x (in_body true names first x) (in_else true (adds_targets true names (statements first)) second x)
+  in_stmt false names (If slot line gens c first second) x =
+      ap (λ (l : List Name). has (adds_targets false l (statements first ++ else_statements second)) x) (append-nil (names ++ []) ∙ append-nil names)
+      ∙ in_branches false names first second x (in_body false names first x) (in_else false (adds_targets false names (statements first)) second x)
 
   pub in_body : (clocked : Bool) (names : List Name) (b : Body) (x : Name) → has (adds_targets clocked names (statements b)) x ≡ (has names x || assigned_in clocked b x)
   in_body clocked names Done x = or_false (has names x)

@@ -2,6 +2,7 @@
 
 ghost use Rattle.std.specs.Prelude.{◌≡◌, [], ◌∷◌, ◌++◌, IfOk, OnOk};
 ghost use Rattle.design_core.specs.View.{stmt_of, body_of, else_of};
+ghost use Rattle.design_core.specs.Heads.{listed_name, name_at};
 ghost use Rattle.design_core.specs.Statements.{stmts_at, else_statements, statements as the_statements};
 ghost use Rattle.names.specs.Known.{either, has};
 ghost use Rattle.place_core.specs.Assigned.{assigned_in, assigned_else, names_at, adds_target, adds_targets};
@@ -10,32 +11,25 @@ use design_core::{Stmt, statements};
 use std::alloc::Global;
 use text_core::NoMemory;
 
-/// Puts a name behind others.
-fn push_name<'a>(names: &mut Vec<&'a [u8]>, name: &'a [u8]) -> Result<(), NoMemory>
-    ensures { OnOk result (names_at names.new.items ≡ names_at names.old.items ++ name.now ∷ []) }
+/// Puts a name behind others, if there is one.
+fn push_name<'a>(names: &mut Vec<&'a [u8]>, name: Option<&'a [u8]>) -> Result<(), NoMemory>
+    ensures { OnOk result (names_at names.new.items ≡ names_at names.old.items ++ listed_name (name_at name.entry)) }
 {
-    names.push(name)?;
+    if let Some(name) = name {
+        names.push(name)?;
+    }
     Ok(())
 }
 
 /// Puts the name behind others that a statement assigns by `=` or `let`, if it assigns one.
-#[tactic(auto, using(design_core::proofs::Views::design_views))]
 fn put_target<'a>(clocked: bool, names: &mut Vec<&'a [u8]>, stmt: &'a Stmt) -> Result<(), NoMemory>
     ensures { OnOk result (names_at names.new.items ≡ adds_target clocked (names_at names.old.items) (stmt_of stmt.now)) }
 {
-    match stmt {
-        Stmt::Assign { target, .. } => {
-            if !clocked {
-                push_name(names, target.bytes())?;
-            }
-            Ok(())
-        }
-        Stmt::Let { name, .. } => {
-            push_name(names, name.bytes())?;
-            Ok(())
-        }
-        Stmt::If { .. } => Ok(()),
+    if !clocked {
+        push_name(names, stmt.target())?;
     }
+    push_name(names, stmt.let_name())?;
+    Ok(())
 }
 
 /// The same of statements in order.

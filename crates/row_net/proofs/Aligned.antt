@@ -2,18 +2,17 @@
 use Rattle.std.proofs.Common.{◌≡◌, ℕ, Bool, true, List, [], ◌∷◌, ◌++◌, map, Some, if◌then◌else◌, inl, inr, refl, sym, ap, ap₂, ◌∙◌, subst, eq-eqb, ne_eqb}
 use Rattle.std.proofs.lemmas.List.{map-append}
 use Rattle.bv_core.specs.Operators.{flag_of}
-use Rattle.tree_core.specs.Tree.{Const, Leaf}
+use Rattle.tree_core.specs.Tree.{Const}
 use Rattle.exec_core.specs.Block.{Name, slots, body_slots}
-use Rattle.exec_core.specs.Exec.{start}
 use Rattle.list_core.specs.Lists.{IsIn, AreApart}
-use Rattle.exec_core.specs.Trees.{Row, block_rows, row_at}
+use Rattle.exec_core.specs.Trees.{Row, tree_start, block_rows, row_at}
 use Rattle.list_core.proofs.Lists.{not_in}
 use Rattle.exec_core.proofs.Slots.{row_slots, body_rows_have}
 use Rattle.design_core.specs.Design as design
 use Rattle.design_core.specs.Design.{Block, Variant}
 use Rattle.design_core.specs.Slots.{Head, heads, stmt_heads, else_heads, slots_of, scope}
-use Rattle.design_exec.specs.Processes.{body_of, stmt_of, else_of}
-use Rattle.world_core.specs.Sites.{Site, sites_in_block, site_body}
+use Rattle.design_exec.specs.Processes.{Widths, body_of, stmt_of, else_of, body_widths, signal_width}
+use Rattle.world_core.specs.Sites.{Site, sites_in_block, site_body, head_site}
 
 -- ---- the slots of a block
 
@@ -50,9 +49,9 @@ row_there (r ∷ all) apart row (inr i) =
     slot_in (q ∷ rs) row (inr i) = inr (slot_in rs row i)
 
 -- each row is the one of its slot
-pub rows_there : (b : Block) → AreApart (body_slots (body_of b.clocked b.body)) → (row : Row) → IsIn row (block_rows (body_of b.clocked b.body)) → row_at row.slot (block_rows (body_of b.clocked b.body)) ≡ Some row
-rows_there b apart row i =
-    row_there (block_rows (body_of b.clocked b.body)) (subst AreApart (sym (body_rows_have (body_of b.clocked b.body) (Some (Const (flag_of true))) (start (body_of b.clocked b.body) Leaf))) apart) row i
+pub rows_there : (W : Widths) (b : Block) → AreApart (body_slots (body_of b.clocked b.body)) → (row : Row) → IsIn row (block_rows W (body_of b.clocked b.body)) → row_at row.slot (block_rows W (body_of b.clocked b.body)) ≡ Some row
+rows_there W b apart row i =
+    row_there (block_rows W (body_of b.clocked b.body)) (subst AreApart (sym (body_rows_have W (body_of b.clocked b.body) (Some (Const (flag_of true))) (tree_start W (body_of b.clocked b.body)))) apart) row i
 
 -- ---- statements and rows side by side
 
@@ -60,7 +59,7 @@ rows_there b apart row i =
 pub record IsRowOf (names : List Name) (site : Site) (row : Row) : Type 0 where
   pub scope : site.names ≡ names
   pub slot : row.slot ≡ site.slot
-  pub is : row_at site.slot (block_rows (site_body site)) ≡ Some row
+  pub is : row_at site.slot (block_rows site.widths (site_body site)) ≡ Some row
 
 abbrev pub Aligned : List Name → List Site → List Row → Type 0
 Aligned names [] [] = Unit {0}
@@ -68,21 +67,22 @@ Aligned names [] (row ∷ rows) = ⊥
 Aligned names (site ∷ sites) [] = ⊥
 Aligned names (site ∷ sites) (row ∷ rows) = IsRowOf names site row × Aligned names sites rows
 
-abbrev site_at : ℕ → Variant → Block → Head → Site
-site_at v w b h = record { slot = h.slot; variant = v; line = h.line; gens = h.gens; block = b; names = scope w b }
-
 module _ (v : ℕ) (w : Variant) (b : Block) where
-  align : (hs : List Head) (rows : List Row) → slots_of hs ≡ row_slots rows → ((row : Row) → IsIn row rows → row_at row.slot (block_rows (body_of b.clocked b.body)) ≡ Some row) → Aligned (scope w b) (map (site_at v w b) hs) rows
+  -- the widths at its statements
+  abbrev wide : Widths
+  wide = body_widths b.body (signal_width w.signals)
+
+  align : (hs : List Head) (rows : List Row) → slots_of hs ≡ row_slots rows → ((row : Row) → IsIn row rows → row_at row.slot (block_rows wide (body_of b.clocked b.body)) ≡ Some row) → Aligned (scope w b) (map (head_site v w b) hs) rows
   align [] [] e h = tt
   align [] (row ∷ rows) e h = absurd (let no : ⊥ = cc in no)
   align (g ∷ hs) [] e h = absurd (let no : ⊥ = cc in no)
   align (g ∷ hs) (row ∷ rows) e h =
       let same : g.slot ≡ row.slot = (let z = e in cc) in
       let rest : slots_of hs ≡ row_slots rows = (let z = e in cc) in
-      (record { scope = refl; slot = sym same; is = ap (λ k. row_at k (block_rows (body_of b.clocked b.body))) same ∙ h row (inl refl) }, align hs rows rest (λ r i. h r (inr i)))
+      (record { scope = refl; slot = sym same; is = ap (λ k. row_at k (block_rows wide (body_of b.clocked b.body))) same ∙ h row (inl refl) }, align hs rows rest (λ r i. h r (inr i)))
 
-  pub block_aligned : AreApart (body_slots (body_of b.clocked b.body)) → Aligned (scope w b) (sites_in_block v w b) (block_rows (body_of b.clocked b.body))
+  pub block_aligned : AreApart (body_slots (body_of b.clocked b.body)) → Aligned (scope w b) (sites_in_block v w b) (block_rows (body_widths b.body (signal_width w.signals)) (body_of b.clocked b.body))
   block_aligned apart =
-      align (heads b.body) (block_rows (body_of b.clocked b.body))
-      (sym (body_rows_have (body_of b.clocked b.body) (Some (Const (flag_of true))) (start (body_of b.clocked b.body) Leaf) ∙ body_has b.clocked b.body))
-      (rows_there b apart)
+      align (heads b.body) (block_rows wide (body_of b.clocked b.body))
+      (sym (body_rows_have wide (body_of b.clocked b.body) (Some (Const (flag_of true))) (tree_start wide (body_of b.clocked b.body)) ∙ body_has b.clocked b.body))
+      (rows_there wide b apart)

@@ -73,15 +73,15 @@ module _ (d : Design) (n : ℕ) (order : List Place) (ok : Accepted (processes_o
     pub slots_apart : AreApart (body_slots (body_of b.clocked b.body))
     slots_apart = block_apart (processes_of d) order ok here in_processes
 
-    row_ready : (row : Row) → IsIn row (block_rows (body_of b.clocked b.body)) → RowReady ids leaves (scope v b) (name_row row)
+    row_ready : (row : Row) → IsIn row (block_rows (width_in (processes_of d) here) (body_of b.clocked b.body)) → RowReady ids leaves (scope v b) (name_row row)
     row_ready row inside =
-        let checked = (process_checked (processes_of d) order ok here in_processes).each_row row.slot row (rows_there b slots_apart row inside) in
+        let checked = (process_checked (processes_of d) order ok here in_processes).each_row row.slot row (rows_there (width_in (processes_of d) here) b slots_apart row inside) in
         enable_ready (scope v b) row row.enable refl checked.enable
         (each_from (λ x. CanHaveNode ids leaves (row.before (Now x))) (scope v b)
         (λ x at. cell_ready (width_in (processes_of d) here x) (row.before (Now x)) (checked.trees (Now x) (scope_known d i r v stands b x at))))
 
-    pub rows_ready : EachOf (RowReady ids leaves (scope v b)) (map name_row (block_rows (body_of b.clocked b.body)))
-    rows_ready = each_map (RowReady ids leaves (scope v b)) name_row (block_rows (body_of b.clocked b.body)) row_ready
+    pub rows_ready : EachOf (RowReady ids leaves (scope v b)) (map name_row (block_rows (width_in (processes_of d) (process i v.signals b)) (body_of b.clocked b.body)))
+    rows_ready = each_map (RowReady ids leaves (scope v b)) name_row (block_rows (width_in (processes_of d) here) (body_of b.clocked b.body)) row_ready
 
   -- ---- what nodes of rows tell
 

@@ -14,12 +14,12 @@ use Rattle.list_core.proofs.Options.{some_if}
 use Rattle.design_core.specs.declared.design.Instance.{Instance}
 use Rattle.design_core.specs.Design.{Variant, Design}
 use Rattle.design_core.specs.Slots.{Head, heads, scope}
-use Rattle.design_exec.specs.Processes.{Numbered, instances_of, process, processes_of}
-use Rattle.check_exec.proofs.Checks.{blocks_are_checked}
+use Rattle.design_exec.specs.Processes.{Numbered, instances_of, process, processes_of, body_widths, signal_width}
+use Rattle.check_exec.proofs.Checks.{blocks_are_checked, widths_are}
 use Rattle.check_exec.proofs.Facts.{each_map, each_flat, from_zero}
-use Rattle.check_exec.proofs.Instances.{Stands}
+use Rattle.check_exec.proofs.Instances.{Stands, clean}
 use Rattle.check_exec.proofs.Slots.{slots_are_apart}
-use Rattle.world_core.specs.Sites.{Site, sites_in_block, sites_in, sites_of, slot_count, has_slot, sites_at, sites_in_order, site_body, instances_with, Spot, spots_of, all_spots}
+use Rattle.world_core.specs.Sites.{Site, sites_in_block, sites_in, sites_of, slot_count, has_slot, sites_at, sites_in_order, site_body, instances_with, Spot, spots_of, all_spots, head_site}
 use Rattle.row_net.specs.Unset.{UnsetExactly}
 use Rattle.list_core.proofs.Listing.{map_from, flat_from, filter_from}
 use Rattle.row_net.proofs.Scopes.{process_in}
@@ -30,16 +30,18 @@ record Home (d : Design) (s : Site) : Type 0 where
   of : Variant
   at : slice_get d.variants s.variant ≡ Some of
   among : IsIn s.block of.blocks
+  widths : s.widths ≡ body_widths s.block.body (signal_width of.signals)
 
 homes : (d : Design) → EachOf (Home d) (sites_of d)
 homes d =
     each_flat (Home d) (λ (v : ℕ × Variant). sites_in v.0 v.1) (enumerate_from 0 d.variants) (λ v i.
     each_flat (Home d) (sites_in_block v.0 v.1) v.1.blocks (λ b j.
-    each_map (Home d) (λ (h : Head). record { slot = h.slot; variant = v.0; line = h.line; gens = h.gens; block = b; names = scope v.1 b }) (heads b.body) (λ h k.
+    each_map (Home d) (head_site v.0 v.1 b) (heads b.body) (λ h k.
     record {
       of = v.1;
       at = each_member (λ (q : ℕ × Variant). slice_get d.variants q.0 ≡ Some q.1) (enumerate_from 0 d.variants) (from_zero (λ (q : ℕ × Variant). slice_get d.variants q.0 ≡ Some q.1) d.variants (λ n w e. e)) v i;
       among = j;
+      widths = refl;
     })))
 
 -- and an instance of it
@@ -81,8 +83,11 @@ unset_exactly d sound spot i row at x =
     let apart : AreApart (body_slots b.body) =
     flat_map_apart (λ (c : Process). body_slots c.body) (processes_at_instance (processes_of d) spot.1) b (filter_member (λ (c : Process). c.instance == spot.1) (processes_of d).processes b among (eq-eqb spot.1 spot.1 refl))
     (slots_are_apart d sound.kept spot.1) in
-    let told = (trees_checked (signals_of (processes_of d) b) (width_in (processes_of d) b) b.body checked apart).each_row site.slot row at in
-    let slot : row.slot ≡ site.slot = row_slot site.slot (block_rows (site_body site)) row at in (
-      (λ none. unset_told (site_body site) site.slot x (subst (λ (k : ℕ). IsUnset (site_body site) k x) slot ((told.unset x).0 none))),
-      (λ is. (told.unset x).1 (subst (λ (k : ℕ). IsUnset (site_body site) k x) (sym slot) (unset_means (site_body site) site.slot x is))),
+    let wide : site.widths ≡ width_in (processes_of d) b =
+    home.widths ∙ sym (widths_are d sound spot.1 p.instance home.of site.block there (clean d sound.accepted spot.1 p.instance home.of there) home.among) in
+    let told = (trees_checked (signals_of (processes_of d) b) (width_in (processes_of d) b) b.body checked apart).each_row site.slot row
+    (subst (λ w. row_at site.slot (block_rows w (site_body site)) ≡ Some row) wide at) in
+    let slot : row.slot ≡ site.slot = row_slot site.slot (block_rows site.widths (site_body site)) row at in (
+      (λ none. unset_told site site.slot x (subst (λ w. IsUnset w (site_body site) site.slot x) (sym wide) (subst (λ (k : ℕ). IsUnset (width_in (processes_of d) b) (site_body site) k x) slot ((told.unset x).0 none)))),
+      (λ is. (told.unset x).1 (subst (λ (k : ℕ). IsUnset (width_in (processes_of d) b) (site_body site) k x) (sym slot) (subst (λ w. IsUnset w (site_body site) site.slot x) wide (unset_means site site.slot x is)))),
     )

@@ -6,13 +6,17 @@ use Rattle.std.proofs.lemmas.Option.{same_Some}
 use Rattle.bv_core.specs.declared.reference.NodeId.{NodeId}
 use Rattle.exec_core.specs.Block.{Name}
 use Rattle.list_core.specs.Lists.{EachOf}
+use Rattle.exec_core.specs.Design.{Process, width_in}
 use Rattle.exec_core.specs.Trees.{Row, block_rows}
+use Rattle.exec_core.specs.Shown.{IsShown, block_shown_rows}
 use Rattle.design_core.specs.Design.{Block, Variant}
 use Rattle.design_core.specs.Slots.{scope, lets_of}
-use Rattle.design_exec.specs.Processes.{process, processes_of, body_of, signals_in}
+use Rattle.design_exec.specs.Processes.{Widths, process, processes_of, body_of, body_widths, signal_width, signals_in}
 use Rattle.net_core.specs.Nodes.{Shape}
 use Rattle.block_net.specs.Blocks.{BlockParts, Tells}
-use Rattle.check_exec.proofs.Instances.{Stands}
+use Rattle.check_exec.proofs.Instances.{Stands, clean}
+use Rattle.check_exec.proofs.Checks.{widths_are}
+use Rattle.check_exec.proofs.Whole.{blocks_are_shown}
 use Rattle.term_net.specs.Growth.{Grown}
 use Rattle.term_net.specs.Leaves.{leaf_id, leaf_tree}
 use Rattle.term_net.specs.Memos.{Fits}
@@ -33,6 +37,7 @@ use Rattle.row_net.specs.Spots.{at_instance}
 use Rattle.row_net.specs.Told.{RowReady, RowsHave, name_row}
 use Rattle.row_net.proofs.Aligned.{Aligned, block_aligned}
 use Rattle.row_net.proofs.Checked.{rows_ready, rows_told, slots_apart}
+use Rattle.row_net.proofs.Scopes.{process_in}
 
 module _ (p : code.Parts) (h : HasParts p) (ns : List Shape) (nodes : List (Option NodeId)) (memos : List (List (Option NodeId))) (state : HasState p ns nodes memos) (all : AllHave p nodes)
     (i v : ℕ) (block : Block) (of : IsBlockOf (design_in p) i v block) (places : Name → Option ℕ) (names : List Name) (is : places ≡ names_in (all_in p) i) (named : names ≡ signal_names (signals_in (design_in p) v)) where
@@ -40,7 +45,7 @@ module _ (p : code.Parts) (h : HasParts p) (ns : List Shape) (nodes : List (Opti
   the_scope = names ++ lets_of block.body
 
   abbrev the_rows : List Row
-  the_rows = block_rows (body_of block.clocked block.body)
+  the_rows = block_shown_rows (body_of block.clocked block.body)
 
   stands : Stands (design_in p) i of.instance of.of
   stands = record { instance = of.stands; variant = ap (slice_get (design_in p).variants) of.variant ∙ of.named }
@@ -48,10 +53,23 @@ module _ (p : code.Parts) (h : HasParts p) (ns : List Shape) (nodes : List (Opti
   same_scope : scope of.of block ≡ the_scope
   same_scope = ap (λ (l : List Name). l ++ lets_of block.body) (sym (named ∙ ap (λ o. signal_names (unwrap_or (option_map (λ (w : Variant). w.signals) o) [])) of.named))
 
+  -- its rows are those of its shown trees, by the widths of its process and so by those at its statements
+  abbrev here : Process
+  here = process i (of.of).signals block
+
+  shown : IsShown (width_in (processes_of (design_in p)) here) (body_of block.clocked block.body)
+  shown = blocks_are_shown (design_in p) h.parts.sound here (process_in (design_in p) i of.instance of.of stands block of.among)
+
+  shown_there : block_rows (body_widths block.body (signal_width (of.of).signals)) (body_of block.clocked block.body) ≡ the_rows
+  shown_there =
+      ap (λ (w : Widths). block_rows w (body_of block.clocked block.body)) (sym (widths_are (design_in p) h.parts.sound i of.instance of.of block stands (clean (design_in p) h.parts.sound.accepted i of.instance of.of stands) of.among))
+      ∙ shown.rows
+
   rows_here : EachOf (RowReady (leaf_id (names_in (all_in p) i) nodes) (leaf_tree ns (names_in (all_in p) i) nodes) the_scope) (map name_row the_rows)
   rows_here =
       subst (λ l. EachOf (RowReady (leaf_id (names_in (all_in p) i) nodes) (leaf_tree ns (names_in (all_in p) i) nodes) l) (map name_row the_rows)) same_scope
-      (rows_ready (design_in p) (length p.order.now) (h.parts).told.order (accepted p h) (by_node p h) (all_in p) nodes all ns state.shared state.signals i of.instance of.of stands block of.among)
+      (subst (λ rows. EachOf (RowReady (leaf_id (names_in (all_in p) i) nodes) (leaf_tree ns (names_in (all_in p) i) nodes) (scope of.of block)) (map name_row rows)) shown.rows
+      (rows_ready (design_in p) (length p.order.now) (h.parts).told.order (accepted p h) (by_node p h) (all_in p) nodes all ns state.shared state.signals i of.instance of.of stands block of.among))
 
   pub ready : EachOf (RowReady (leaf_id places nodes) (leaf_tree ns places nodes) the_scope) (map name_row the_rows)
   ready = subst (λ (f : Name → Option ℕ). EachOf (RowReady (leaf_id f nodes) (leaf_tree ns f nodes) the_scope) (map name_row the_rows)) (sym is) rows_here
@@ -59,7 +77,8 @@ module _ (p : code.Parts) (h : HasParts p) (ns : List Shape) (nodes : List (Opti
   aligned : Aligned the_scope (sites_in_block v of.of block) the_rows
   aligned =
       subst (λ l. Aligned l (sites_in_block v of.of block) the_rows) same_scope
-      (block_aligned v of.of block (slots_apart (design_in p) (length p.order.now) (h.parts).told.order (accepted p h) (by_node p h) (all_in p) nodes all ns state.shared state.signals i of.instance of.of stands block of.among))
+      (subst (Aligned (scope of.of block) (sites_in_block v of.of block)) shown_there
+      (block_aligned v of.of block (slots_apart (design_in p) (length p.order.now) (h.parts).told.order (accepted p h) (by_node p h) (all_in p) nodes all ns state.shared state.signals i of.instance of.of stands block of.among)))
 
   sites_here : block_sites (design_in p) v block ≡ sites_in_block v of.of block
   sites_here = ap (λ o. unwrap_or (option_map (λ w. sites_in_block v w block) o) []) of.named

@@ -1,6 +1,5 @@
 -- The log of a block, effect by effect.
 use Rattle.std.proofs.Common.{◌≡◌, ℕ, zero, suc, ◌+◌, ◌<◌, Bool, true, false, ◌||◌, bytes_eq, List, [], ◌∷◌, ◌++◌, length, map, take, drop, get_or, Option, Some, None, Vec, Global, if◌then◌else◌, refl, sym, ap, ap₂, ◌∙◌, subst, append_assoc}
-use Rattle.std.specs.List.{flat_map}
 use Rattle.std.specs.Borrow.{Bor}
 use Rattle.std.proofs.lemmas.List.{append-nil, drop_more, map_push}
 use Rattle.std.proofs.lemmas.List.Folds.{list_any-append}
@@ -8,20 +7,11 @@ use Rattle.bv_core.specs.declared.reference.NodeId.{NodeId}
 use Rattle.tree_core.specs.Tree.{Tree}
 use Rattle.tree_core.specs.Tree as tree
 use Rattle.exec_core.specs.Block.{Name, Body, own}
-use Rattle.exec_core.specs.Exec.{Env, start}
-use Rattle.exec_core.specs.Trees.{block_rows}
-use Rattle.design_core.specs.Design.{Stmt, Assign, Let, If, Done, Then, Else, NoElse, Otherwise, Gens}
-use Rattle.design_core.specs.Design as design
-use Rattle.design_core.specs.declared.expr.Expr as code_expr
-use Rattle.design_core.specs.declared.statement.Stmt as code_stmt
-use Rattle.design_core.specs.declared.statement.Stmt.TheVariants as code_stmts
-use Rattle.design_core.specs.View.{stmt_of}
-use Rattle.design_core.proofs.Views.{stmt_assign, stmt_let, stmt_if}
-use Rattle.design_core.specs.Slots.{let_of, lets_of, else_lets}
+use Rattle.exec_core.specs.Exec.{Env}
+use Rattle.exec_core.specs.Shown.{shown_start, block_shown_rows}
 use Rattle.net_core.specs.Nodes.{Shape}
 use Rattle.names.specs.Known.{has}
 use Rattle.names.specs.Maps.{put_value}
-use Rattle.design_core.specs.Statements.{inside, statements, else_statements}
 use Rattle.check_exec.proofs.Facts.{eq_turned}
 use Rattle.block_net.specs.declared.key.Key as code_key
 use Rattle.block_net.specs.declared.key.Key.TheVariants as keys
@@ -36,7 +26,7 @@ use Rattle.block_net.specs.Walks.{IsHeld, held}
 use Rattle.place_core.specs.Assigned.{names_at}
 use Rattle.term_net.specs.Leaves.{leaf_tree}
 use Rattle.lower_core.specs.declared.row.FullRow.{FullRow}
-use Rattle.row_net.specs.Told.{Names, NameRow, name_row, names_in, set_name, after_step, rows_of_step, name_rows, names_by, no_own, AreHeld, let_name, Replayed, RowsPut}
+use Rattle.row_net.specs.Told.{Names, NameRow, name_row, names_in, set_name, after_step, rows_of_step, name_rows, names_by, no_own, AreHeld, Replayed, RowsPut}
 use Rattle.row_net.proofs.Growing.{names_more}
 
 -- ---- what names have
@@ -112,7 +102,7 @@ same_rows terms (Set (keys.Now x) id ∷ log) trees = same_rows terms log _
 same_rows terms (Set (keys.Next x) id ∷ log) trees = same_rows terms log _
 same_rows terms (Slot slot enable ∷ log) trees = ap (λ l. name_row (record { slot = slot; enable = tree_for terms enable; before = trees }) ∷ l) (same_rows terms log trees)
 
-starts_as : (terms : List Term) (body : Body) → names_by terms (no_own (own body)) ≡ names_in (start body tree.Leaf)
+starts_as : (terms : List Term) (body : Body) → names_by terms (no_own (own body)) ≡ names_in (shown_start body)
 starts_as terms body = λ i x. by_test x (own body x) i
   where
     by_test : (x : Name) (b : Bool) → held terms x (if b then Some None else None) ≡ (if b then None else Some (tree.Leaf x))
@@ -127,11 +117,11 @@ no_own_held terms ids f e = subst (AreHeld terms) (sym e) (λ x. by_test (f x))
     by_test false = tt
 
 -- the log tells the rows of the block
-pub block_told : (parts : BlockParts) (body : Body) (ids : Name → Option (Option TermId)) → Tells parts body → ids ≡ no_own (own body) → name_rows parts.terms parts.log (names_by parts.terms ids) ≡ map name_row (block_rows body)
+pub block_told : (parts : BlockParts) (body : Body) (ids : Name → Option (Option TermId)) → Tells parts body → ids ≡ no_own (own body) → name_rows parts.terms parts.log (names_by parts.terms ids) ≡ map name_row (block_shown_rows body)
 block_told parts body ids tells e =
     ap (λ f. name_rows parts.terms parts.log (names_by parts.terms f)) e
     ∙ ap (name_rows parts.terms parts.log) (starts_as parts.terms body)
-    ∙ same_rows parts.terms parts.log (start body tree.Leaf)
+    ∙ same_rows parts.terms parts.log (shown_start body)
     ∙ ap (map name_row) tells.rows
 
 -- ---- own names
@@ -150,37 +140,3 @@ own_next names i y ids new below at e put = put ∙ ap (put_value y.now None) e 
     each x =
         by_test (bytes_eq x y.now) (has (names_at (take i names)) x)
         ∙ ap (λ b. if b then Some None else None) (sym (list_any-append (bytes_eq x) (names_at (take i names)) (y.now ∷ [])) ∙ ap (λ l. has l x) (sym (names_more names i y below at)))
-
--- ---- lets
-
-flat_both : (a b : List Stmt) → flat_map let_name (a ++ b) ≡ flat_map let_name a ++ flat_map let_name b
-flat_both [] b = refl
-flat_both (s ∷ a) b = ap (λ l. let_name s ++ l) (flat_both a b) ∙ sym (append_assoc (let_name s) (flat_map let_name a) (flat_map let_name b))
-
-mutual
-  stmt_lets : (s : Stmt) → flat_map let_name (s ∷ inside s) ≡ let_of s
-  stmt_lets (Assign slot line gens x e) = refl
-  stmt_lets (Let slot line gens x e) = refl
-  stmt_lets (If slot line gens c first second) = flat_both (statements first) (else_statements second) ∙ ap₂ (λ a b. a ++ b) (body_lets first) (else_body_lets second)
-
-  pub body_lets : (b : design.Body) → flat_map let_name (statements b) ≡ lets_of b
-  body_lets Done = refl
-  body_lets (Then s rest) = flat_both (s ∷ inside s) (statements rest) ∙ ap₂ (λ a b. a ++ b) (stmt_lets s) (body_lets rest)
-
-  else_body_lets : (e : Else) → flat_map let_name (else_statements e) ≡ else_lets e
-  else_body_lets NoElse = refl
-  else_body_lets (Otherwise body) = body_lets body
-
--- the statements of the code
-pub let_put : (names after : List (Bor Name)) (y : Bor Name) (s : code_stmt.Stmt) (slot line : ℕ) (gens : Gens) (x : Name) (e : code_expr.Expr) → s ≡ code_stmts.Let slot line gens x e → y.now ≡ x → after ≡ names ++ y ∷ []
-    → names_at after ≡ names_at names ++ let_name (stmt_of s)
-let_put names after y s slot line gens x e is same push =
-    ap names_at push ∙ map_push (λ (r : Bor Name). r.now) names y ∙ ap (λ z. names_at names ++ z ∷ []) same
-    ∙ sym (ap (λ l. names_at names ++ l) (ap (λ t. let_name (stmt_of t)) is ∙ ap let_name (stmt_let slot line gens x e)))
-
-pub no_let_assign : (names : List Name) (s : code_stmt.Stmt) (slot line : ℕ) (gens : Gens) (x : Name) (e : code_expr.Expr) → s ≡ code_stmts.Assign slot line gens x e → names ≡ names ++ let_name (stmt_of s)
-no_let_assign names s slot line gens x e is = sym (ap (λ l. names ++ l) (ap (λ t. let_name (stmt_of t)) is ∙ ap let_name (stmt_assign slot line gens x e)) ∙ append-nil names)
-
-pub no_let_if : (names : List Name) (s : code_stmt.Stmt) (slot line : ℕ) (gens : Gens) (c : code_expr.Expr) (a : Vec code_stmt.Stmt Global) (b : Option (Vec code_stmt.Stmt Global)) → s ≡ code_stmts.If slot line gens c a b
-    → names ≡ names ++ let_name (stmt_of s)
-no_let_if names s slot line gens c a b is = sym (ap (λ l. names ++ l) (ap (λ t. let_name (stmt_of t)) is ∙ ap let_name (stmt_if slot line gens c a b)) ∙ append-nil names)

@@ -6,7 +6,6 @@ use Rattle.exec_core.specs.Block.{Name, Now}
 use Rattle.exec_core.specs.Exec.{Env}
 use Rattle.list_core.specs.Lists.{EachOf}
 use Rattle.exec_core.specs.Trees.{Row}
-use Rattle.design_core.specs.Design.{Stmt, Assign, Let, If}
 use Rattle.net_core.specs.Nodes.{Shape}
 use Rattle.net_core.specs.Builder.{Stands}
 use Rattle.block_net.specs.declared.key.Key.TheVariants as keys
@@ -70,12 +69,6 @@ no_own own x = if own x then Some None else None
 
 abbrev pub AreHeld : List Term → (Name → Option (Option TermId)) → Type 0
 AreHeld ns ids = (x : Name) → IsHeld ns (ids x)
-
--- the let of a statement, without those inside it
-abbrev pub let_name : Stmt → List Name
-let_name (Assign slot line gens x e) = []
-let_name (Let slot line gens x e) = x ∷ []
-let_name (If slot line gens c first second) = []
 
 -- ---- rows that can have nodes
 

@@ -1,67 +1,30 @@
 //! The rows of one block of one instance, replayed from the log of its walk.
 
 ghost use Rattle.std.specs.Prelude.{◌≡◌, ◌++◌, map, IfOk, OnOk};
-ghost use Rattle.std.specs.List.{flat_map};
 ghost use Rattle.list_core.specs.Lists.{EachOf};
-ghost use Rattle.exec_core.specs.Trees.{block_rows as the_rows};
+ghost use Rattle.exec_core.specs.Shown.{block_shown_rows as the_rows};
 ghost use Rattle.design_core.specs.Slots.{lets_of};
-ghost use Rattle.design_core.specs.View.{block_of, body_of, stmt_of};
+ghost use Rattle.design_core.specs.View.{block_of, body_of};
 ghost use Rattle.design_exec.specs.Processes as processes;
 ghost use Rattle.names.specs.Known.{has};
 ghost use Rattle.names.specs.Maps.{value_of};
-ghost use Rattle.design_core.specs.Statements.{stmts_at};
 ghost use Rattle.block_net.specs.Blocks.{Tells};
 ghost use Rattle.place_core.specs.Assigned.{assigned_in as the_assigned, names_at};
 ghost use Rattle.term_net.specs.Growth.{Grown};
 ghost use Rattle.term_net.specs.Leaves.{leaf_id, leaf_tree};
 ghost use Rattle.term_net.specs.Memos.{Fits};
-ghost use Rattle.row_net.specs.Told.{RowReady, RowsHave, let_name, name_row, no_own};
+ghost use Rattle.row_net.specs.Told.{RowReady, RowsHave, name_row, no_own};
 
 use crate::replay::replay;
 use block_net::{BlockTerms, TermId};
 use bv_core::NodeId;
-use design_core::{Block, Stmt, statements};
+use design_core::{Block, Stmt, lets};
 use lower_core::FullRow;
 use names::NameMap;
 use net_core::NetBuilder;
 use place_core::assigned_in;
 use std::alloc::Global;
 use text_core::NoMemory;
-
-/// Puts the name of a statement behind others, if it is a let.
-#[tactic(auto, using(design_core::proofs::Views::design_views))]
-fn put_let<'a>(names: &mut Vec<&'a [u8]>, stmt: &'a Stmt) -> Result<(), NoMemory>
-    ensures { OnOk result (names_at names.new.items ≡ names_at names.old.items ++ let_name (stmt_of stmt.now)) }
-{
-    match stmt {
-        Stmt::Let { name, .. } => {
-            names.push(name.bytes())?;
-            Ok(())
-        }
-        Stmt::Assign { .. } => Ok(()),
-        Stmt::If { .. } => Ok(()),
-    }
-}
-
-/// The names of the lets among statements.
-fn let_names<'a>(alloc: Global, stmts: &[&'a Stmt]) -> Result<Vec<&'a [u8]>, NoMemory>
-    ensures { IfOk result (λ names. names_at names.items ≡ flat_map let_name (stmts_at stmts.now)) }
-{
-    let mut names = Vec::new(alloc);
-    for stmt in stmts {
-        put_let(&mut names, stmt)?;
-    }
-    Ok(names)
-}
-
-/// The names of the lets of a body, in preorder.
-fn lets_in<'a>(alloc: Global, body: &'a [Stmt]) -> Result<Vec<&'a [u8]>, NoMemory>
-    ensures { IfOk result (λ names. names_at names.items ≡ lets_of (body_of body.now)) }
-{
-    let stmts = statements(alloc, body)?;
-    let names = let_names(alloc, &stmts)?;
-    Ok(names)
-}
 
 /// What the names of a list have before a block's first statement, of which they are the own names: nothing.
 fn without_trees(alloc: Global, names: &[&[u8]]) -> Result<NameMap<Option<TermId>>, NoMemory>
@@ -106,7 +69,7 @@ pub(crate) fn block_rows(
     ensures fits { OnOk result (Fits builder.new (value_of places.now) nodes.now terms.now.terms memo.new) }
     ensures grown { OnOk result (Grown builder.old builder.new) }
 {
-    let lets = lets_in(alloc, &block.body)?;
+    let lets = lets(alloc, &block.body)?;
     let mut held = before_first(alloc, block.clocked, &block.body)?;
     let rows = replay(
         alloc, builder, terms, places, nodes, memo, &mut held, signals, &lets, instance,

@@ -8,11 +8,11 @@ use Rattle.design_core.specs.declared.variant.Signal.{Signal}
 use Rattle.design_core.specs.Design.{Block, Variant, Design}
 use Rattle.design_core.specs.Slots.{Head, heads, lets_of, scope, slots_of}
 use Rattle.design_core.specs.WellFormed.{IsDesign, all_slots}
-use Rattle.world_core.specs.Sites.{Site, sites_in_block, sites_in, sites_of, slot_count}
+use Rattle.world_core.specs.Sites.{Site, sites_in_block, sites_in, sites_of, slot_count, head_site}
 use Rattle.lower_core.specs.Shape.{slot_part}
 use Rattle.shape_net.specs.declared.ordered.NumberedSlot.{NumberedSlot}
 use Rattle.shape_net.specs.Numbered.{numbered_head, block_slots, variant_slots, design_slots, AreNumbersBelow}
-use Rattle.shape_net.specs.Heads.{signal_name}
+use Rattle.shape_net.specs.Numbered.{signal_name}
 use Rattle.list_core.proofs.Listing.{no_more, from_in, from_length, from_apart}
 
 -- a statement with its number, without rows
@@ -25,7 +25,7 @@ number_of s = s.number
 -- ---- they are those of the design
 
 heads_numbered : (n : ℕ) (w : Variant) (b : Block) (hs : List Head)
-    → map (numbered_head n (scope w b)) hs ≡ map numbered_site (map (λ (h : Head). record { slot = h.slot; variant = n; line = h.line; gens = h.gens; block = b; names = scope w b }) hs)
+    → map (numbered_head n (scope w b)) hs ≡ map numbered_site (map (head_site n w b) hs)
 heads_numbered n w b [] = refl
 heads_numbered n w b (h ∷ hs) = ap (λ l. numbered_head n (scope w b) h ∷ l) (heads_numbered n w b hs)
 

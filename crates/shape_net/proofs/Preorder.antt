@@ -1,39 +1,16 @@
 -- The statements of a body in preorder, by what each is known by.
 use Rattle.std.proofs.Common.{◌≡◌, ℕ, ◌+◌, ◌<◌, List, [], ◌∷◌, ◌++◌, length, map, drop, get_or, Option, Vec, Global, refl, sym, ap, ap₂, ◌∙◌, append_assoc}
-use Rattle.std.specs.List.{flat_map}
-use Rattle.std.proofs.lemmas.List.{append-nil, map-append, drop_more}
+use Rattle.std.proofs.lemmas.List.{map-append, drop_more}
 use Rattle.exec_core.specs.Block.{Name}
 use Rattle.design_core.specs.declared.variant.Variant as code_variant
-use Rattle.design_core.specs.declared.expr.Expr as code_expr
-use Rattle.design_core.specs.declared.statement.Stmt as code_stmt
-use Rattle.design_core.specs.declared.statement.Stmt.TheVariants as code_stmts
-use Rattle.design_core.specs.Design.{Gens, Stmt, Assign, Let, If, Body, Done, Then, Else, NoElse, Otherwise, Block}
-use Rattle.design_core.specs.Slots.{stmt_heads, heads, else_heads, let_of, lets_of, else_lets}
-use Rattle.design_core.specs.View.{stmt_of, variant_of}
-use Rattle.design_core.proofs.Views.{stmt_assign, stmt_if}
+use Rattle.design_core.specs.Design.{Stmt, Assign, Let, If, Body, Done, Then, Else, NoElse, Otherwise, Block}
+use Rattle.design_core.specs.Slots.{stmt_heads, heads, else_heads, lets_of}
+use Rattle.design_core.specs.View.{variant_of}
 use Rattle.design_core.specs.Statements.{inside, statements, else_statements}
 use Rattle.shape_net.specs.declared.ordered.NumberedSlot.{NumberedSlot}
-use Rattle.shape_net.specs.Heads.{head_of, let_name}
+use Rattle.design_core.specs.Heads.{head_of, let_names}
+use Rattle.design_core.proofs.LetNames.{names_in}
 use Rattle.shape_net.specs.Numbered.{numbered_head, numbered_stmt, block_slots, variant_slots, design_slots}
-
-flat_both : {A B : Type 0} (f : A → List B) (xs ys : List A) → flat_map f (xs ++ ys) ≡ flat_map f xs ++ flat_map f ys
-flat_both f [] ys = refl
-flat_both f (x ∷ xs) ys = ap (λ l. f x ++ l) (flat_both f xs ys) ∙ sym (append_assoc (f x) (flat_map f xs) (flat_map f ys))
-
-mutual
-  stmt_lets : (s : Stmt) → let_name s ++ flat_map let_name (inside s) ≡ let_of s
-  stmt_lets (Assign slot line gens x e) = refl
-  stmt_lets (Let slot line gens x e) = refl
-  stmt_lets (If slot line gens c first second) = flat_both let_name (statements first) (else_statements second) ∙ ap₂ (λ a b. a ++ b) (body_lets first) (else_body_lets second)
-
-  pub body_lets : (b : Body) → flat_map let_name (statements b) ≡ lets_of b
-  body_lets Done = refl
-  body_lets (Then s rest) =
-      flat_both let_name (s ∷ inside s) (statements rest) ∙ ap₂ (λ a b. a ++ b) (stmt_lets s) (body_lets rest)
-
-  else_body_lets : (e : Else) → flat_map let_name (else_statements e) ≡ else_lets e
-  else_body_lets NoElse = refl
-  else_body_lets (Otherwise body) = body_lets body
 
 mutual
   inside_heads : (s : Stmt) → head_of s ∷ map head_of (inside s) ≡ stmt_heads s
@@ -56,10 +33,10 @@ by_heads v names [] = refl
 by_heads v names (s ∷ stmts) = ap (λ l. numbered_stmt v names s ∷ l) (by_heads v names stmts)
 
 -- the statements of a block, with its lets
-pub block_numbered : (v : ℕ) (signals : List Name) (b : Block) (stmts : List Stmt) (lets : List Name) → stmts ≡ statements b.body → lets ≡ flat_map let_name stmts
+pub block_numbered : (v : ℕ) (signals : List Name) (b : Block) (stmts : List Stmt) (lets : List Name) → stmts ≡ statements b.body → lets ≡ let_names stmts
     → map (numbered_stmt v (signals ++ lets)) stmts ≡ block_slots v signals b
 block_numbered v signals b stmts lets are named =
-    ap₂ (λ (l : List Name) (s : List Stmt). map (numbered_stmt v (signals ++ l)) s) (named ∙ ap (flat_map let_name) are ∙ body_lets b.body) are
+    ap₂ (λ (l : List Name) (s : List Stmt). map (numbered_stmt v (signals ++ l)) s) (named ∙ ap let_names are ∙ names_in b.body) are
     ∙ by_heads v (signals ++ lets_of b.body) (statements b.body)
     ∙ ap (map (numbered_head v (signals ++ lets_of b.body))) (body_heads b.body)
 
@@ -74,12 +51,3 @@ variants_next slots after all variants i w below at put was =
     ∙ ap (λ (x : code_variant.Variant). slots ++ (variant_slots i (variant_of x) ++ rest)) at
     ∙ sym (ap (λ (l : List code_variant.Variant). slots ++ design_slots i (map variant_of l)) (drop_more variants i w below))
     ∙ was
-
--- ---- the let of a statement of the code
-
-pub no_let_assign : (names : List Name) (s : code_stmt.Stmt) (slot line : ℕ) (gens : Gens) (x : Name) (e : code_expr.Expr) → s ≡ code_stmts.Assign slot line gens x e → names ≡ names ++ let_name (stmt_of s)
-no_let_assign names s slot line gens x e is = sym (ap (λ l. names ++ l) (ap (λ t. let_name (stmt_of t)) is ∙ ap let_name (stmt_assign slot line gens x e)) ∙ append-nil names)
-
-pub no_let_if : (names : List Name) (s : code_stmt.Stmt) (slot line : ℕ) (gens : Gens) (c : code_expr.Expr) (a : Vec code_stmt.Stmt Global) (b : Option (Vec code_stmt.Stmt Global)) → s ≡ code_stmts.If slot line gens c a b
-    → names ≡ names ++ let_name (stmt_of s)
-no_let_if names s slot line gens c a b is = sym (ap (λ l. names ++ l) (ap (λ t. let_name (stmt_of t)) is ∙ ap let_name (stmt_if slot line gens c a b)) ∙ append-nil names)

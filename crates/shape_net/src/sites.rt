@@ -4,53 +4,16 @@ ghost use Rattle.std.specs.Prelude.{◌≡◌, ◌++◌, ◌≤◌, length, map,
 ghost use Rattle.std.specs.List.{flat_map};
 ghost use Rattle.design_core.specs.View.{block_of, stmt_of, variant_of};
 ghost use Rattle.design_core.specs.Statements.{stmts_at};
-ghost use Rattle.shape_net.specs.Heads.{head_of};
 ghost use Rattle.shape_net.specs.Numbered.{block_slots, design_slots, numbered_stmt, variant_slots};
 
 use crate::ordered::NumberedSlot;
 use crate::parts::gens_of;
-use crate::scopes::{lets_among, scope_names, signal_names};
-use design_core::{Block, Stmt, Variant, statements};
+use crate::scopes::{scope_names, signal_names};
+use design_core::{Block, Stmt, Variant, let_names, statements};
 use gen_scope::Scope;
 use std::alloc::Global;
 use symtab::{Names, Slot};
 use text_core::{Listed, NoMemory};
-
-/// The number of a statement.
-#[tactic(auto, using(design_core::proofs::Views::design_views))]
-fn number_of(stmt: &Stmt) -> u32
-    ensures { result ≡ (head_of (stmt_of stmt.now)).slot }
-{
-    match stmt {
-        Stmt::Assign { slot, .. } => *slot,
-        Stmt::Let { slot, .. } => *slot,
-        Stmt::If { slot, .. } => *slot,
-    }
-}
-
-/// The line of a statement.
-#[tactic(auto, using(design_core::proofs::Views::design_views))]
-fn line_of(stmt: &Stmt) -> u32
-    ensures { result ≡ (head_of (stmt_of stmt.now)).line }
-{
-    match stmt {
-        Stmt::Assign { line, .. } => *line,
-        Stmt::Let { line, .. } => *line,
-        Stmt::If { line, .. } => *line,
-    }
-}
-
-/// The generator variables at a statement.
-#[tactic(auto, using(design_core::proofs::Views::design_views))]
-fn gens_at(stmt: &Stmt) -> &Scope
-    ensures { result.now ≡ (head_of (stmt_of stmt.now)).gens }
-{
-    match stmt {
-        Stmt::Assign { gens, .. } => gens,
-        Stmt::Let { gens, .. } => gens,
-        Stmt::If { gens, .. } => gens,
-    }
-}
 
 /// A statement of the variant of this number, with its own number, where these names are in scope.
 fn numbered(
@@ -61,13 +24,13 @@ fn numbered(
 ) -> Result<NumberedSlot, NoMemory>
     ensures { IfOk result (λ numbered. numbered ≡ numbered_stmt variant names.now (stmt_of stmt.now)) }
 {
-    let gens = gens_of(alloc, gens_at(stmt))?;
+    let gens = gens_of(alloc, stmt.gens())?;
     let names = names.share()?;
     Ok(NumberedSlot {
-        number: number_of(stmt),
+        number: stmt.slot(),
         slot: Slot {
             variant,
-            line: line_of(stmt),
+            line: stmt.line(),
             gens,
             names,
             rows: Listed::new(Vec::new(alloc)),
@@ -102,7 +65,7 @@ fn put_block(
     ensures { OnOk result (slots.new.items ≡ slots.old.items ++ block_slots variant signals.now (block_of block.now)) }
 {
     let stmts = statements(alloc, &block.body)?;
-    let lets = lets_among(alloc, &stmts)?;
+    let lets = let_names(alloc, &stmts)?;
     let names = scope_names(alloc, signals, &lets)?;
     put_stmts(alloc, variant, &names, &stmts, slots)?;
     Ok(())

@@ -10,7 +10,7 @@ use Rattle.design_core.specs.Design.{Design}
 use Rattle.design_core.specs.WellFormed.{IsDesign}
 use Rattle.check_core.specs.Verdict.{verdict}
 use Rattle.check_exec.specs.Premises.{IsSound}
-use Rattle.world_core.specs.Sites.{Site, site_body, sites_of, is_unset, Spot, all_spots}
+use Rattle.world_core.specs.Sites.{Site, site_body, sites_of, unset_in as unset_by, Spot, all_spots}
 use Rattle.world_core.specs.Kept.{block_row, whole_in}
 use Rattle.world_core.specs.Source.{unset_among, unset_at, tree_among, tree_before}
 use Rattle.world_laws.proofs.SitesOf.{SiteIs, sites_are, ordered, spot_is}
@@ -31,8 +31,8 @@ row_of k (r ∷ rows) (inr i) = by_test (r.slot == k) (row_of k rows i)
 -- so has a statement in its block
 block_row_of : (d : Design) (s : Site) → SiteIs d s → (row : Row) × (block_row s ≡ Some row)
 block_row_of d s is =
-    row_of s.slot (block_rows (site_body s))
-    (subst (λ l. IsIn s.slot l) (sym (body_rows_have (site_body s) _ _ ∙ body_has s.block.clocked s.block.body)) is.slot)
+    row_of s.slot (block_rows s.widths (site_body s))
+    (subst (λ l. IsIn s.slot l) (sym (body_rows_have s.widths (site_body s) _ _ ∙ body_has s.block.clocked s.block.body)) is.slot)
 
 none_mapped : {A B : Type 0} (f : A → B) (o : Option A) → (option_map f o ≡ None) ↔ (o ≡ None)
 none_mapped f None = (λ e. refl, λ e. refl)
@@ -45,7 +45,7 @@ unset_by_paths d n sound spot among x =
     let row = block_row_of d s (each_member (SiteIs d) (sites_of d) (sites_are d) s alone.among) in
     let tree : tree_before d n s.slot spot.1 x ≡ option_map (whole_in d n spot.1) (row.0.before (Now x)) =
     ap (λ l. tree_among d n l spot.1 x) alone.alone ∙ ap (λ o. option_map (whole_in d n spot.1) (option_and_then (λ (r : Row). r.before (Now x)) o)) row.1 in
-    let paths : unset_at d s.slot x ≡ is_unset (site_body s) s.slot x = ap (λ l. unset_among l s.slot x) alone.alone in
+    let paths : unset_at d s.slot x ≡ unset_by s s.slot x = ap (λ l. unset_among l s.slot x) alone.alone in
     let exactly = unset_exactly d sound spot among row.0 row.1 x in
     let mapped = none_mapped (whole_in d n spot.1) (row.0.before (Now x)) in (
       λ none. paths ∙ exactly.0 (mapped.0 (sym tree ∙ none)),

@@ -8,7 +8,7 @@ use Rattle.exec_core.specs.Block as blocks
 use Rattle.exec_core.specs.Block.{Name, Key, Now, Next}
 use Rattle.design_exec.specs.Processes.{body_of}
 use Rattle.exec_core.specs.Design.{Process, moved}
-use Rattle.exec_core.specs.Trees.{block_trees}
+use Rattle.exec_core.specs.Shown.{block_shown_trees}
 use Rattle.design_core.specs.Design as design
 use Rattle.net_core.specs.Nodes.{Shape}
 use Rattle.block_net.specs.Blocks.{BlockParts, Tells}
@@ -46,10 +46,10 @@ module _ (p : code.Parts) (h : HasParts p) where
 
   -- ---- the end of a block
 
-  pub end_now : (parts : BlockParts) (b : Process) (x : Name) → Tells parts b.body → held parts.terms x (value_of parts.names x) ≡ block_trees b.body (Now x)
+  pub end_now : (parts : BlockParts) (b : Process) (x : Name) → Tells parts b.body → held parts.terms x (value_of parts.names x) ≡ block_shown_trees b.body (Now x)
   end_now parts b x tells = ap (λ (env : Key → Option (Tree Name)). env (Now x)) tells.ends
 
-  pub end_next : (parts : BlockParts) (b : Process) (x : Name) → Tells parts b.body → held parts.terms x (value_of parts.registers x) ≡ block_trees b.body (Next x)
+  pub end_next : (parts : BlockParts) (b : Process) (x : Name) → Tells parts b.body → held parts.terms x (value_of parts.registers x) ≡ block_shown_trees b.body (Next x)
   end_next parts b x tells = ap (λ (env : Key → Option (Tree Name)). env (Next x)) tells.ends
 
   -- the terms of a process's block tell of its body
@@ -63,13 +63,13 @@ module _ (p : code.Parts) (h : HasParts p) where
   instance_of key b e = let terms = process_terms (design_in p) (blocks_in p) key b h.parts.terms e in ap (λ (c : Process). c.instance) (sym terms.is)
 
   -- what stands at the end can have a node, and its node stands for it
-  pub end_can : (nodes : List (Option NodeId)) (k : ℕ) (y : Key) (key : ProcessKey) (o : Option (Tree Name)) (ends : IsEnd p nodes k y) → slice_get p.keys.items k ≡ Some key → o ≡ block_trees ends.process.body y → CanHave p nodes key.instance o
+  pub end_can : (nodes : List (Option NodeId)) (k : ℕ) (y : Key) (key : ProcessKey) (o : Option (Tree Name)) (ends : IsEnd p nodes k y) → slice_get p.keys.items k ≡ Some key → o ≡ block_shown_trees ends.process.body y → CanHave p nodes key.instance o
   end_can nodes k y key o ends found is =
       let same : ends.key ≡ key = same_Some ends.key key (sym ends.found ∙ found) in
       let i : ends.process.instance ≡ key.instance = instance_of ends.key ends.process ends.is ∙ ap (λ (q : ProcessKey). q.instance) same in
       subst (CanHave p nodes key.instance) (sym (is ∙ ends.ends)) (subst (λ n. IsReadyBy p nodes (moved n ends.tree)) i ends.ready)
 
-  pub end_some : (new : List Shape) (nodes : List (Option NodeId)) (k : ℕ) (y : Key) (i : ℕ) (o : Option (Tree Name)) (id : Option NodeId) (ends : IsEnd p nodes k y) → o ≡ block_trees ends.process.body y → HasNodeBy p new i o id → IsSome id
+  pub end_some : (new : List Shape) (nodes : List (Option NodeId)) (k : ℕ) (y : Key) (i : ℕ) (o : Option (Tree Name)) (id : Option NodeId) (ends : IsEnd p nodes k y) → o ≡ block_shown_trees ends.process.body y → HasNodeBy p new i o id → IsSome id
   end_some new nodes k y i o id ends is has = some_id (o) id (is ∙ ends.ends) has
     where
       some_id : (o : Option (Tree Name)) (id : Option NodeId) → o ≡ Some ends.tree → HasNodeBy p new i o id → IsSome id
@@ -78,11 +78,11 @@ module _ (p : code.Parts) (h : HasParts p) where
       some_id (Some t) (Some n) e has = refl
 
   pub end_stands : (new : List Shape) (nodes : List (Option NodeId)) (k : ℕ) (y : Key) (key : ProcessKey) (o : Option (Tree Name)) (id : Option NodeId) (found : NodeId) (ends : IsEnd p nodes k y) → slice_get p.keys.items k ≡ Some key →
-      o ≡ block_trees ends.process.body y → HasNodeBy p new key.instance o id → id ≡ Some found → EndStands p new k y found
+      o ≡ block_shown_trees ends.process.body y → HasNodeBy p new key.instance o id → id ≡ Some found → EndStands p new k y found
   end_stands new nodes k y key o id found ends at is has e other b t there its tree =
       let same_key : key ≡ other = same_Some key other (sym at ∙ there) in
       let same_ends : ends.key ≡ other = same_Some ends.key other (sym ends.found ∙ there) in
       let same_process : ends.process ≡ b = same_Some ends.process b (sym ends.is ∙ ap (process_at (design_in p)) same_ends ∙ its) in
-      let o_is : o ≡ Some t = is ∙ ap (λ (c : Process). block_trees c.body y) same_process ∙ tree in
+      let o_is : o ≡ Some t = is ∙ ap (λ (c : Process). block_shown_trees c.body y) same_process ∙ tree in
       let i : key.instance ≡ b.instance = ap (λ (q : ProcessKey). q.instance) same_key ∙ sym (instance_of other b its) in
       subst (λ n. StandsBy p new (moved n t) found) i (subst (λ (q : Option NodeId). HasNodeBy p new key.instance (Some t) q) e (subst (λ q. HasNodeBy p new key.instance q id) o_is has))

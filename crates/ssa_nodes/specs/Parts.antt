@@ -3,7 +3,7 @@ use Rattle.std.specs.Prelude.{◌≡◌, ℕ, true, List, length, map, Option, S
 use Rattle.bv_core.specs.declared.reference.NodeId.{NodeId}
 use Rattle.tree_core.specs.Tree.{Tree, Whole}
 use Rattle.exec_core.specs.Block.{Name, Key}
-use Rattle.exec_core.specs.Trees.{block_trees}
+use Rattle.exec_core.specs.Shown.{block_shown_trees}
 use Rattle.exec_core.specs.Whole.{Place}
 use Rattle.exec_core.specs.Design.{Process, moved, folded_tree}
 use Rattle.design_core.specs.Design as design
@@ -98,10 +98,10 @@ pub record IsEnd (p : code.Parts) (nodes : List (Option NodeId)) (k : ℕ) (y : 
   pub process : Process
   pub is : process_at (design_in p) key ≡ Some process
   pub tree : Tree Name
-  pub ends : block_trees process.body y ≡ Some tree
+  pub ends : block_shown_trees process.body y ≡ Some tree
   pub ready : IsReadyBy p nodes (moved process.instance tree)
 
 -- and the node stands for it
 abbrev pub EndStands : code.Parts → List Shape → ℕ → Key → NodeId → Type 0
 EndStands p ns k y id =
-    (key : ProcessKey) (b : Process) (t : Tree Name) → slice_get p.keys.items k ≡ Some key → process_at (design_in p) key ≡ Some b → block_trees b.body y ≡ Some t → StandsBy p ns (moved b.instance t) id
+    (key : ProcessKey) (b : Process) (t : Tree Name) → slice_get p.keys.items k ≡ Some key → process_at (design_in p) key ≡ Some b → block_shown_trees b.body y ≡ Some t → StandsBy p ns (moved b.instance t) id

@@ -44,7 +44,7 @@ use Rattle.check_exec.specs.Premises.{IsSound}
 use Rattle.check_exec.proofs.Facts.{each_at, each_map, each_flat, from_zero}
 use Rattle.check_exec.proofs.Orders.{orders_are_accepted}
 use Rattle.world_core.specs.declared.mode.Mode.{Mode}
-use Rattle.world_core.specs.Sites.{Site, sites_in_block, sites_in, sites_of, sites_in_order, Spot, spots_of, all_spots}
+use Rattle.world_core.specs.Sites.{Site, sites_in_block, sites_in, sites_of, sites_in_order, Spot, spots_of, all_spots, head_site}
 use Rattle.world_core.specs.Kept.{enable_tree, name_tree, kept_trees}
 use Rattle.world_laws.proofs.SitesOf.{ordered}
 use Rattle.lower_core.specs.Shape.{gen_part, variant_part, instance_part}
@@ -86,7 +86,7 @@ sites_texts d texts =
     each_member (λ (q : ℕ × Variant). slice_get d.variants q.0 ≡ Some q.1) (enumerate_from 0 d.variants) (from_zero (λ (q : ℕ × Variant). slice_get d.variants q.0 ≡ Some q.1) d.variants (λ n w e. e)) v i in
     let variant : VariantHasTexts v.1 = each_at VariantHasTexts d.variants v.0 v.1 at texts.variants in
     each_flat SiteTexts (sites_in_block v.0 v.1) v.1.blocks (λ b j.
-    each_map SiteTexts (λ (h : Head). record { slot = h.slot; variant = v.0; line = h.line; gens = h.gens; block = b; names = scope v.1 b }) (heads b.body) (λ h k.
+    each_map SiteTexts (head_site v.0 v.1 b) (heads b.body) (λ h k.
     record {
       gens = each_member (λ (g : Head). GensAreTexts g.gens) (variant_heads v.1) variant.gens h (flat_in (λ (c : Block). heads c.body) v.1.blocks b h j k);
       names = each_member (λ (c : Block). EachOf IsUtf8 (scope v.1 c)) v.1.blocks variant.names b j;

@@ -1,6 +1,6 @@
 -- What the trees of a statement tell of a cycle of a run, in an instance.
 use Rattle.std.proofs.Common.{◌≡◌, ℕ, zero, suc, ◌+◌, ◌<◌, true, false, List, [], ◌∷◌, length, map, Option, Some, None, option_map, refl, sym, ap, ◌∙◌, subst, arith}
-use Rattle.std.specs.Prelude.{slice_get, slice_index_or, is_some, option_and_then}
+use Rattle.std.specs.Prelude.{◌↔◌, slice_get, slice_index_or, is_some, option_and_then}
 use Rattle.std.proofs.lemmas.Bool.{false_from_ne_true}
 use Rattle.std.proofs.lemmas.Option.{none-some, same_Some}
 use Rattle.bv_core.specs.Value.{Bits}
@@ -8,9 +8,9 @@ use Rattle.bv_core.specs.Operators.{flag_of}
 use Rattle.tree_core.specs.Tree.{Origin, Whole, value_of}
 use Rattle.exec_core.specs.Block.{Name, Now}
 use Rattle.list_core.specs.Lists.{IsIn, from}
-use Rattle.exec_core.specs.Trees.{Row}
+use Rattle.exec_core.specs.Trees.{Row, block_rows, row_at}
 use Rattle.exec_core.specs.Agree.{TellsVisit}
-use Rattle.exec_core.specs.Paths.{known_in, known_key, RowChecked}
+use Rattle.exec_core.specs.Paths.{IsUnset, known_in, known_key, RowChecked}
 use Rattle.exec_core.specs.Whole.{Place}
 use Rattle.exec_core.specs.Design as exec
 use Rattle.exec_core.specs.Design.{signals_of, width_in}
@@ -22,8 +22,9 @@ use Rattle.exec_core.proofs.Sources.{process_checked}
 use Rattle.design_core.specs.Design.{Variant, Design}
 use Rattle.design_exec.specs.Processes.{process, processes_of}
 use Rattle.check_exec.specs.Premises.{IsSound}
-use Rattle.check_exec.proofs.Instances.{Stands}
-use Rattle.world_core.specs.Sites.{Site, site_body, sites_of, is_unset, Spot, all_spots}
+use Rattle.check_exec.proofs.Instances.{Stands, clean}
+use Rattle.check_exec.proofs.Checks.{widths_are}
+use Rattle.world_core.specs.Sites.{Site, site_body, sites_of, unset_in, Spot, all_spots}
 use Rattle.world_core.specs.Kept.{block_row, whole_in, enable_tree, name_tree}
 use Rattle.world_core.specs.Source.{nothing, settled_in, visit_in, unset_among, unset_at}
 use Rattle.world_core.proofs.Status.{unset_means, unset_told}
@@ -63,24 +64,34 @@ pub record SpotTells (d : Design) (n : ℕ) (run : List (Place → Bits)) (t : �
       option_and_then (λ env. env (Now x)) (visit_in d run t p.0.slot p.1) ≡ Some (value_of H T)
 
 module _ (d : Design) (sound : IsSound d) (order : List Place) (ok : Accepted (processes_of d) order) where
-  module _ (s : Site) (i : ℕ) (v : Variant) (m : IsIn (process i v.signals s.block) (processes_of d).processes) (row : Row) (is : block_row s ≡ Some row) where
+  module _ (s : Site) (i : ℕ) (v : Variant) (m : IsIn (process i v.signals s.block) (processes_of d).processes) (wide : s.widths ≡ width_in (processes_of d) (process i v.signals s.block)) (row : Row) (is : block_row s ≡ Some row) where
+    in_process : row_at s.slot (block_rows (width_in (processes_of d) (process i v.signals s.block)) (site_body s)) ≡ Some row
+    in_process = subst (λ w. row_at s.slot (block_rows w (site_body s)) ≡ Some row) wide is
+
     checked : RowChecked (signals_of (processes_of d) (process i v.signals s.block)) (width_in (processes_of d) (process i v.signals s.block)) (site_body s) row
-    checked = (process_checked (processes_of d) order ok (process i v.signals s.block) m).each_row s.slot row is
+    checked = (process_checked (processes_of d) order ok (process i v.signals s.block) m).each_row s.slot row in_process
 
     before_is : (x : Name) → name_tree d (length order) (s, i) x ≡ option_map (whole_in d (length order) i) (row.before (Now x))
     before_is x = ap (λ o. option_map (whole_in d (length order) i) (option_and_then (λ (r : Row). r.before (Now x)) o)) is
 
     module _ (alone : IsOrdered d s) where
-      unset_is : (x : Name) → unset_at d s.slot x ≡ is_unset (site_body s) s.slot x
+      -- a name is unset by the widths of its process where it is by those of the statement
+      unset_wide : (x : Name) → IsUnset s.widths (site_body s) s.slot x ↔ IsUnset (width_in (processes_of d) (process i v.signals s.block)) (site_body s) row.slot x
+      unset_wide x = (
+        λ h. subst (λ w. IsUnset w (site_body s) row.slot x) wide (subst (λ k. IsUnset s.widths (site_body s) k x) (sym (row_slot s.slot _ row in_process)) h),
+        λ h. subst (λ k. IsUnset s.widths (site_body s) k x) (row_slot s.slot _ row in_process) (subst (λ w. IsUnset w (site_body s) row.slot x) (sym wide) h),
+      )
+
+      unset_is : (x : Name) → unset_at d s.slot x ≡ unset_in s s.slot x
       unset_is x = ap (λ l. unset_among l s.slot x) alone.alone
 
       none_unset : (x : Name) → row.before (Now x) ≡ None → unset_at d s.slot x ≡ true
       none_unset x e =
-          unset_is x ∙ ap (λ k. is_unset (site_body s) k x) (sym (row_slot s.slot _ row is)) ∙ unset_told (site_body s) row.slot x ((checked.unset x).0 e)
+          unset_is x ∙ unset_told s s.slot x ((unset_wide x).1 ((checked.unset x).0 e))
 
       unset_none : (x : Name) → unset_at d s.slot x ≡ true → row.before (Now x) ≡ None
       unset_none x e =
-          (checked.unset x).1 (unset_means (site_body s) row.slot x (ap (λ k. is_unset (site_body s) k x) (row_slot s.slot _ row is) ∙ sym (unset_is x) ∙ e))
+          (checked.unset x).1 ((unset_wide x).0 (unset_means s s.slot x (sym (unset_is x) ∙ e)))
 
       pub site_unset : SpotUnset d (length order) (s, i)
       site_unset = record {
@@ -92,7 +103,7 @@ module _ (d : Design) (sound : IsSound d) (order : List Place) (ok : Accepted (p
     module _ (run : List (Place → Bits)) (t : ℕ) (H : Origin → Bits) (agrees : CycleAgrees (processes_of d) (length order) (settled_in run t) H)
         (known : (x : Name) → IsIn x s.names → known_in (signals_of (processes_of d) (process i v.signals s.block)) (site_body s) x ≡ true) where
       tells : TellsVisit (known_key (signals_of (processes_of d) (process i v.signals s.block)) (site_body s)) (net_value (processes_of d) (length order) H (process i v.signals s.block)) row (visit_in d run t s.slot i)
-      tells = (each_member (ProcessTold (processes_of d) (length order) (settled_in run t) H) (processes_of d).processes agrees.processes (process i v.signals s.block) m).slots s.slot row is
+      tells = (each_member (ProcessTold (processes_of d) (length order) (settled_in run t) H) (processes_of d).processes agrees.processes (process i v.signals s.block) m).slots s.slot row in_process
 
       enable_tells : (T : Whole) → enable_tree d (length order) (s, i) ≡ Some T → value_of H T ≡ flag_of (is_some (visit_in d run t s.slot i))
       enable_tells T e =
@@ -111,13 +122,23 @@ module _ (d : Design) (sound : IsSound d) (order : List Place) (ok : Accepted (p
       pub site_tells : SpotTells d (length order) run t H (s, i)
       site_tells = record { enable = enable_tells; value = value_tells }
 
+  -- the widths of a statement are those of each process of its block
+  wide_is : (p : Spot) (among : IsIn p (all_spots d)) →
+      p.0.widths ≡ width_in (processes_of d) (process p.1 (each_member (SiteIs d) (sites_of d) (sites_are d) p.0 (ordered d sound.kept p.0 (spot_is d p among).site).among).of.signals p.0.block)
+  wide_is p among =
+      let is = spot_is d p among in
+      let alone = ordered d sound.kept p.0 is.site in
+      let site = each_member (SiteIs d) (sites_of d) (sites_are d) p.0 alone.among in
+      let stands : Stands d p.1 is.of site.of = record { instance = is.at; variant = ap (slice_get d.variants) is.variant ∙ site.at } in
+      site.widths ∙ sym (widths_are d sound p.1 is.of site.of p.0.block stands (clean d sound.accepted p.1 is.of site.of stands) site.among)
+
   pub spot_unset : (p : Spot) → IsIn p (all_spots d) → (row : Row) → block_row p.0 ≡ Some row → SpotUnset d (length order) p
   spot_unset p among row e =
       let is = spot_is d p among in
       let alone = ordered d sound.kept p.0 is.site in
       let site = each_member (SiteIs d) (sites_of d) (sites_are d) p.0 alone.among in
       let stands : Stands d p.1 is.of site.of = record { instance = is.at; variant = ap (slice_get d.variants) is.variant ∙ site.at } in
-      site_unset p.0 p.1 site.of (process_in d p.1 is.of site.of stands p.0.block site.among) row e alone
+      site_unset p.0 p.1 site.of (process_in d p.1 is.of site.of stands p.0.block site.among) (wide_is p among) row e alone
 
   pub spot_tells : (run : List (Place → Bits)) (t : ℕ) (H : Origin → Bits) → CycleAgrees (processes_of d) (length order) (settled_in run t) H → (p : Spot) → IsIn p (all_spots d) → (row : Row) → block_row p.0 ≡ Some row
       → SpotTells d (length order) run t H p
@@ -126,7 +147,7 @@ module _ (d : Design) (sound : IsSound d) (order : List Place) (ok : Accepted (p
       let alone = ordered d sound.kept p.0 is.site in
       let site = each_member (SiteIs d) (sites_of d) (sites_are d) p.0 alone.among in
       let stands : Stands d p.1 is.of site.of = record { instance = is.at; variant = ap (slice_get d.variants) is.variant ∙ site.at } in
-      site_tells p.0 p.1 site.of (process_in d p.1 is.of site.of stands p.0.block site.among) row e run t H agrees
+      site_tells p.0 p.1 site.of (process_in d p.1 is.of site.of stands p.0.block site.among) (wide_is p among) row e run t H agrees
       (λ x j. scope_known d p.1 is.of site.of stands p.0.block x (subst (λ l. IsIn x l) site.names j))
 
 -- ---- cycle after cycle

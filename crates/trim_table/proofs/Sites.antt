@@ -13,7 +13,7 @@ use Rattle.check_core.specs.Names.{duplicate_name}
 use Rattle.check_exec.specs.Premises.{IsSound}
 use Rattle.check_exec.proofs.Facts.{each_at, each_map, each_flat, from_zero, in_index, any_in}
 use Rattle.check_exec.proofs.Instances.{Stands, clean}
-use Rattle.world_core.specs.Sites.{Site, sites_in_block, sites_in, sites_of}
+use Rattle.world_core.specs.Sites.{Site, sites_in_block, sites_in, sites_of, head_site}
 use Rattle.list_core.proofs.Listing.{flat_in}
 use Rattle.trim_table.proofs.Scopes.{scope_apart}
 
@@ -40,7 +40,7 @@ sites_fit d sound =
     each_member (λ (q : ℕ × Variant). slice_get d.variants q.0 ≡ Some q.1) (enumerate_from 0 d.variants) (from_zero (λ (q : ℕ × Variant). slice_get d.variants q.0 ≡ Some q.1) d.variants (λ n w e. e)) v i in
     let variant : IsVariant d.variants v.1 = each_at (IsVariant d.variants) d.variants v.0 v.1 at sound.kept.each in
     each_flat (SiteFits d) (sites_in_block v.0 v.1) v.1.blocks (λ b j.
-    each_map (SiteFits d) (λ (h : Head). record { slot = h.slot; variant = v.0; line = h.line; gens = h.gens; block = b; names = scope v.1 b }) (heads b.body) (λ h k.
+    each_map (SiteFits d) (head_site v.0 v.1 b) (heads b.body) (λ h k.
     let among : IsIn h (variant_heads v.1) = flat_in (λ (c : Block). heads c.body) v.1.blocks b h j k in
     record {
       variant = slice_get_within d.variants v.0 v.1 at;

@@ -18,7 +18,7 @@ use Rattle.world_core.specs.Sites.{Site, site_body, Spot, all_spots}
 
 -- the row of a statement in its block: its enable, and the tree of each name before it
 abbrev pub block_row : Site → Option Row
-block_row s = row_at s.slot (block_rows (site_body s))
+block_row s = row_at s.slot (block_rows s.widths (site_body s))
 
 -- the folded whole tree of a tree over the names of an instance
 abbrev pub whole_in : Design → ℕ → ℕ → Tree Name → Whole

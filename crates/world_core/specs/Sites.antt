@@ -1,16 +1,17 @@
 -- The statements of a design by their slots, with what is in scope at each.
-use Rattle.std.specs.Prelude.{ℕ, Bool, true, false, ◌==◌, ◌&&◌, ◌||◌, not, List, length, map, filter}
+use Rattle.std.specs.Prelude.{ℕ, Bool, ◌==◌, List, length, map, filter}
 use Rattle.std.specs.List.{enumerate_from, flat_map}
 use Rattle.design_core.specs.Design.{Gens, Block, Variant, Design}
-use Rattle.design_core.specs.Slots.{heads, scope}
+use Rattle.design_core.specs.Slots.{Head, heads, scope}
 use Rattle.list_core.specs.Lists.{from}
 use Rattle.design_core.specs.WellFormed.{all_slots}
 use Rattle.exec_core.specs.Block as blocks
-use Rattle.exec_core.specs.Block.{Name, Key, Now, same_key, own}
-use Rattle.design_exec.specs.Processes.{body_of, instances_of}
+use Rattle.exec_core.specs.Block.{Name}
+use Rattle.exec_core.specs.Decided.{is_unset}
+use Rattle.design_exec.specs.Processes.{Widths, body_of, body_widths, signal_width, instances_of}
 
--- a statement: its slot, the variant that has it, its line, the generator variables at it, the block that it stands in, and the
--- names in scope there
+-- a statement: its slot, the variant that has it, its line, the generator variables at it, the block that it stands in, the names in
+-- scope there, and the width of each name
 pub record Site : Type 0 where
   pub slot : ℕ
   pub variant : ℕ
@@ -18,11 +19,15 @@ pub record Site : Type 0 where
   pub gens : Gens
   pub block : Block
   pub names : List Name
+  pub widths : Widths
+
+-- the statement of this head in a block of a variant, which has this number
+abbrev pub head_site : ℕ → Variant → Block → Head → Site
+head_site v w b h = record { slot = h.slot; variant = v; line = h.line; gens = h.gens; block = b; names = scope w b; widths = body_widths b.body (signal_width w.signals) }
 
 -- those of a block, in preorder; of a variant, block by block; of a design, variant by variant
 abbrev pub sites_in_block : ℕ → Variant → Block → List Site
-sites_in_block v w b =
-    map (λ h. record { slot = h.slot; variant = v; line = h.line; gens = h.gens; block = b; names = scope w b }) (heads b.body)
+sites_in_block v w b = map (head_site v w b) (heads b.body)
 
 abbrev pub sites_in : ℕ → Variant → List Site
 sites_in v w = flat_map (sites_in_block v w) w.blocks
@@ -65,26 +70,6 @@ all_spots d = flat_map (spots_of d) (sites_in_order d)
 
 -- ---- status `unset`
 
--- some path through it does not assign the key
-abbrev mutual
-  pub skips : blocks.Stmt → Key → Bool
-  skips (blocks.Assign slot key value) y = not (same_key key y)
-  skips (blocks.If slot test yes_body no_body) y = body_skips yes_body y || body_skips no_body y
-
-  pub body_skips : blocks.Body → Key → Bool
-  body_skips blocks.Done y = true
-  body_skips (blocks.Then s rest) y = skips s y && body_skips rest y
-
--- some path to the slot does not assign the key before it
-abbrev mutual
-  pub misses : blocks.Stmt → ℕ → Key → Bool
-  misses (blocks.Assign slot key value) k y = slot == k
-  misses (blocks.If slot test yes_body no_body) k y = slot == k || (body_misses yes_body k y || body_misses no_body k y)
-
-  pub body_misses : blocks.Body → ℕ → Key → Bool
-  body_misses blocks.Done k y = false
-  body_misses (blocks.Then s rest) k y = misses s k y || (skips s y && body_misses rest k y)
-
--- a name is unset at a slot where it is an own name of the block and some path to the slot does not assign it
-abbrev pub is_unset : blocks.Body → ℕ → Name → Bool
-is_unset body k x = own body x && body_misses body k (Now x)
+-- a name is unset at a statement where it is an own name of the block and some path to the statement leaves a bit of it unassigned
+abbrev pub unset_in : Site → ℕ → Name → Bool
+unset_in s k x = is_unset s.widths (site_body s) k x

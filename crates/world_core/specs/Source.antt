@@ -12,7 +12,7 @@ use Rattle.design_core.specs.Design.{Design}
 use Rattle.list_core.specs.Lists.{from}
 use Rattle.design_exec.specs.Processes.{processes_of}
 use Rattle.world_core.specs.declared.mode.Mode.{Mode}
-use Rattle.world_core.specs.Sites.{Site, sites_at, sites_in_order, site_body, instances_with, is_unset}
+use Rattle.world_core.specs.Sites.{Site, sites_at, sites_in_order, site_body, instances_with, unset_in}
 use Rattle.world_core.specs.World.{Status, IsUnset, IsRemoved, HasWidth, shown_by, Shows, World}
 use Rattle.world_core.specs.Kept.{name_tree, is_kept}
 
@@ -30,7 +30,7 @@ visit_in d run t k i = thread_of (processes_of d) (settled_in run t) i k
 -- whether a name is unset at the statement of a slot
 abbrev pub unset_among : List Site → ℕ → Name → Bool
 unset_among [] k x = false
-unset_among (s ∷ sites) k x = is_unset (site_body s) k x
+unset_among (s ∷ sites) k x = unset_in s k x
 
 abbrev pub unset_at : Design → ℕ → Name → Bool
 unset_at d k x = unset_among (sites_at d k) k x

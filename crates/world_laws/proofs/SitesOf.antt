@@ -10,9 +10,9 @@ use Rattle.design_core.specs.declared.design.Instance.{Instance}
 use Rattle.design_core.specs.Design.{Block, Variant, Design}
 use Rattle.design_core.specs.Slots.{Head, heads, scope, slots_of}
 use Rattle.design_core.specs.WellFormed.{IsDesign, all_slots}
-use Rattle.design_exec.specs.Processes.{Numbered, instances_of}
+use Rattle.design_exec.specs.Processes.{Numbered, instances_of, body_widths, signal_width}
 use Rattle.check_exec.proofs.Facts.{each_map, each_flat, from_zero, in_index}
-use Rattle.world_core.specs.Sites.{Site, sites_in_block, sites_in, sites_of, slot_count, has_slot, sites_at, sites_in_order, instances_with, Spot, spots_of, all_spots}
+use Rattle.world_core.specs.Sites.{Site, sites_in_block, sites_in, sites_of, slot_count, has_slot, sites_at, sites_in_order, instances_with, Spot, spots_of, all_spots, head_site}
 use Rattle.list_core.proofs.Listing.{map_in, map_from, flat_in, flat_from, filter_from, at_number, from_in, from_at, all_there}
 
 -- ---- a statement
@@ -23,18 +23,20 @@ pub record SiteIs (d : Design) (s : Site) : Type 0 where
   pub at : slice_get d.variants s.variant ≡ Some of
   pub among : IsIn s.block of.blocks
   pub names : s.names ≡ scope of s.block
+  pub widths : s.widths ≡ body_widths s.block.body (signal_width of.signals)
   pub slot : IsIn s.slot (slots_of (heads s.block.body))
 
 pub sites_are : (d : Design) → EachOf (SiteIs d) (sites_of d)
 sites_are d =
     each_flat (SiteIs d) (λ (v : ℕ × Variant). sites_in v.0 v.1) (enumerate_from 0 d.variants) (λ v i.
     each_flat (SiteIs d) (sites_in_block v.0 v.1) v.1.blocks (λ b j.
-    each_map (SiteIs d) (λ (h : Head). record { slot = h.slot; variant = v.0; line = h.line; gens = h.gens; block = b; names = scope v.1 b }) (heads b.body) (λ h k.
+    each_map (SiteIs d) (head_site v.0 v.1 b) (heads b.body) (λ h k.
     record {
       of = v.1;
       at = each_member (λ (q : ℕ × Variant). slice_get d.variants q.0 ≡ Some q.1) (enumerate_from 0 d.variants) (from_zero (λ (q : ℕ × Variant). slice_get d.variants q.0 ≡ Some q.1) d.variants (λ n w e. e)) v i;
       among = j;
       names = refl;
+      widths = refl;
       slot = map_in (λ (g : Head). g.slot) (heads b.body) h k;
     })))
 
@@ -49,11 +51,11 @@ pub site_of : (d : Design) (n : ℕ) (v : Variant) (b : Block) (k : ℕ) → sli
 site_of d n v b k at among i =
     let h = map_from (λ (g : Head). g.slot) (heads b.body) k i in
     record {
-      site = record { slot = h.0.slot; variant = n; line = h.0.line; gens = h.0.gens; block = b; names = scope v b };
+      site = (head_site n v b h.0);
       among =
-          flat_in (λ (w : ℕ × Variant). sites_in w.0 w.1) (enumerate_from 0 d.variants) (n, v) (record { slot = h.0.slot; variant = n; line = h.0.line; gens = h.0.gens; block = b; names = scope v b }) (at_number d.variants n v at)
-          (flat_in (sites_in_block n v) v.blocks b (record { slot = h.0.slot; variant = n; line = h.0.line; gens = h.0.gens; block = b; names = scope v b }) among
-          (map_in (λ (g : Head). record { slot = g.slot; variant = n; line = g.line; gens = g.gens; block = b; names = scope v b }) (heads b.body) h.0 h.1.0));
+          flat_in (λ (w : ℕ × Variant). sites_in w.0 w.1) (enumerate_from 0 d.variants) (n, v) (head_site n v b h.0) (at_number d.variants n v at)
+          (flat_in (sites_in_block n v) v.blocks b (head_site n v b h.0) among
+          (map_in (head_site n v b) (heads b.body) h.0 h.1.0));
       slot_is = sym h.1.1;
       variant_is = refl;
     }
@@ -64,7 +66,7 @@ abbrev pub site_slot : Site → ℕ
 site_slot s = s.slot
 
 heads_slots : (n : ℕ) (w : Variant) (b : Block) (hs : List Head)
-    → map site_slot (map (λ (h : Head). record { slot = h.slot; variant = n; line = h.line; gens = h.gens; block = b; names = scope w b }) hs) ≡ slots_of hs
+    → map site_slot (map (head_site n w b) hs) ≡ slots_of hs
 heads_slots n w b [] = refl
 heads_slots n w b (h ∷ hs) = ap (λ l. h.slot ∷ l) (heads_slots n w b hs)
 

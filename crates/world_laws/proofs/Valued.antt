@@ -29,6 +29,8 @@ use Rattle.exec_core.proofs.Folded.{nodes_by_node}
 use Rattle.design_core.specs.declared.design.Instance.{Instance}
 use Rattle.design_core.specs.Design.{Design}
 use Rattle.design_exec.specs.Processes.{process, processes_of}
+use Rattle.check_exec.proofs.Instances.{clean}
+use Rattle.check_exec.proofs.Checks.{widths_are}
 use Rattle.check_exec.specs.Premises.{IsSound}
 use Rattle.list_core.proofs.Listing.{some_at, filter_from, from_in, from_at}
 use Rattle.check_exec.proofs.Facts.{in_at}
@@ -37,7 +39,7 @@ use Rattle.check_exec.proofs.Ready.{accepted_is_ready}
 use Rattle.world_core.specs.declared.mode.Mode.{Mode}
 use Rattle.world_core.specs.World as world
 use Rattle.world_core.specs.World.{Status, IsUnset, IsRemoved, HasWidth, shown_by, Unknown, IsInScope}
-use Rattle.world_core.specs.Sites.{Site, sites_of, sites_at, sites_in_order, slot_count}
+use Rattle.world_core.specs.Sites.{site_body, Site, sites_of, sites_at, sites_in_order, slot_count}
 use Rattle.world_core.specs.Kept.{block_row, whole_in, name_tree, is_kept}
 use Rattle.world_core.specs.Source.{settled_in, visit_in, unset_at, tree_among, tree_before, kept_status, status_at, shows_of, value_before, source_world}
 use Rattle.world_laws.specs.Values.{HasValue, SourceHasValues, SourceIsKnown}
@@ -78,13 +80,13 @@ settled_at d registers (row ∷ rows) (E ∷ run) r (suc t) l = settled_at d (ne
 HasTreeValue : Whole → Option Bits → Type 0
 HasTreeValue T v = (bits : Bits) × ((v ≡ Some bits) × IsOf (tree_width T) bits)
 
-module _ (d : exec.Design) (order : List Place) (ok : Accepted d order) (registers : Place → Bits) (row : Name → Bits) (E : Place → Bits) (s : Settled d registers row E) (b : Process) (m : IsIn b d.processes) (slot : ℕ) (r : Row) (e : row_at slot (block_rows b.body) ≡ Some r) where
+module _ (d : exec.Design) (order : List Place) (ok : Accepted d order) (registers : Place → Bits) (row : Name → Bits) (E : Place → Bits) (s : Settled d registers row E) (b : Process) (m : IsIn b d.processes) (slot : ℕ) (r : Row) (e : row_at slot (block_rows (width_in d b) b.body) ≡ Some r) where
   row_tells : TellsVisit (λ y. true) (value_of (within b.instance E)) r (thread_of d E b.instance slot)
   row_tells =
       let bits = checked_bits (signals_of d b) (width_in d b) b.body (block_checked d order ok b m) (within b.instance E) (λ x k. subst (λ w. IsOf w (E (place b.instance x))) (sym (signal_width d b x k)) (s.widths (place b.instance x) k)) in
-      let here = visits_here E slot (runs.processes_of d b.instance) b (ok.slots b.instance) (filter_member (λ (c : Process). c.instance == b.instance) d.processes b m (eq-eqb _ _ refl)) (block_row_in slot b.body r e) in
+      let here = visits_here d E slot (runs.processes_of d b.instance) b (ok.slots b.instance) (filter_member (λ (c : Process). c.instance == b.instance) d.processes b m (eq-eqb _ _ refl)) (block_row_in (width_in d b) slot b.body r e) in
       subst (TellsVisit (λ y. true) (value_of (within b.instance E)) r) (sym here)
-      ((blocks_agree (within b.instance E) b.body bits).each (block_apart d order ok b m) slot r e)
+      ((blocks_agree (width_in d b) (within b.instance E) b.body bits).each (block_apart d order ok b m) slot r e)
 
   name_has : (x : Name) → known_in (signals_of d b) b.body x ≡ true → (t : Tree Name) → r.before (Now x) ≡ Some t → (env : Env Bits) → thread_of d E b.instance slot ≡ Some env
       → HasTreeValue (folded_tree d (length order) (moved b.instance t)) (env (Now x))
@@ -152,7 +154,7 @@ module _ (d : Design) (sound : IsSound d) (order : List Place) (ok : Accepted (p
     where
       by_test : (b : Bool) → (r.variant == s.variant) ≡ b → r.variant ≡ s.variant
       by_test true e = eqb-true r.variant s.variant e
-      by_test false e = absurd (none-some env (sym (none_visits E s.slot (runs.processes_of (processes_of d) i) (not_there d sound.kept s among i r at e)) ∙ thread))
+      by_test false e = absurd (none-some env (sym (none_visits (processes_of d) E s.slot (runs.processes_of (processes_of d) i) (not_there d sound.kept s among i r at e)) ∙ thread))
 
   tree_has : (i : ℕ) (r : Instance) → slice_get d.instances i ≡ Some r → (x : Name) → IsIn x s.names → (env : Env Bits) → thread_of (processes_of d) E i s.slot ≡ Some env
       → (T : Whole) → name_tree d (length order) (s, i) x ≡ Some T → HasTreeValue T (env (Now x))
@@ -162,7 +164,8 @@ module _ (d : Design) (sound : IsSound d) (order : List Place) (ok : Accepted (p
       let site = each_member (SiteIs d) (sites_of d) (sites_are d) s (ordered d sound.kept s among).among in
       let stands : Stands d i r site.of = record { instance = at; variant = ap (slice_get d.variants) (of_variant i r at env thread) ∙ site.at } in
       subst (λ (U : Whole). HasTreeValue U (env (Now x))) tree.1.1
-      (name_has (processes_of d) order ok settled.registers settled.row E settled.settled (process i site.of.signals s.block) (process_in d i r site.of stands s.block site.among) s.slot row.0 row.1.0 x
+      (name_has (processes_of d) order ok settled.registers settled.row E settled.settled (process i site.of.signals s.block) (process_in d i r site.of stands s.block site.among) s.slot row.0
+      (subst (λ w. row_at s.slot (block_rows w (site_body s)) ≡ Some row.0) (site.widths ∙ sym (widths_are d sound i r site.of s.block stands (clean d sound.accepted i r site.of stands) site.among)) row.1.0) x
       (scope_known d i r site.of stands s.block x (subst (λ l. IsIn x l) site.names in_scope)) tree.0 row.1.1 env thread)
 
 -- ---- the world of a run

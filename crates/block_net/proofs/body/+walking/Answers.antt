@@ -1,6 +1,6 @@
 use Rattle.std.proofs.Common.{◌∙◌, ap, sym, refl, subst, arith, rules}
 use Rattle.exec_core.specs.Block.{Now}
-use Rattle.exec_core.specs.Trees.{body_trees_after}
+use Rattle.exec_core.specs.Shown.{body_shown_after}
 use Rattle.design_exec.specs.Processes.{target}
 use Rattle.block_net.specs.Source.{body_in, else_in, expr_in}
 use Rattle.block_net.specs.Walks.{Bind, Chooses, HaveTerms, among, env_of, keys_of}
@@ -45,7 +45,7 @@ pub walk_first-returns-clause-through : goal.walk_first-returns-clause-through
 walk_first-returns-clause-through t c =
     let picked = c.in_ok-before.ensures.grown in
     first_walked c.args.walk.now c.pick.new.walk c.walk_yes.new.walk c.pick-2.new.walk c.set_all.new.walk c.args.keys.now c.deref.result.now _ (body_in c.args.clocked c.args.yes.now) picked
-    (through_as _ _ _ _ _ (both_of _ _ c.args.enable c.args.test picked.terms c.requires.within c.requires.test) c.in_ok-walk_yes.ensures)
+    (through_as _ _ (body_in c.args.clocked c.args.yes.now) _ _ (both_of _ _ c.args.enable c.args.test picked.terms c.requires.within c.requires.test) c.in_ok-walk_yes.ensures)
     c.in_ok-firsts.ensures.grown c.requires.cover (ap (λ l. among (keys_of l)) c.deref.ensures.value ∙ c.in_ok-before.ensures.keys)
     (subst (Bind c.pick.new.walk.terms (env_of c.args.walk.now)) (sym c.deref.ensures.value) c.in_ok-before.ensures.bind) c.in_ok-set_all.ensures
 
@@ -84,7 +84,7 @@ walk_if-walk_second-requires t c =
           within_more _ _ c.args.enable grown c.requires.within,
           (
             within_more _ _ c.in_ok-test.test first c.in_ok-test.ensures.stands.within,
-            subst (HaveTerms c.walk_first.new.walk.terms) (sym c.deref-2.ensures.value) (bind_have _ (body_trees_after (body_in c.args.clocked c.args.yes.now) (env_of c.term_of.new.self)) _ c.in_ok-firsts.ensures.bind),
+            subst (HaveTerms c.walk_first.new.walk.terms) (sym c.deref-2.ensures.value) (bind_have _ (body_shown_after (body_in c.args.clocked c.args.yes.now) (env_of c.term_of.new.self)) _ c.in_ok-firsts.ensures.bind),
           ),
         ),
       ),
@@ -95,7 +95,7 @@ walk_if-returns t c =
     through_both c.args.walk.now c.visit.new.self c.term_of.new.self c.walk_first.new.walk c.walk_second.new.walk (among c.in_ok-keys.keys.items) c.deref-2.result.now c.args.slot c.args.enable c.in_ok-test.test
     (expr_in c.args.test.now) (body_in c.args.clocked c.args.yes.now) (else_in c.args.clocked c.args.no.now) c.requires.within c.in_ok-visit.ensures c.in_ok-test.ensures.grown c.in_ok-test.ensures.stands c.in_ok-keys.ensures
     c.in_ok-firsts.ensures.through (ap (λ l. among (keys_of l)) c.deref-2.ensures.value ∙ c.in_ok-firsts.ensures.keys ∙ ap among c.deref.ensures.value)
-    (subst (Bind c.walk_first.new.walk.terms (body_trees_after (body_in c.args.clocked c.args.yes.now) (env_of c.term_of.new.self))) (sym c.deref-2.ensures.value) c.in_ok-firsts.ensures.bind)
+    (subst (Bind c.walk_first.new.walk.terms (body_shown_after (body_in c.args.clocked c.args.yes.now) (env_of c.term_of.new.self))) (sym c.deref-2.ensures.value) c.in_ok-firsts.ensures.bind)
     c.in_ok-walk_second.ensures
 
 pub walk_second-choose-requires-clause-within : goal.walk_second-choose-requires-clause-within

@@ -1,7 +1,7 @@
 use Rattle.std.proofs.Common.{◌≡◌, ◌++◌, ◌∙◌, ap, map, sym, subst}
 use Rattle.exec_core.specs.Block.{own}
 use Rattle.list_core.specs.Lists.{EachOf}
-use Rattle.exec_core.specs.Trees.{block_rows as the_rows}
+use Rattle.exec_core.specs.Shown.{block_shown_rows as the_rows}
 use Rattle.design_core.specs.Slots.{lets_of}
 use Rattle.design_core.specs.View.{block_of, body_of}
 use Rattle.design_exec.specs.Processes as processes
