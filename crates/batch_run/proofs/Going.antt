@@ -3,8 +3,8 @@ use Rattle.std.proofs.Common.{◌≡◌, ℕ, Bool, true, false, List, [], ◌�
 use Rattle.std.specs.List.{flat_map}
 use Rattle.std.proofs.lemmas.List.Concat.{flat_map-append}
 use Rattle.io_edge.specs.Taken.{Appends, AppendsFront}
-use Rattle.sink_text.specs.Waiting.{Passes}
-use Rattle.sink_text.proofs.Passing.{none_passes, more_passes, front_passes, end_passes, end_front, given_up}
+use Rattle.io_edge.specs.Waiting.{Passes}
+use Rattle.io_edge.proofs.Passing.{none_passes, more_passes, front_passes, end_passes, end_front, given_up}
 use Rattle.world_core.specs.World.{World}
 use Rattle.machine_core.specs.declared.request.Asked.{Asked}
 use Rattle.machine_core.specs.declared.reply.Reply.{Reply}

@@ -12,4 +12,4 @@ mod session;
 pub use batch::{asked_in, left, run_batch};
 pub use lines::next_line;
 pub use session::write_batch;
-pub use sink_text::SinkEnd;
+pub use io_edge::SinkEnd;

@@ -5,3 +5,4 @@ mod Asking
 mod Judging
 mod Given
 pub mod Offering
+mod Reading

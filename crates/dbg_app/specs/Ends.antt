@@ -1,8 +1,8 @@
 -- How a file that was not judged, or a text that was not written to its end, ends a run.
-use Rattle.sink_text.specs.declared.SinkEnd.{SinkEnd}
-use Rattle.sink_text.specs.declared.SinkEnd.TheVariants as sink
-use Rattle.design_judge.specs.declared.files.ReadEnd.{ReadEnd}
-use Rattle.design_judge.specs.declared.files.ReadEnd.TheVariants as read
+use Rattle.io_edge.specs.declared.sink_end.SinkEnd.{SinkEnd}
+use Rattle.io_edge.specs.declared.sink_end.SinkEnd.TheVariants as sink
+use Rattle.io_edge.specs.declared.bounded.ReadEnd.{ReadEnd}
+use Rattle.io_edge.specs.declared.bounded.ReadEnd.TheVariants as read
 use Rattle.dbg_app.specs.declared.halt.Halt.{Halt}
 use Rattle.dbg_app.specs.declared.halt.Halt.TheVariants.{ReadFault, WriteFault, NoMemory}
 

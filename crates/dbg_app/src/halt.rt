@@ -1,13 +1,11 @@
 //! Why a run ends early, and the status that tells it.
 
 ghost use Rattle.std.specs.Prelude.{◌≡◌, ◌≤◌, IsTrue};
-ghost use Rattle.sink_text.specs.declared.SinkEnd.TheVariants as sink;
+ghost use Rattle.io_edge.specs.declared.sink_end.SinkEnd.TheVariants as sink;
 ghost use Rattle.dbg_app.specs.declared.halt.Halt.TheVariants.{WriteFault, NoMemory};
 ghost use Rattle.dbg_app.specs.Outcome.{is_status, halt_status};
 
-use design_judge::ReadEnd;
-use io_edge::Failed;
-use sink_text::SinkEnd;
+use io_edge::{Failed, ReadEnd, SinkEnd};
 use std::alloc::{AllocError, AllocFailed};
 
 /// Why a run ends before its text is written.

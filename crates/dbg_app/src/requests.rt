@@ -7,13 +7,11 @@ ghost use Rattle.io_edge.specs.Taken.{Appends, AppendsFront};
 ghost use Rattle.dbg_app.specs.Answers.{AreRequests};
 
 use crate::Halt;
-use io_edge::{FileEnd, Files};
+use io_edge::{Files, MOST_REQUESTS, read_file};
 use std::alloc::Global;
 
-/// Requests have at most 16 MiB.
-const MOST_REQUESTS: usize = 16 * 1024 * 1024;
-
 /// The bytes of the requests of this name, or None where they are too long, which is more than 16 MiB.
+#[tactic(auto, using(crate::proofs::Reading::requests_held))]
 pub(crate) fn read_requests<F: Files>(
     alloc: Global,
     files: &mut F,
@@ -25,10 +23,6 @@ pub(crate) fn read_requests<F: Files>(
     ensures no_write { IsErrOf result Halt.WriteFault → ⊥ }
     ensures later { F.fault_count files.old ≤ F.fault_count files.new }
 {
-    match files.read_all(alloc, name, MOST_REQUESTS) {
-        Ok(bytes) => Ok(Some(bytes)),
-        Err(FileEnd::TooLong) => Ok(None),
-        Err(FileEnd::Failed) => Err(Halt::ReadFault),
-        Err(FileEnd::NoMemory) => Err(Halt::NoMemory),
-    }
+    let found = read_file(alloc, files, name, MOST_REQUESTS)?;
+    Ok(found)
 }

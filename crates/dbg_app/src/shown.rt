@@ -16,13 +16,10 @@ use crate::command::Command;
 use crate::judge::{Judged, judge_source};
 use design_core::Ports;
 use design_judge::{Accepted, judge_rows};
-use io_edge::{FileEnd, Files};
+use io_edge::{Files, MOST_BYTES, read_file};
 use serve_net::Service;
 use std::alloc::Global;
 use stim_text::StimFault;
-
-/// A stimulus has at most 64 MiB.
-const MOST_STIMULUS: usize = 64 * 1024 * 1024;
 
 /// The files of a service, judged: the source or the stimulus is refused, or there is what it shows.
 #[derive(Drop)]
@@ -45,11 +42,9 @@ fn read_rows<F: Files>(
     ensures no_write { IsErrOf result Halt.WriteFault → ⊥ }
     ensures later { F.fault_count files.old ≤ F.fault_count files.new }
 {
-    let text = match files.read_all(alloc, name, MOST_STIMULUS) {
-        Ok(text) => text,
-        Err(FileEnd::TooLong) => return Ok(Err(StimFault::TooLong)),
-        Err(FileEnd::Failed) => return Err(Halt::ReadFault),
-        Err(FileEnd::NoMemory) => return Err(Halt::NoMemory),
+    let text = match read_file(alloc, files, name, MOST_BYTES)? {
+        Some(text) => text,
+        None => return Ok(Err(StimFault::TooLong)),
     };
     match judge_rows(alloc, &text, ports)? {
         Ok(_) => Ok(Ok(text)),

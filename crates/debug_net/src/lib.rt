@@ -3,5 +3,5 @@
 
 mod write;
 
-pub use sink_text::SinkEnd;
+pub use io_edge::SinkEnd;
 pub use write::{Script, write_session};

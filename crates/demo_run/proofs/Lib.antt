@@ -7,3 +7,4 @@ pub mod Counting
 pub mod Called
 pub mod Ending
 mod Lining
+mod Reading

@@ -13,15 +13,12 @@ ghost use Rattle.demo_run.specs.Judged.{HasText, Judges, given_as, judged_status
 
 use crate::chain::{chain_given, chain_source, chain_stimulus};
 use crate::walk::Walk;
-use design_judge::{Accepted, DesignFault, ReadEnd, judge_rows, judge_text};
-use io_edge::{FileEnd, Files};
+use design_judge::{Accepted, DesignFault, judge_rows, judge_text};
+use io_edge::{Files, MOST_REQUESTS, ReadEnd, read_file};
 use std::alloc::Global;
 use stim_text::{Stim, StimFault};
 use text_core::NoMemory;
 use world_core::Mode;
-
-/// Requests have at most 16 MiB.
-const MOST_REQUESTS: usize = 16 * 1024 * 1024;
 
 /// What a demo is given: which names are kept, how many cells the chain has, from 1 to 4,000, and the name of a file of requests.
 #[derive(Clone, Copy)]
@@ -76,6 +73,7 @@ fn judge_chain_rows(alloc: Global, accepted: &Accepted) -> Result<Result<Stim, S
 }
 
 /// The requests, or None where they are too long, which is more than 16 MiB.
+#[tactic(auto, using(crate::proofs::Reading::requests_held))]
 fn read_requests<F: Files>(
     alloc: Global,
     demo: &Demo<'_>,
@@ -87,12 +85,7 @@ fn read_requests<F: Files>(
     ensures failed { IsErrOf result ReadEnd.Failed → Rose (F.fault_count files.old) (F.fault_count files.new) }
     ensures later { F.fault_count files.old ≤ F.fault_count files.new }
 {
-    match files.read_all(alloc, demo.requests, MOST_REQUESTS) {
-        Ok(bytes) => Ok(Some(bytes)),
-        Err(FileEnd::TooLong) => Ok(None),
-        Err(FileEnd::Failed) => Err(ReadEnd::Failed),
-        Err(FileEnd::NoMemory) => Err(ReadEnd::NoMemory),
-    }
+    read_file(alloc, files, demo.requests, MOST_REQUESTS)
 }
 
 /// Judges the stimulus of a chain, and reads the requests.

@@ -9,10 +9,8 @@ ghost use Rattle.demo_run.specs.Judged.{HasText, TakesJudged, TakesJudgedFront, 
 
 use crate::judge::{Demo, Judged, judge};
 use crate::write::write;
-use design_judge::ReadEnd;
-use io_edge::{Files, Sink};
+use io_edge::{Files, ReadEnd, Sink, SinkEnd};
 use listen::Listener;
-use sink_text::SinkEnd;
 use std::alloc::Global;
 
 /// Writes the text that goes with what was judged, and gives the status.

@@ -10,9 +10,8 @@ use crate::line::summary_line;
 use crate::session::{Script, count_session};
 use crate::walk::Walk;
 use design_judge::{design_line, stimulus_line};
-use io_edge::Sink;
+use io_edge::{Sink, SinkEnd};
 use listen::Listener;
-use sink_text::SinkEnd;
 use std::alloc::Global;
 use text_core::NoMemory;
 

@@ -18,11 +18,6 @@ use Rattle.design_judge.specs.Refusals.{is_no_memory}
 use Rattle.design_judge.specs.Judgement.{Top, HasLoop, IsAccepted, IsRefused}
 use Rattle.design_judge.specs.Accepting.{IsKept, accepting_of}
 
--- what a read of a file of at most so many bytes found: its bytes, or that there are more
-abbrev pub Finds : Option (List ℕ) → ℕ → Option (Vec ℕ Global) → Type 0
-Finds file most (Some bytes) = (file ≡ Some bytes.items) × (length bytes.items ≤ most)
-Finds file most None = (bytes : List ℕ) × (file ≡ Some bytes) × (most < length bytes)
-
 -- ---- a source
 
 -- a design was judged: it is accepted, or refused by the checks, or for a loop

@@ -3,62 +3,16 @@
 ghost use Rattle.std.specs.Prelude.{◌≡◌, ◌<◌, ◌≤◌, [], ◌∷◌, IfOk, IfSome, OnOk, IsErrOf};
 ghost use Rattle.io_edge.specs.Faults.{Rose};
 ghost use Rattle.io_edge.specs.Taken.{Appends, AppendsFront};
-ghost use Rattle.design_judge.specs.declared.files.ReadEnd.TheVariants.{NoMemory};
-ghost use Rattle.design_judge.specs.Judging.{Finds, IsFit, IsWhole, JudgesRows, JudgesSource, JudgesStimulus};
+ghost use Rattle.design_judge.specs.Judging.{IsFit, IsWhole, JudgesRows, JudgesSource, JudgesStimulus};
 
 use crate::source::judge_text;
 use crate::{Accepted, DesignFault};
 use design_core::Ports;
 use gen_elab::Given;
 use gen_text::TextFault;
-use io_edge::{FileEnd, Files};
+use io_edge::{Files, MOST_BYTES, MOST_SOURCE, ReadEnd, read_file};
 use std::alloc::Global;
 use stim_text::{Stim, StimFault, read_stim};
-
-/// Why a file was not judged.
-#[derive(Clone, Copy, PartialEq, Eq)]
-pub enum ReadEnd {
-    /// It was not read; the files' count of faults rose.
-    Failed,
-    /// Memory ran out.
-    NoMemory,
-}
-
-impl From<text_core::NoMemory> for ReadEnd {
-    ghost from_gives = { λ _ e. e ≡ NoMemory };
-
-    fn from(_: text_core::NoMemory) -> Self {
-        ReadEnd::NoMemory
-    }
-}
-
-/// A source has at most 1 MiB.
-const MOST_SOURCE: usize = 1024 * 1024;
-
-/// A stimulus has at most 64 MiB.
-const MOST_STIMULUS: usize = 64 * 1024 * 1024;
-
-/// The bytes of a file, or None where there are more than most.
-fn read<F: Files>(
-    alloc: Global,
-    files: &mut F,
-    name: &str,
-    most: usize,
-) -> Result<Option<Vec<u8>>, ReadEnd>
-    ensures found { IfOk result (λ found. IfSome (F.told files.old) (λ told. Finds (told name.now) most found)) }
-    ensures same { F.told files.new ≡ F.told files.old }
-    ensures asked { OnOk result (Appends (F.asked files.old) (F.asked files.new) (name.now ∷ [])) }
-    ensures front { AppendsFront (F.asked files.old) (F.asked files.new) (name.now ∷ []) }
-    ensures failed { IsErrOf result ReadEnd.Failed → Rose (F.fault_count files.old) (F.fault_count files.new) }
-    ensures later { F.fault_count files.old ≤ F.fault_count files.new }
-{
-    match files.read_all(alloc, name, most) {
-        Ok(bytes) => Ok(Some(bytes)),
-        Err(FileEnd::TooLong) => Ok(None),
-        Err(FileEnd::Failed) => Err(ReadEnd::Failed),
-        Err(FileEnd::NoMemory) => Err(ReadEnd::NoMemory),
-    }
-}
 
 /// Reads the source of this name, and judges it from its top, a module's name, with the parameters that are given to it: the
 /// design that is accepted, or why it is refused. A file of more than 1 MiB is refused as too long. The name is asked for once,
@@ -80,7 +34,7 @@ pub fn judge_design<F: Files>(
     ensures failed { IsErrOf result ReadEnd.Failed → Rose (F.fault_count files.old) (F.fault_count files.new) }
     ensures later { F.fault_count files.old ≤ F.fault_count files.new }
 {
-    match read(alloc, files, name, MOST_SOURCE)? {
+    match read_file(alloc, files, name, MOST_SOURCE)? {
         Some(source) => Ok(judge_text(alloc, &source, top, given)?),
         None => Ok(Err(DesignFault::Text(TextFault::TooLong))),
     }
@@ -121,7 +75,7 @@ pub fn judge_stimulus<F: Files>(
     ensures failed { IsErrOf result ReadEnd.Failed → Rose (F.fault_count files.old) (F.fault_count files.new) }
     ensures later { F.fault_count files.old ≤ F.fault_count files.new }
 {
-    match read(alloc, files, name, MOST_STIMULUS)? {
+    match read_file(alloc, files, name, MOST_BYTES)? {
         Some(text) => Ok(judge_rows(alloc, &text, ports)?),
         None => Ok(Err(StimFault::TooLong)),
     }

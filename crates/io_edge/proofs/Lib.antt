@@ -1,2 +1,3 @@
 pub mod Growth
 mod Parts
+pub mod Passing

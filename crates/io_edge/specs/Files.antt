@@ -32,3 +32,8 @@ asked_after name (Err NoMemory) names = names
 asked_after name (Err Failed) names = names ++ name ∷ []
 asked_after name (Err TooLong) names = names ++ name ∷ []
 asked_after name (Ok bytes) names = names ++ name ∷ []
+
+-- what a bounded read finds: the bytes of a file, or that they are more; where there is no file it finds nothing
+abbrev pub Finds : Option (List ℕ) → ℕ → Option (Vec ℕ Global) → Type 0
+Finds file most (Some bytes) = (file ≡ Some bytes.items) × (length bytes.items ≤ most)
+Finds file most None = (bytes : List ℕ) × (file ≡ Some bytes) × (most < length bytes)

@@ -3,3 +3,4 @@ pub mod Files
 pub mod MemoryFiles
 pub mod MemorySink
 pub mod Taken
+pub mod Waiting

@@ -4,16 +4,22 @@
 //! tell nothing of content.
 #![tactic(auto)]
 
+mod bounded;
 mod files;
 mod memory_files;
 mod memory_sink;
 mod sink;
+mod sink_end;
 mod system;
+mod waiting_text;
 mod words;
 
+pub use bounded::{MOST_BYTES, MOST_REQUESTS, MOST_SOURCE, ReadEnd, read_file};
 pub use files::{FileEnd, Files};
 pub use memory_files::MemFiles;
 pub use memory_sink::MemSink;
 pub use sink::{Failed, Sink};
+pub use sink_end::SinkEnd;
 pub use system::{StdFiles, StdSink};
+pub use waiting_text::{put_all, put_long};
 pub use words::Words;

@@ -13,7 +13,8 @@ use Rattle.trace_world.specs.TraceWorld.{trace_world}
 use Rattle.vcd_trace.specs.Kept.{Replayed, samples_of}
 use Rattle.trace_judge.specs.declared.trace_fault.TraceFault.{TraceFault}
 use Rattle.trace_judge.specs.Refusals.{table_line, trace_line}
-use Rattle.trace_judge.specs.Judgement.{Finds, JudgesTrace, told_trace}
+use Rattle.io_edge.specs.Files.{Finds}
+use Rattle.trace_judge.specs.Judgement.{JudgesTrace, told_trace}
 use Rattle.machine_core.proofs.Readers.{some_reader}
 use Rattle.batch_run.specs.Texts.{batch_text, most_requests, requests_fault}
 use Rattle.replay_run.specs.Asked.{Names, Contents, HoldsTable, HoldsTrace, HoldsRequests, AsksReplay, NoTable, NoTrace, NoRequests, Accepted, TakesFileLine, EndsAsAsked, TakesFront, TakesSome, Completes, is_status}

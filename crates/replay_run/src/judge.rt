@@ -7,14 +7,11 @@ ghost use Rattle.replay_run.specs.Asked.{names_of, HoldsTable, is_status};
 ghost use Rattle.replay_run.specs.Judged.{HasLine, Judges, judged_status, names_as};
 
 use crate::walk::Walk;
-use io_edge::Files;
+use io_edge::{Files, MOST_REQUESTS, ReadEnd, read_file};
 use std::alloc::Global;
 use symtab::Table;
 use symtab_json::TableFault;
-use trace_judge::{ReadEnd, TraceFault, judge_table, judge_trace, read_file};
-
-/// Requests have at most 16 MiB.
-const MOST_REQUESTS: usize = 16 * 1024 * 1024;
+use trace_judge::{TraceFault, judge_table, judge_trace};
 
 /// What a replay reads: a symbol file, a value change dump file, the scope of the design in it (the names of the scopes from the
 /// outermost on, joined by dots), and a file of requests.

@@ -9,11 +9,9 @@ ghost use Rattle.replay_run.specs.Judged.{TakesText, TakesTextFront, judged_stat
 
 use crate::judge::{Judged, Replay, judge};
 use crate::write::write;
-use io_edge::{Files, Sink};
+use io_edge::{Files, ReadEnd, Sink, SinkEnd};
 use listen::Listener;
-use sink_text::SinkEnd;
 use std::alloc::Global;
-use trace_judge::ReadEnd;
 
 /// Writes the text that goes with what was judged, and gives the status.
 fn end<S: Sink>(alloc: Global, judged: Judged, listeners: Vec<Box<dyn Listener>>, out: &mut S) -> u8

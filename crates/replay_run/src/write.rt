@@ -9,9 +9,8 @@ ghost use Rattle.replay_run.specs.Judged.{TakesText, TakesTextFront, TakesWalk, 
 use crate::judge::Judged;
 use crate::walk::Walk;
 use batch_run::write_batch;
-use io_edge::Sink;
+use io_edge::{Sink, SinkEnd};
 use listen::Listener;
-use sink_text::SinkEnd;
 use std::alloc::Global;
 use trace_judge::{table_line, trace_line};
 

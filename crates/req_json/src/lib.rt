@@ -10,7 +10,6 @@ mod field;
 mod laws;
 mod notice;
 mod object;
-mod quoted;
 mod reply;
 mod request;
 mod value;

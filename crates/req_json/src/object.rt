@@ -5,11 +5,11 @@ ghost use Rattle.serde_json.specs.Data.{string};
 ghost use Rattle.serde_json.specs.Written.{compact_text};
 ghost use Rattle.req_json.specs.Objects.{object_text, pairs_text, put_text, texts_in};
 
-use crate::quoted::push_quoted;
 use crate::value::{Compact, push_comma};
 use std::alloc::Global;
 use std::collections::BTreeMap;
 use std::marker::Model;
+use symtab_json::push_quoted;
 use text_core::{Listed, NoMemory};
 
 /// The members of an object, in the order of the bytes of their keys. Of each value there is its compact text.

@@ -16,11 +16,11 @@ ghost use Rattle.req_json.specs.Values.{at_json, going_json, position_members, s
 ghost use Rattle.req_json.specs.Objects.{member_texts};
 
 use crate::object::{Object, object_of_two};
-use crate::quoted::push_quoted;
 use bv_core::{Bv, Sample, text_of};
 use itoa::Buffer;
 use machine_core::{At, Going, Shown};
 use std::alloc::Global;
+use symtab_json::push_quoted;
 use text_core::{Listed, NoMemory, Text};
 
 /// What stands in a reply or a notice.

@@ -4,7 +4,7 @@ use Rattle.io_edge.specs.Taken.{Appends, AppendsFront}
 use Rattle.listen.specs.Pairs.{Heard}
 use Rattle.link_edge.specs.Links.{Meaning}
 use Rattle.text_core.specs.declared.memory.NoMemory.{NoMemory}
-use Rattle.sink_text.specs.declared.end.SinkEnd.{SinkEnd}
+use Rattle.io_edge.specs.declared.sink_end.SinkEnd.{SinkEnd}
 use Rattle.duo_run.specs.declared.served.Served.{Served}
 use Rattle.serve_net.specs.declared.visit.Visit.{Visit}
 use Rattle.serve_net.specs.Visits.{visit_line}

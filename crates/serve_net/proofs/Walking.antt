@@ -7,8 +7,8 @@ use Rattle.io_edge.specs.Taken.{Appends}
 use Rattle.io_edge.proofs.Growth.{grown_twice, front_after, no_growth, front_from_whole}
 use Rattle.listen.specs.Pairs.{Heard}
 use Rattle.link_edge.specs.Links.{Meaning}
-use Rattle.sink_text.specs.declared.end.SinkEnd.{SinkEnd}
-use Rattle.sink_text.specs.declared.end.SinkEnd.TheVariants as sink_ends
+use Rattle.io_edge.specs.declared.sink_end.SinkEnd.{SinkEnd}
+use Rattle.io_edge.specs.declared.sink_end.SinkEnd.TheVariants as sink_ends
 use Rattle.duo_run.specs.declared.served.Served.{Served}
 use Rattle.serve_net.specs.declared.visit.Visit.{Visit}
 use Rattle.serve_net.specs.declared.visit.Visit.TheVariants.{NoLink, Linked}

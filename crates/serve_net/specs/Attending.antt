@@ -6,8 +6,8 @@ use Rattle.listen.specs.Pairs.{Heard}
 use Rattle.link_edge.specs.Links.{Meaning}
 use Rattle.link_edge.specs.Doors.{OneLess}
 use Rattle.link_edge.specs.declared.answers.End.TheVariants as ends
-use Rattle.sink_text.specs.declared.end.SinkEnd.{SinkEnd}
-use Rattle.sink_text.specs.declared.end.SinkEnd.TheVariants as sink_ends
+use Rattle.io_edge.specs.declared.sink_end.SinkEnd.{SinkEnd}
+use Rattle.io_edge.specs.declared.sink_end.SinkEnd.TheVariants as sink_ends
 use Rattle.text_core.specs.declared.memory.NoMemory.{NoMemory}
 use Rattle.duo_run.specs.declared.served.Served.{Served}
 use Rattle.serve_net.specs.declared.visit.Visit.{Visit}

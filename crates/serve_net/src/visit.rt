@@ -5,9 +5,8 @@ ghost use Rattle.io_edge.specs.Faults.{Rose};
 ghost use Rattle.io_edge.specs.Taken.{Appends, AppendsFront};
 ghost use Rattle.serve_net.specs.Visits.{said, end_word as the_end_word, visit_line as the_visit_line};
 
-use io_edge::Sink;
+use io_edge::{Sink, SinkEnd};
 use link_edge::End;
-use sink_text::SinkEnd;
 use std::alloc::Global;
 use text_core::NoMemory;
 

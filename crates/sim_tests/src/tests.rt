@@ -1,10 +1,9 @@
 use crate::delay::{delay, ports};
 use crate::missing::Missing;
 use bv_core::{NodeId, Sample};
-use io_edge::{MemSink, Sink};
+use io_edge::{MemSink, Sink, SinkEnd};
 use sim_core::Simulator;
 use sim_hist::SimTrace;
-use sink_text::SinkEnd;
 use std::alloc::Global;
 use std::test::Fail;
 use stim_text::read_stim;

@@ -5,5 +5,5 @@
 
 mod write;
 
-pub use sink_text::SinkEnd;
+pub use io_edge::SinkEnd;
 pub use write::write_symbols;

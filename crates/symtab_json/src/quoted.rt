@@ -61,8 +61,8 @@ fn push_bytes(text: &mut Vec<u8>, bytes: &[u8]) -> Result<(), NoMemory>
     Ok(())
 }
 
-/// Adds a JSON string of these bytes.
-pub(crate) fn push_quoted(text: &mut Vec<u8>, bytes: &[u8]) -> Result<(), NoMemory>
+/// Adds a JSON string of these bytes, which may be any. Fails only where memory runs out.
+pub fn push_quoted(text: &mut Vec<u8>, bytes: &[u8]) -> Result<(), NoMemory>
     ensures { OnOk result (text.new.items ≡ text.old.items ++ quoted bytes.now) }
 {
     text.push(b'"')?;

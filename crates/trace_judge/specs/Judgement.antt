@@ -39,11 +39,6 @@ told_trace parts scope text = told_by parts scope (meaning text)
 
 -- ---- what the calls answer
 
--- what a read of a file of at most so many bytes found: its bytes, or that there are more
-abbrev pub Finds : Option (List ℕ) → ℕ → Option (Vec ℕ Global) → Type 0
-Finds file most (Some bytes) = (file ≡ Some bytes.items) × (length bytes.items ≤ most)
-Finds file most None = (bytes : List ℕ) × (file ≡ Some bytes) × (most < length bytes)
-
 -- a text was judged: it tells this table, or is refused for this
 abbrev pub JudgesTableText : List ℕ → Result TableParts TableFault → Type 0
 JudgesTableText text found = told_table text ≡ found

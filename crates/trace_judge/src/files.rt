@@ -3,60 +3,15 @@
 ghost use Rattle.std.specs.Prelude.{◌≡◌, ◌≤◌, [], ◌∷◌, IfOk, IfSome, OnOk, IsErrOf};
 ghost use Rattle.io_edge.specs.Faults.{Rose};
 ghost use Rattle.io_edge.specs.Taken.{Appends, AppendsFront};
-ghost use Rattle.trace_judge.specs.declared.files.ReadEnd.TheVariants.{NoMemory};
-ghost use Rattle.trace_judge.specs.Judgement.{Finds, IsFitTable, IsFitTrace, JudgesBinding, JudgesTable, JudgesTableText, JudgesTrace, JudgesTraceText};
+ghost use Rattle.trace_judge.specs.Judgement.{IsFitTable, IsFitTrace, JudgesBinding, JudgesTable, JudgesTableText, JudgesTrace, JudgesTraceText};
 
 use crate::TraceFault;
-use io_edge::{FileEnd, Files};
+use io_edge::{Files, MOST_BYTES, ReadEnd, read_file};
 use std::alloc::Global;
 use symtab::Table;
 use symtab_json::{TableFault, read_table};
 use vcd_read::{Vcd, VcdFault, read_vcd};
 use vcd_trace::{BindFault, VcdTrace};
-
-/// Why a file was not judged.
-#[derive(Clone, Copy, PartialEq, Eq)]
-pub enum ReadEnd {
-    /// It was not read; the files' count of faults rose.
-    Failed,
-    /// Memory ran out.
-    NoMemory,
-}
-
-impl From<text_core::NoMemory> for ReadEnd {
-    ghost from_gives = { λ _ e. e ≡ NoMemory };
-
-    fn from(_: text_core::NoMemory) -> Self {
-        ReadEnd::NoMemory
-    }
-}
-
-/// A symbol file, and a value change dump file, have at most 64 MiB.
-const MOST_BYTES: usize = 64 * 1024 * 1024;
-
-/// The bytes of the file of this name, or None where there are more than `most`. The name is asked for once, unless memory runs out.
-///
-/// Errors: `Failed`, where the file was not read; and `NoMemory`.
-pub fn read_file<F: Files>(
-    alloc: Global,
-    files: &mut F,
-    name: &str,
-    most: usize,
-) -> Result<Option<Vec<u8>>, ReadEnd>
-    ensures found { IfOk result (λ found. IfSome (F.told files.old) (λ told. Finds (told name.now) most found)) }
-    ensures same { F.told files.new ≡ F.told files.old }
-    ensures asked { OnOk result (Appends (F.asked files.old) (F.asked files.new) (name.now ∷ [])) }
-    ensures front { AppendsFront (F.asked files.old) (F.asked files.new) (name.now ∷ []) }
-    ensures failed { IsErrOf result ReadEnd.Failed → Rose (F.fault_count files.old) (F.fault_count files.new) }
-    ensures later { F.fault_count files.old ≤ F.fault_count files.new }
-{
-    match files.read_all(alloc, name, most) {
-        Ok(bytes) => Ok(Some(bytes)),
-        Err(FileEnd::TooLong) => Ok(None),
-        Err(FileEnd::Failed) => Err(ReadEnd::Failed),
-        Err(FileEnd::NoMemory) => Err(ReadEnd::NoMemory),
-    }
-}
 
 /// The table that a text tells, or why it is refused.
 #[tactic(auto, using(symtab_json::proofs::Tables::tables_are_told))]

@@ -11,7 +11,7 @@ mod lines;
 mod refusals;
 mod trace_fault;
 
-pub use files::{ReadEnd, judge_table, judge_trace, read_file};
+pub use files::{judge_table, judge_trace};
 pub use laws::{lines_are_so, texts_have_one_judgement};
 pub use lines::{table_line, trace_line};
 pub use refusals::{table_name, table_number};

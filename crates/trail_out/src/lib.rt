@@ -7,4 +7,4 @@ mod rows;
 
 pub use laws::texts_are_trails;
 pub use rows::write_trail;
-pub use sink_text::SinkEnd;
+pub use io_edge::SinkEnd;

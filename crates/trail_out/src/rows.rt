@@ -10,13 +10,12 @@ ghost use Rattle.world_core.specs.World.{trail_text};
 ghost use Rattle.trace_core.specs.Known.{known, is_one};
 ghost use Rattle.trace_world.specs.TraceWorld.{trace_world};
 ghost use Rattle.trail_out.specs.Texts.{row_text, rows_text, slot_text, table_text};
-ghost use Rattle.sink_text.specs.Waiting.{Passes};
+ghost use Rattle.io_edge.specs.Waiting.{Passes};
 ghost use Rattle.trail_out.specs.Written.{samples_at, RowStands, SlotStands};
 
 use crate::line::{push_line, sample_of};
 use bv_core::Sample;
-use io_edge::Sink;
-use sink_text::{SinkEnd, put_long};
+use io_edge::{Sink, SinkEnd, put_long};
 use std::alloc::Global;
 use symtab::{Row, Slot, Table, TableParts};
 use text_core::NoMemory;

@@ -7,7 +7,7 @@ use Rattle.std.proofs.Math.Seq.{drop-cons}
 use Rattle.std.proofs.lemmas.List.{length-map}
 use Rattle.std.proofs.lemmas.Bool.Decides.{nat_tests}
 use Rattle.io_edge.specs.Taken.{Appends, AppendsFront}
-use Rattle.sink_text.specs.Waiting.{Passes}
+use Rattle.io_edge.specs.Waiting.{Passes}
 use Rattle.bv_core.specs.declared.reference.NodeId.{NodeId}
 use Rattle.list_core.specs.Lists.{from}
 use Rattle.net_core.specs.Nodes.{Shape}

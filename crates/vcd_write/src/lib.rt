@@ -11,5 +11,5 @@ mod word;
 mod write;
 
 pub use laws::{tells_the_samples, waves_read_back};
-pub use sink_text::SinkEnd;
+pub use io_edge::SinkEnd;
 pub use write::write_vcd;

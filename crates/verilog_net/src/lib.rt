@@ -10,5 +10,5 @@ pub use laws::{
     compiled_nets_are_kept_nets, modules_compute_sources, printed_designs_mean_their_nets,
     prints_the_design,
 };
-pub use sink_text::SinkEnd;
+pub use io_edge::SinkEnd;
 pub use write::write_verilog;

@@ -12,10 +12,9 @@ ghost use Rattle.verilog_net.specs.Printing.{HasPorts};
 
 use design_core::{Design, Ports};
 use design_net::compile;
-use io_edge::Sink;
+use io_edge::{Sink, SinkEnd};
 use lower_core::Mode;
 use place_core::Order;
-use sink_text::SinkEnd;
 use std::alloc::Global;
 use verilog_out::print_net;
 

@@ -3,8 +3,8 @@ use Rattle.std.proofs.Common.{◌≡◌, ℕ, zero, suc, ◌<◌, List, [], ◌�
 use Rattle.std.specs.List.{flat_map, filter_map, cons_option}
 use Rattle.std.proofs.lemmas.List.Concat.{flat_map-append}
 use Rattle.io_edge.specs.Taken.{Appends, AppendsFront}
-use Rattle.sink_text.specs.Waiting.{Passes}
-use Rattle.sink_text.proofs.Passing.{front_first, end_passes, end_front}
+use Rattle.io_edge.specs.Waiting.{Passes}
+use Rattle.io_edge.proofs.Passing.{front_first, end_passes, end_front}
 use Rattle.bv_core.specs.declared.reference.NodeId.{NodeId}
 use Rattle.list_core.specs.Lists.{from}
 use Rattle.design_core.specs.declared.ports.Ports.{Ports}

@@ -4,7 +4,7 @@ ghost use Rattle.std.specs.Prelude.{◌≡◌, ◌<◌, ◌≤◌, ◌++◌, [],
 ghost use Rattle.std.specs.List.{flat_map};
 ghost use Rattle.io_edge.specs.Faults.{Rose};
 ghost use Rattle.io_edge.specs.Taken.{Appends, AppendsFront};
-ghost use Rattle.sink_text.specs.Waiting.{Passes};
+ghost use Rattle.io_edge.specs.Waiting.{Passes};
 ghost use Rattle.net_core.specs.Nets.{outputs_of, OutputsFit, IsNet, StandBeside};
 ghost use Rattle.verilog_out.specs.Printed.{printed, FitsPorts};
 ghost use Rattle.verilog_out.specs.Lines.{part_line, part_text, output_line, body_text};
@@ -14,9 +14,8 @@ use crate::line::{push_line, push_output};
 use crate::part::Part;
 use bv_core::NodeId;
 use design_core::Ports;
-use io_edge::Sink;
+use io_edge::{Sink, SinkEnd, put_all, put_long};
 use net_core::{Net, nexts_by_number};
-use sink_text::{SinkEnd, put_all, put_long};
 use std::alloc::Global;
 use text_core::Text;
 

@@ -7,5 +7,5 @@ mod laws;
 mod write;
 
 pub use laws::{compiled_waves_are_kept, waves_tell_runs};
-pub use sink_text::SinkEnd;
+pub use io_edge::SinkEnd;
 pub use write::write_waves;

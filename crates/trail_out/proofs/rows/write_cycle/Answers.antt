@@ -2,7 +2,7 @@ use Rattle.std.proofs.Common.{◌<◌, length, arith}
 use Rattle.std.proofs.lemmas.Result.{err_from_is_err_and}
 use Rattle.trail_out.specs.Texts.{slot_text}
 use Rattle.trail_out.specs.Written.{samples_at}
-use Rattle.sink_text.proofs.Passing.{more_passes, front_passes}
+use Rattle.io_edge.proofs.Passing.{more_passes, front_passes}
 use Rattle.trail_out.proofs.Cycles.{number_next, number_of}
 use Rattle.trail_out.proofs.rows.write_cycle.Goals as goal
 

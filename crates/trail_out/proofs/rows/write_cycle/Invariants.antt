@@ -2,7 +2,7 @@ use Rattle.std.proofs.Common.{◌≤◌}
 use Rattle.std.specs.List.{flat_map}
 use Rattle.list_core.specs.Lists.{from}
 use Rattle.trail_out.specs.Texts.{slot_text}
-use Rattle.sink_text.specs.Waiting.{Passes}
+use Rattle.io_edge.specs.Waiting.{Passes}
 use Rattle.trail_out.specs.Written.{samples_at}
 use Rattle.trail_out.proofs.rows.write_cycle.Given as goal
 

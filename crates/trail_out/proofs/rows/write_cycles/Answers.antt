@@ -3,7 +3,7 @@ use Rattle.std.specs.List.{flat_map}
 use Rattle.std.proofs.lemmas.Result.{err_from_is_err_and}
 use Rattle.list_core.specs.Lists.{from}
 use Rattle.trail_out.specs.Texts.{slot_text, cycle_text}
-use Rattle.sink_text.proofs.Passing.{more_passes, front_passes}
+use Rattle.io_edge.proofs.Passing.{more_passes, front_passes}
 use Rattle.trail_out.proofs.Cycles.{number_next, number_of, set_at}
 use Rattle.trail_out.proofs.rows.write_cycles.Goals as goal
 

@@ -2,7 +2,7 @@ use Rattle.std.proofs.Common.{◌≡◌, ◌≤◌}
 use Rattle.std.specs.List.{flat_map}
 use Rattle.list_core.specs.Lists.{from}
 use Rattle.trail_out.specs.Texts.{cycle_text}
-use Rattle.sink_text.specs.Waiting.{Passes}
+use Rattle.io_edge.specs.Waiting.{Passes}
 use Rattle.trail_out.proofs.rows.write_cycles.Given as goal
 
 -- the lines of the cycles so far; the samples are those of the beginning

@@ -1,7 +1,7 @@
 use Rattle.std.proofs.Common.{subst}
 use Rattle.std.proofs.lemmas.Result.{err_from_is_err_and}
 use Rattle.io_edge.specs.Taken.{Appends, AppendsFront}
-use Rattle.sink_text.proofs.Passing.{last_passes, last_front}
+use Rattle.io_edge.proofs.Passing.{last_passes, last_front}
 use Rattle.trail_out.proofs.Trails.{texts_are_trails}
 use Rattle.trail_out.proofs.rows.write_trail.Goals as goal
 

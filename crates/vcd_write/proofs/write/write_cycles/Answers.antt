@@ -1,8 +1,8 @@
 use Rattle.std.proofs.Common.{◌≡◌, ◌+◌, ◌<◌, ◌≤◌, ◌++◌, List, ℕ, length, sym, ap, ap₂, ◌∙◌, subst, arith}
 use Rattle.std.proofs.lemmas.Result.{err_from_is_err_and}
 use Rattle.io_edge.specs.Taken.{AppendsFront}
-use Rattle.sink_text.specs.Waiting.{Passes}
-use Rattle.sink_text.proofs.Passing.{more_passes, front_passes}
+use Rattle.io_edge.specs.Waiting.{Passes}
+use Rattle.io_edge.proofs.Passing.{more_passes, front_passes}
 use Rattle.net_core.specs.Nets.{NetParts}
 use Rattle.stim_text.specs.Stimulus.{Stimulus}
 use Rattle.verilog_out.proofs.Numbers.{number_next, number_of}

@@ -1,7 +1,7 @@
 use Rattle.std.proofs.Common.{◌≡◌, ◌≤◌, ◌<◌, length}
 use Rattle.std.specs.List.{flat_map}
 use Rattle.list_core.specs.Lists.{from}
-use Rattle.sink_text.specs.Waiting.{Passes}
+use Rattle.io_edge.specs.Waiting.{Passes}
 use Rattle.vcd_write.specs.Run.{row_of}
 use Rattle.vcd_write.specs.Written.{cycle_text}
 use Rattle.vcd_write.proofs.write.write_cycles.Given as goal

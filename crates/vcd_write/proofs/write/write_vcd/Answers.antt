@@ -1,7 +1,7 @@
 use Rattle.std.proofs.Common.{refl}
 use Rattle.std.proofs.lemmas.Result.{err_from_is_err_and}
 use Rattle.io_edge.proofs.Growth.{no_growth}
-use Rattle.sink_text.proofs.Passing.{last_passes, last_front}
+use Rattle.io_edge.proofs.Passing.{last_passes, last_front}
 use Rattle.vcd_write.proofs.write.write_vcd.Goals as goal
 
 pub returns-in_err-nodes-clause-front : goal.returns-in_err-nodes-clause-front

@@ -1,6 +1,6 @@
 use Rattle.std.proofs.Common.{◌++◌, refl}
 use Rattle.std.proofs.lemmas.Result.{err_from_is_err_and}
-use Rattle.sink_text.proofs.Passing.{more_passes, front_passes, front_first}
+use Rattle.io_edge.proofs.Passing.{more_passes, front_passes, front_first}
 use Rattle.verilog_out.specs.declared.part.Part.TheVariants.{Declarations, Assignments, Steps}
 use Rattle.verilog_out.specs.Lines.{part_text, outputs_text}
 use Rattle.verilog_out.proofs.Gathered.{body_split, body_joined, body_last}

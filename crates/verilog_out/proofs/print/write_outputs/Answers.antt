@@ -1,7 +1,7 @@
 use Rattle.std.proofs.Common.{ℕ, ◌<◌, List, length, subst, sym, arith}
 use Rattle.bv_core.specs.declared.reference.NodeId.{NodeId}
 use Rattle.std.proofs.lemmas.Result.{err_from_is_err_and}
-use Rattle.sink_text.proofs.Passing.{more_passes, front_passes, piece_next, piece_of}
+use Rattle.io_edge.proofs.Passing.{more_passes, front_passes, piece_next, piece_of}
 use Rattle.verilog_out.specs.Lines.{output_line}
 use Rattle.verilog_out.proofs.Gathered.{output_within}
 use Rattle.verilog_out.proofs.print.write_outputs.Goals as goal

@@ -1,6 +1,6 @@
 use Rattle.std.proofs.Common.{◌≤◌, take}
 use Rattle.std.specs.List.{flat_map}
-use Rattle.sink_text.specs.Waiting.{Passes}
+use Rattle.io_edge.specs.Waiting.{Passes}
 use Rattle.verilog_out.specs.Lines.{output_line}
 use Rattle.verilog_out.proofs.print.write_outputs.Given as goal
 

@@ -1,6 +1,6 @@
 use Rattle.std.proofs.Common.{◌<◌, length, arith}
 use Rattle.std.proofs.lemmas.Result.{err_from_is_err_and}
-use Rattle.sink_text.proofs.Passing.{more_passes, front_passes}
+use Rattle.io_edge.proofs.Passing.{more_passes, front_passes}
 use Rattle.verilog_out.specs.Lines.{part_line}
 use Rattle.verilog_out.proofs.Numbers.{number_next, number_of}
 use Rattle.verilog_out.proofs.print.write_part.Goals as goal

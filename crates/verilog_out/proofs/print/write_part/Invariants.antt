@@ -1,6 +1,6 @@
 use Rattle.std.proofs.Common.{◌≤◌}
 use Rattle.std.specs.List.{flat_map}
-use Rattle.sink_text.specs.Waiting.{Passes}
+use Rattle.io_edge.specs.Waiting.{Passes}
 use Rattle.list_core.specs.Lists.{from}
 use Rattle.verilog_out.specs.Lines.{part_line}
 use Rattle.verilog_out.proofs.print.write_part.Given as goal

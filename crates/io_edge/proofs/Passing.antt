@@ -5,7 +5,7 @@ use Rattle.std.proofs.lemmas.List.{take_more}
 use Rattle.std.proofs.lemmas.List.Concat.{flat_map-append}
 use Rattle.io_edge.specs.Taken.{Appends, AppendsFront}
 use Rattle.io_edge.proofs.Growth.{grown_twice, front_after, front_of_front, pieces_at}
-use Rattle.sink_text.specs.Waiting.{Passes}
+use Rattle.io_edge.specs.Waiting.{Passes}
 
 no_more : (old : Option (List ℕ)) → Appends old old []
 no_more None = refl

@@ -1,7 +1,9 @@
-ghost use Rattle.std.specs.Prelude.{◌≡◌};
-ghost use Rattle.sink_text.specs.declared.end.SinkEnd.TheVariants.{Failed as the_failed, NoMemory as the_no_memory};
+//! Why a text was not written to its end.
 
-use io_edge::Failed;
+ghost use Rattle.std.specs.Prelude.{◌≡◌};
+ghost use Rattle.io_edge.specs.declared.sink_end.SinkEnd.TheVariants.{Failed as the_failed, NoMemory as the_no_memory};
+
+use crate::Failed;
 use std::alloc::{AllocError, AllocFailed};
 
 /// Why a text was not written to its end.

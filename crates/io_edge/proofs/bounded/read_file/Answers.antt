@@ -1,6 +1,6 @@
 use Rattle.std.proofs.Common.{refl, []}
 use Rattle.io_edge.proofs.Growth.{asked_front}
-use Rattle.trace_judge.proofs.files.read_file.Goals as goal
+use Rattle.io_edge.proofs.bounded.read_file.Goals as goal
 
 pub returns-in-Ok-clause-front : goal.returns-in-Ok-clause-front
 returns-in-Ok-clause-front g c = asked_front _ _ _ c.read_all.result [] _ refl c.read_all.ensures.asked
