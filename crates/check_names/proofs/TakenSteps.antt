@@ -1,20 +1,16 @@
 -- Names that are taken, one after another.
-use Rattle.std.proofs.Common.{◌≡◌, ℕ, zero, suc, ◌+◌, ◌<◌, ◌≤◌, Bool, true, false, ◌||◌, bytes_eq, List, [], ◌∷◌, ◌++◌, length, drop, get_or, if◌then◌else◌, Option, Some, None, append_assoc, append-nil, refl, sym, ap, ◌∙◌, Vec, Global}
+use Rattle.std.proofs.Common.{◌≡◌, ℕ, zero, suc, ◌+◌, ◌<◌, ◌≤◌, Bool, true, false, ◌||◌, bytes_eq, List, [], ◌∷◌, ◌++◌, length, drop, get_or, if◌then◌else◌, Option, Some, None, append_assoc, append-nil, refl, sym, ap, ◌∙◌}
 use Rattle.std.specs.Borrow.{Bor}
-use Rattle.std.proofs.lemmas.List.{drop_more, map-append}
+use Rattle.std.proofs.lemmas.List.{drop_more}
 use Rattle.std.proofs.Math.ListN.{drop_of_length-le}
 use Rattle.design_core.specs.declared.statement.Stmt as code_stmt
-use Rattle.design_core.specs.declared.statement.Stmt.TheVariants as code_stmts
-use Rattle.design_core.specs.declared.expr.Expr as code_expr
-use Rattle.design_core.specs.View.{stmt_of}
-use Rattle.design_core.specs.Design.{Gens, Stmt, Assign, Let, If}
-use Rattle.design_core.proofs.Views.{stmt_assign, stmt_let, stmt_if}
+use Rattle.design_core.specs.Design.{Stmt, Assign, Let, If}
 use Rattle.design_core.specs.Statements.{stmt_at, stmts_at}
 use Rattle.check_core.specs.declared.fault.CheckFault.TheVariants.{DuplicateName}
 use Rattle.names.specs.Known.{Name, Known, with, either}
 use Rattle.check_core.specs.Faults.{spot}
 use Rattle.check_core.specs.Names.{taken_twice, lets_in}
-use Rattle.check_names.specs.Things.{thing_at, things_at}
+use Rattle.check_names.specs.Things.{things_at}
 
 split : (known : Known) (all : List (ℕ × Bor (List ℕ))) (i : ℕ) (p : ℕ × Bor (List ℕ)) → i < length all → p ≡ get_or all i p
     → taken_twice known (things_at (drop i all)) ≡ (if known p.1.now then Some (DuplicateName (spot p.0 p.1.now)) else taken_twice (with p.1.now known) (things_at (drop (i + 1) all)))
@@ -54,20 +50,6 @@ pub taken_end : (known : Known) (all : List (ℕ × Bor (List ℕ))) (i : ℕ) �
 taken_end known all i past = ap (λ (l : List (ℕ × Bor (List ℕ))). taken_twice known (things_at l)) (drop_of_length-le all past)
 
 -- ---- the lets of statements
-
-pub assign_put : (found : List (ℕ × Name)) (s : code_stmt.Stmt) (slot line : ℕ) (gens : Gens) (x : Name) (e : code_expr.Expr) → s ≡ code_stmts.Assign slot line gens x e → found ≡ found ++ lets_in (stmt_of s ∷ [])
-assign_put found s slot line gens x e is =
-    sym (append-nil found) ∙ ap (λ (t : Stmt). found ++ lets_in (t ∷ [])) (sym (stmt_assign slot line gens x e)) ∙ ap (λ (t : code_stmt.Stmt). found ++ lets_in (stmt_of t ∷ [])) (sym is)
-
-pub if_put : (found : List (ℕ × Name)) (s : code_stmt.Stmt) (slot line : ℕ) (gens : Gens) (c : code_expr.Expr) (a : Vec code_stmt.Stmt Global) (b : Option (Vec code_stmt.Stmt Global)) → s ≡ code_stmts.If slot line gens c a b → found ≡ found ++ lets_in (stmt_of s ∷ [])
-if_put found s slot line gens c a b is =
-    sym (append-nil found) ∙ ap (λ (t : Stmt). found ++ lets_in (t ∷ [])) (sym (stmt_if slot line gens c a b)) ∙ ap (λ (t : code_stmt.Stmt). found ++ lets_in (stmt_of t ∷ [])) (sym is)
-
-pub let_put : (old new : List (ℕ × Bor (List ℕ))) (name : Bor (List ℕ)) (s : code_stmt.Stmt) (slot line : ℕ) (gens : Gens) (x : Name) (e : code_expr.Expr) → s ≡ code_stmts.Let slot line gens x e
-    → name.now ≡ x → new ≡ old ++ (line, name) ∷ [] → things_at new ≡ things_at old ++ lets_in (stmt_of s ∷ [])
-let_put old new name s slot line gens x e is called put =
-    ap things_at put ∙ map-append thing_at old ((line, name) ∷ []) ∙ ap (λ (y : Name). things_at old ++ (line, y) ∷ []) called
-    ∙ ap (λ (t : Stmt). things_at old ++ lets_in (t ∷ [])) (sym (stmt_let slot line gens x e)) ∙ ap (λ (t : code_stmt.Stmt). things_at old ++ lets_in (stmt_of t ∷ [])) (sym is)
 
 -- one statement more
 pub lets_next : (found now : List (ℕ × Name)) (all : List (Bor code_stmt.Stmt)) (i : ℕ) (s : Bor code_stmt.Stmt) → i < length all → s ≡ get_or all i s → now ≡ found ++ lets_in (stmt_at s ∷ [])
