@@ -14,7 +14,7 @@ use Rattle.design_core.specs.Design.{Gens, Expr, Assign, Let, If, Body, Done, El
 use Rattle.elab_base.specs.Compares.{compares}
 use Rattle.elab_base.specs.Turns.{turns_at}
 use Rattle.elab_base.proofs.Steps.{counted, refused, given, faulty, ends, then_assoc}
-use Rattle.elab_body.specs.Body.{assigned, bound_let, tested, branches, turn, in_turn, else_stmts}
+use Rattle.elab_body.specs.Body.{assigned, bound_let, tested, branches, chosen, turn, in_turn, else_stmts}
 
 statement_assign : (line : ℕ) (f : Fam) (e : tree.Expr) (gens : Gens) (made : Body) → statement (assign line f e) gens made ≡ and_then (assigned line gens f e) (λ s. Gives (added made s))
 unfolding statement assigned and_then
@@ -28,12 +28,14 @@ statement_bind line f e gens made = ap (Counted Statements line) (sym (
     then_assoc (fam_name line gens f) (λ x. and_then (expr line gens e) (λ v. Gives (Let 0 line gens x v))) (λ s. Gives (added made s))
     ∙ (λ i. and_then (fam_name line gens f) (λ x. then_assoc (expr line gens e) (λ v. Gives (Let 0 line gens x v)) (λ s. Gives (added made s)) i))))
 
-statement_choose : (line : ℕ) (c : tree.Expr) (first : Stmts) (second : tree.Else) (gens : Gens) (made : Body) →
-    statement (choose line c first second) gens made ≡ and_then (tested line gens c) (λ test. and_then (branches first second gens) (λ p. Gives (added made (If 0 line gens test p.0 p.1))))
-unfolding statement tested branches and_then
-statement_choose line c first second gens made = ap (Counted Statements line) (λ i. and_then (expr line gens c) (λ test. sym (
-    then_assoc {B = Body × Else} (statements first gens Done) (λ y. and_then (else_body second gens) (λ n. Gives (y, n))) (λ p. Gives (added made (If 0 line gens test p.0 p.1)))
-    ∙ (λ j. and_then (statements first gens Done) (λ y. then_assoc {B = Body × Else} (else_body second gens) (λ n. Gives (y, n)) (λ p. Gives (added made (If 0 line gens test p.0 p.1))) j))) i))
+statement_choose : (line : ℕ) (c : tree.Expr) (first : Stmts) (second : tree.Else) (gens : Gens) (made : Body) → statement (choose line c first second) gens made ≡ and_then (chosen line gens c first second) (λ s. Gives (added made s))
+unfolding statement chosen tested branches and_then
+statement_choose line c first second gens made = ap (Counted Statements line) (sym (
+    then_assoc (expr line gens c) (λ test. and_then (branches first second gens) (λ p. Gives (If 0 line gens test p.0 p.1))) (λ s. Gives (added made s))
+    ∙ (λ i. and_then (expr line gens c) (λ test. (
+    then_assoc {A = Body × Else} (branches first second gens) (λ p. Gives (If 0 line gens test p.0 p.1)) (λ s. Gives (added made s))
+    ∙ then_assoc {B = Body × Else} (statements first gens Done) (λ y. and_then (else_body second gens) (λ n. Gives (y, n))) (λ p. Gives (added made (If 0 line gens test p.0 p.1)))
+    ∙ (λ j. and_then (statements first gens Done) (λ y. then_assoc {B = Body × Else} (else_body second gens) (λ n. Gives (y, n)) (λ p. Gives (added made (If 0 line gens test p.0 p.1))) j))) i))))
 
 statement_repeat : (line : ℕ) (v : Name) (from to : Int) (body : Stmts) (gens : Gens) (made : Body) →
     statement (repeat line v from to body) gens made ≡ and_then (turns_at line gens from to) (λ p. turns line (in_turn body v gens) p.0 p.1 made)
@@ -59,22 +61,12 @@ pub given_fault : (line : ℕ) (left : Int) (cmp : Cmp) (right : Int) (first : S
     judge seen (statement (gen_given line left cmp right first second) gens made) ≡ Err x
 given_fault line left cmp right first second gens made seen x e = ap (judge seen) (statement_given line left cmp right first second gens made) ∙ faulty _ _ _ _ e
 
-given_branch : (line : ℕ) (left : Int) (cmp : Cmp) (right : Int) (first chosen : Stmts) (second : tree.Else) (gens : Gens) (made : Body) (seen : Seen) (b : Bool) (r : Result (Body × Seen) Fault) →
+pub given_branch : (line : ℕ) (left : Int) (cmp : Cmp) (right : Int) (first chosen : Stmts) (second : tree.Else) (gens : Gens) (made : Body) (seen : Seen) (b : Bool) (r : Result (Body × Seen) Fault) →
     compares line gens left cmp right ≡ Gives b → chosen ≡ (if b then first else else_stmts second) → judge seen (statements chosen gens made) ≡ r →
     judge seen (statement (gen_given line left cmp right first second) gens made) ≡ r
 given_branch line left cmp right first chosen second gens made seen b r e c q =
     ap (judge seen) (statement_given line left cmp right first second gens made)
     ∙ given _ _ _ _ _ e (ap (judge seen) (one_branch first second gens made b) ∙ ap (λ body. judge seen (statements body gens made)) (sym c) ∙ q)
-
-pub given_done : (line : ℕ) (left : Int) (cmp : Cmp) (right : Int) (first chosen : Stmts) (second : tree.Else) (gens : Gens) (made last : Body) (seen after : Seen) (b : Bool) →
-    compares line gens left cmp right ≡ Gives b → chosen ≡ (if b then first else else_stmts second) → judge seen (statements chosen gens made) ≡ Ok (last, after) →
-    judge seen (statement (gen_given line left cmp right first second) gens made) ≡ Ok (last, after)
-given_done line left cmp right first chosen second gens made last seen after b e c q = given_branch line left cmp right first chosen second gens made seen b (Ok (last, after)) e c q
-
-pub given_last_fault : (line : ℕ) (left : Int) (cmp : Cmp) (right : Int) (first chosen : Stmts) (second : tree.Else) (gens : Gens) (made : Body) (seen : Seen) (b : Bool) (x : Fault) →
-    compares line gens left cmp right ≡ Gives b → chosen ≡ (if b then first else else_stmts second) → judge seen (statements chosen gens made) ≡ Err x →
-    judge seen (statement (gen_given line left cmp right first second) gens made) ≡ Err x
-given_last_fault line left cmp right first chosen second gens made seen b x e c q = given_branch line left cmp right first chosen second gens made seen b (Err x) e c q
 
 pub else_none : (gens : Gens) (seen : Seen) → judge seen (else_body no_else gens) ≡ Ok (NoElse, seen)
 unfolding else_body
@@ -191,17 +183,28 @@ pub bind_done : (line : ℕ) (gens : Gens) (made : Body) (f : Fam) (e : tree.Exp
     judge seen (statement (bind line f e) gens made) ≡ Ok (added made s, s1)
 bind_done line gens made f e s seen s1 e1 = ap (judge seen) (statement_bind line f e gens made) ∙ counted _ _ _ _ _ _ e1 (ends _ _)
 
-pub choose_fault_1 : (line : ℕ) (gens : Gens) (made : Body) (c : tree.Expr) (first : Stmts) (second : tree.Else) (seen : Seen) (x : Fault) → judge seen (tested line gens c) ≡ Err x →
+pub chosen_fault_1 : (line : ℕ) (gens : Gens) (c : tree.Expr) (first : Stmts) (second : tree.Else) (seen : Seen) (x : Fault) → judge seen (tested line gens c) ≡ Err x →
+    judge seen (chosen line gens c first second) ≡ Err x
+unfolding chosen
+chosen_fault_1 line gens c first second seen x e1 = refused _ _ _ _ e1
+
+pub chosen_fault_2 : (line : ℕ) (gens : Gens) (c : tree.Expr) (first : Stmts) (second : tree.Else) (test : Expr) (seen s1 : Seen) (x : Fault) → judge seen (tested line gens c) ≡ Ok (test, s1) → judge s1 (branches first second gens) ≡ Err x →
+    judge seen (chosen line gens c first second) ≡ Err x
+unfolding chosen
+chosen_fault_2 line gens c first second test seen s1 x e1 e2 = counted _ _ _ _ _ _ e1 (refused _ _ _ _ e2)
+
+pub chosen_done : (line : ℕ) (gens : Gens) (c : tree.Expr) (first : Stmts) (second : tree.Else) (test : Expr) (yes_body : Body) (no_body : Else) (seen s1 s2 : Seen) → judge seen (tested line gens c) ≡ Ok (test, s1) → judge s1 (branches first second gens) ≡ Ok ((yes_body, no_body), s2) →
+    judge seen (chosen line gens c first second) ≡ Ok (If 0 line gens test yes_body no_body, s2)
+unfolding chosen
+chosen_done line gens c first second test yes_body no_body seen s1 s2 e1 e2 = counted _ _ _ _ _ _ e1 (counted _ _ _ _ _ _ e2 (ends _ _))
+
+pub choose_fault_1 : (line : ℕ) (gens : Gens) (made : Body) (c : tree.Expr) (first : Stmts) (second : tree.Else) (seen : Seen) (x : Fault) → judge seen (chosen line gens c first second) ≡ Err x →
     judge seen (statement (choose line c first second) gens made) ≡ Err x
 choose_fault_1 line gens made c first second seen x e1 = ap (judge seen) (statement_choose line c first second gens made) ∙ refused _ _ _ _ e1
 
-pub choose_fault_2 : (line : ℕ) (gens : Gens) (made : Body) (c : tree.Expr) (first : Stmts) (second : tree.Else) (test : Expr) (seen s1 : Seen) (x : Fault) → judge seen (tested line gens c) ≡ Ok (test, s1) → judge s1 (branches first second gens) ≡ Err x →
-    judge seen (statement (choose line c first second) gens made) ≡ Err x
-choose_fault_2 line gens made c first second test seen s1 x e1 e2 = ap (judge seen) (statement_choose line c first second gens made) ∙ counted _ _ _ _ _ _ e1 (refused _ _ _ _ e2)
-
-pub choose_done : (line : ℕ) (gens : Gens) (made : Body) (c : tree.Expr) (first : Stmts) (second : tree.Else) (test : Expr) (yes_body : Body) (no_body : Else) (seen s1 s2 : Seen) → judge seen (tested line gens c) ≡ Ok (test, s1) → judge s1 (branches first second gens) ≡ Ok ((yes_body, no_body), s2) →
-    judge seen (statement (choose line c first second) gens made) ≡ Ok (added made (If 0 line gens test yes_body no_body), s2)
-choose_done line gens made c first second test yes_body no_body seen s1 s2 e1 e2 = ap (judge seen) (statement_choose line c first second gens made) ∙ counted _ _ _ _ _ _ e1 (counted _ _ _ _ _ _ e2 (ends _ _))
+pub choose_done : (line : ℕ) (gens : Gens) (made : Body) (c : tree.Expr) (first : Stmts) (second : tree.Else) (s : design.Stmt) (seen s1 : Seen) → judge seen (chosen line gens c first second) ≡ Ok (s, s1) →
+    judge seen (statement (choose line c first second) gens made) ≡ Ok (added made s, s1)
+choose_done line gens made c first second s seen s1 e1 = ap (judge seen) (statement_choose line c first second gens made) ∙ counted _ _ _ _ _ _ e1 (ends _ _)
 
 pub repeat_fault_1 : (line : ℕ) (gens : Gens) (made : Body) (v : Name) (from to : Int) (body : Stmts) (seen : Seen) (x : Fault) → turns_at line gens from to ≡ Faulty x →
     judge seen (statement (repeat line v from to body) gens made) ≡ Err x
@@ -227,8 +230,8 @@ pub ruleset else_steps = (otherwise_fault_1, otherwise_done, else_none)
 
 pub ruleset turn_steps = (turn_fault_1, turn_done, turn_last_fault)
 
-pub ruleset stmt_steps = (assign_fault_1, assign_done, bind_fault_1, bind_done, repeat_fault_1, repeat_done, repeat_last_fault)
+pub ruleset chosen_steps = (chosen_fault_1, chosen_fault_2, chosen_done)
 
-pub ruleset choose_steps = (choose_fault_1, choose_fault_2, choose_done)
+pub ruleset stmt_steps = (assign_fault_1, assign_done, bind_fault_1, bind_done, choose_fault_1, choose_done)
 
-pub ruleset given_steps = (given_fault, given_done, given_last_fault)
+pub ruleset repeat_steps = (repeat_fault_1, repeat_done, repeat_last_fault)

@@ -1,7 +1,7 @@
 -- The statements that a block has so far, and the steps of the walk over statements.
-use Rattle.std.specs.Prelude.{ℕ, ℤ, Vec}
+use Rattle.std.specs.Prelude.{ℕ, ℤ, Bool, true, false, Vec}
 use Rattle.std.specs.Global.{Global}
-use Rattle.gen_tree.specs.Tree.{Fam, Stmts, no_stmt, no_else, otherwise}
+use Rattle.gen_tree.specs.Tree.{Fam, Stmts, no_stmt, no_else, otherwise, assign, bind, choose, repeat, given}
 use Rattle.gen_tree.specs.Tree as tree
 use Rattle.elab_core.specs.declared.Count.TheVariants.{Statements, Turns}
 use Rattle.elab_core.specs.Walk.{Walk, Gives, ◌>>=◌, counts}
@@ -12,6 +12,14 @@ use Rattle.exec_core.specs.Block.{Name}
 use Rattle.design_core.specs.Design.{Gens, Expr, Body, Done, Else}
 use Rattle.design_core.specs.Design as design
 use Rattle.design_core.specs.View.{body_of}
+
+-- a statement that stands for none of its own: those of its turns, or of one of its branches, stand there
+abbrev pub is_generated : tree.Stmt → Bool
+is_generated (assign line f e) = false
+is_generated (bind line f e) = false
+is_generated (choose line c first second) = false
+is_generated (repeat line x from to body) = true
+is_generated (given line left cmp right first second) = true
 
 -- what a list of statements is
 unfoldable pub made_of : Vec code_stmt.Stmt Global → Body
@@ -45,6 +53,13 @@ branches first second gens = do
   yes_body ← statements first gens Done
   no_body ← else_body second gens
   Gives (yes_body, no_body)
+
+-- an `if` as it is elaborated
+unfoldable pub chosen : ℕ → Gens → tree.Expr → Stmts → tree.Else → Walk design.Stmt
+chosen line gens c first second = do
+  test ← tested line gens c
+  both ← branches first second gens
+  Gives (design.If 0 line gens test both.0 both.1)
 
 -- a turn of a loop, with the names inside
 unfoldable pub turn : ℕ → Stmts → Gens → Body → Walk Body

@@ -1,3 +1,6 @@
+//! Expressions: each is counted, then its operands from left to right, then its integers. An operand goes behind a box as soon as it
+//! is made.
+
 ghost use Rattle.std.specs.Prelude.{◌≡◌};
 ghost use Rattle.gen_tree.specs.View.{expr_of as source_of};
 ghost use Rattle.design_core.specs.View.{expr_of};
@@ -30,10 +33,7 @@ pub fn expression(
 {
     met.take(Count::Parts, line)?;
     match expr {
-        Expr::Read(name) => {
-            let name = family_name(alloc, line, scope, name)?;
-            Ok(design_core::Expr::Read(name))
-        }
+        Expr::Read(name) => Ok(design_core::Expr::Read(family_name(alloc, line, scope, name)?)),
         Expr::Out(child, output) => {
             let child = family_name(alloc, line, scope, child)?;
             let output = Text::new(alloc, output.bytes())?;
@@ -44,35 +44,27 @@ pub fn expression(
             Ok(design_core::Expr::Value(literal))
         }
         Expr::Un(op, value) => {
-            let value = expression(alloc, met, value, line, scope)?;
-            let value = boxed(alloc, value)?;
+            let value = boxed(alloc, expression(alloc, met, value, line, scope)?)?;
             Ok(unary(*op, value))
         }
         Expr::Bin(op, first, second) => {
-            let first = expression(alloc, met, first, line, scope)?;
-            let first = boxed(alloc, first)?;
-            let second = expression(alloc, met, second, line, scope)?;
-            let second = boxed(alloc, second)?;
+            let first = boxed(alloc, expression(alloc, met, first, line, scope)?)?;
+            let second = boxed(alloc, expression(alloc, met, second, line, scope)?)?;
             Ok(binary(*op, first, second))
         }
         Expr::Mux(test, first, second) => {
-            let test = expression(alloc, met, test, line, scope)?;
-            let test = boxed(alloc, test)?;
-            let first = expression(alloc, met, first, line, scope)?;
-            let first = boxed(alloc, first)?;
-            let second = expression(alloc, met, second, line, scope)?;
-            let second = boxed(alloc, second)?;
+            let test = boxed(alloc, expression(alloc, met, test, line, scope)?)?;
+            let first = boxed(alloc, expression(alloc, met, first, line, scope)?)?;
+            let second = boxed(alloc, expression(alloc, met, second, line, scope)?)?;
             Ok(mux(test, first, second))
         }
         Expr::Zext(value, width) => {
-            let value = expression(alloc, met, value, line, scope)?;
-            let value = boxed(alloc, value)?;
+            let value = boxed(alloc, expression(alloc, met, value, line, scope)?)?;
             let width = number_at(alloc, line, scope, width)?;
             Ok(zext(value, width))
         }
         Expr::Slice(value, high, low) => {
-            let value = expression(alloc, met, value, line, scope)?;
-            let value = boxed(alloc, value)?;
+            let value = boxed(alloc, expression(alloc, met, value, line, scope)?)?;
             let (high, low) = two_numbers(alloc, line, scope, high, low)?;
             Ok(slice(value, high, low))
         }

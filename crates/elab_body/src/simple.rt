@@ -40,7 +40,7 @@ pub(crate) fn assigned(
 
 /// A `let`: its count, its name, its value.
 #[tactic(auto, using(elab_base::proofs::Counting::count_steps, crate::proofs::StmtCases::bound_steps))]
-pub(crate) fn bound(
+pub(crate) fn named(
     alloc: Global,
     met: &mut Met,
     line: u32,

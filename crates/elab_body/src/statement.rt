@@ -1,24 +1,25 @@
-ghost use Rattle.std.specs.Prelude.{◌≡◌, length, take, if◌then◌else◌};
-ghost use Rattle.gen_tree.specs.Tree as tree;
-ghost use Rattle.gen_tree.specs.View.{expr_of as source_of, int_of, stmt_of as source_stmt_of, stmts_of, else_of as source_else_of};
-ghost use Rattle.design_core.specs.View.{body_of, else_of};
+//! Statements one after another: each kind is walked by one function, whose statement is put behind the others. Those of a loop's turns
+//! and of the branch of a `gen if` go there themselves.
+
+ghost use Rattle.std.specs.Prelude.{◌≡◌, true, length, take, if◌then◌else◌};
+ghost use Rattle.gen_tree.specs.View.{expr_of as source_of, stmt_of as source_stmt_of, stmts_of, else_of as source_else_of};
+ghost use Rattle.design_core.specs.View.{stmt_of as design_stmt_of, body_of, else_of};
 ghost use Rattle.design_core.specs.Design.{Done};
 ghost use Rattle.elab_core.specs.Results.{Judged};
 ghost use Rattle.elab_core.specs.Walk.{judge};
 ghost use Rattle.elab_core.specs.Elab.{statement as statement_walk, statements as statements_walk, else_body, turns as turns_walk};
 ghost use Rattle.elab_base.specs.Met.{met_of, CountsUp};
 ghost use Rattle.gen_scope.specs.Gens.{bound};
-ghost use Rattle.elab_body.specs.Body.{made_of, branches as branches_walk, turn as turn_walk, in_turn, else_stmts};
+ghost use Rattle.elab_body.specs.Body.{is_generated, made_of, chosen as chosen_by, branches as branches_walk, turn as turn_walk, in_turn, else_stmts};
 
 use crate::build::{add, choice};
-use crate::simple::{assigned, bound as bound_let, tested};
-use elab_base::{Met, Turns, comparison, shared_name, turns_of};
+use crate::loops::{Loop, loop_of};
+use crate::simple::{assigned, named, tested};
+use elab_base::{Met, comparison};
 use elab_core::{Count, ElabFault};
 use gen_scope::Scope;
-use gen_tree::{Cmp, Expr, Int, Stmt};
+use gen_tree::{Expr, Stmt};
 use std::alloc::Global;
-use std::rc::Rc;
-use text_core::Text;
 
 /// Statements one after another, behind those that were made, which stay as they are, after an error too; and no count is less than
 /// it was, or past its limit where it was not. They have slot 0.
@@ -80,25 +81,35 @@ fn one_statement(
             line,
             target,
             value,
-        } => {
-            let statement = assigned(alloc, met, *line, scope, target, value)?;
-            add(made, statement)?;
-            Ok(())
-        }
-        Stmt::Let { line, name, value } => {
-            let statement = bound_let(alloc, met, *line, scope, name, value)?;
-            add(made, statement)?;
-            Ok(())
-        }
+        } => add(made, assigned(alloc, met, *line, scope, target, value)?),
+        Stmt::Let { line, name, value } => add(made, named(alloc, met, *line, scope, name, value)?),
         Stmt::If {
             line,
             test,
             yes,
             no,
-        } => {
-            chosen(alloc, met, *line, test, yes, no, scope, made)?;
-            Ok(())
-        }
+        } => add(made, chosen(alloc, met, *line, scope, test, yes, no)?),
+        Stmt::For { .. } | Stmt::GenIf { .. } => generated(alloc, met, statement, scope, made),
+    }
+}
+
+/// A `for` or a `gen if`: what its turns give, or the branch that is taken.
+#[cycle(statements)]
+#[tactic(auto, using(elab_base::proofs::Counting::count_steps, gen_tree::proofs::Views::view_steps, crate::proofs::Heights::heights, crate::proofs::StmtCases::repeat_steps, crate::proofs::Heights::height_branch, crate::proofs::Fronts::front_steps))]
+fn generated(
+    alloc: Global,
+    met: &mut Met,
+    statement: &Stmt,
+    scope: &Scope,
+    made: &mut Vec<design_core::Stmt>,
+) -> Result<(), ElabFault>
+    requires { is_generated (source_stmt_of statement.now) ≡ true }
+    ensures judged { Judged (λ _. made_of made.new) result (met_of met.new) (judge (met_of met.old) (statement_walk (source_stmt_of statement.now) scope.now (made_of made.old))) }
+    ensures instances { met.new.instances ≡ met.old.instances }
+    ensures counts { CountsUp met.old met.new }
+    ensures made { take (length made.old.items) made.new.items ≡ made.old.items }
+{
+    match statement {
         Stmt::For {
             line,
             var,
@@ -106,9 +117,8 @@ fn one_statement(
             to,
             body,
         } => {
-            let turns = turns_of(alloc, *line, scope, from, to)?;
-            all_turns(alloc, met, *line, &turns, var, body, scope, made)?;
-            Ok(())
+            let each = loop_of(alloc, *line, scope, var, from, to)?;
+            all_turns(alloc, met, &each, body, scope, made)
         }
         Stmt::GenIf {
             line,
@@ -118,35 +128,33 @@ fn one_statement(
             yes,
             no,
         } => {
-            taken(alloc, met, *line, left, *cmp, right, yes, no, scope, made)?;
-            Ok(())
+            let holds = comparison(alloc, *line, scope, left, *cmp, right)?;
+            statements(alloc, met, branch_of(holds, yes, no), scope, made)
         }
+        Stmt::Assign { .. } | Stmt::Let { .. } | Stmt::If { .. } => unreachable!(),
     }
 }
 
 /// An `if`: its count and condition, then its branches.
 #[cycle(statements)]
-#[tactic(auto, using(elab_base::proofs::Counting::count_steps, crate::proofs::StmtCases::choose_steps, crate::proofs::Fronts::front_steps))]
+#[tactic(auto, using(elab_base::proofs::Counting::count_steps, crate::proofs::StmtCases::chosen_steps))]
 fn chosen(
     alloc: Global,
     met: &mut Met,
     line: u32,
+    scope: &Scope,
     test: &Expr,
     yes: &[Stmt],
     no: &Option<Vec<Stmt>>,
-    scope: &Scope,
-    made: &mut Vec<design_core::Stmt>,
-) -> Result<(), ElabFault>
-    ensures judged { Judged (λ _. made_of made.new) result (met_of met.new) (judge (met_of met.old) (statement_walk (tree.choose line (source_of test.now) (stmts_of yes.now) (source_else_of no.now)) scope.now (made_of made.old))) }
+) -> Result<design_core::Stmt, ElabFault>
+    ensures judged { Judged (λ s. design_stmt_of s) result (met_of met.new) (judge (met_of met.old) (chosen_by line scope.now (source_of test.now) (stmts_of yes.now) (source_else_of no.now))) }
     ensures instances { met.new.instances ≡ met.old.instances }
     ensures counts { CountsUp met.old met.new }
-    ensures made { take (length made.old.items) made.new.items ≡ made.old.items }
 {
     let test = tested(alloc, met, line, scope, test)?;
     let (yes, no) = branches(alloc, met, yes, no, scope)?;
     let gens = scope.clone()?;
-    add(made, choice(line, gens, test, yes, no))?;
-    Ok(())
+    Ok(choice(line, gens, test, yes, no))
 }
 
 /// The branches of an `if`.
@@ -196,22 +204,19 @@ fn otherwise(
 fn all_turns(
     alloc: Global,
     met: &mut Met,
-    line: u32,
-    turns: &Turns,
-    var: &Text,
+    each: &Loop,
     body: &[Stmt],
     scope: &Scope,
     made: &mut Vec<design_core::Stmt>,
 ) -> Result<(), ElabFault>
-    ensures judged { Judged (λ _. made_of made.new) result (met_of met.new) (judge (met_of met.old) (turns_walk line (in_turn (stmts_of body.now) var.now scope.now) turns.now.from turns.now.count (made_of made.old))) }
+    ensures judged { Judged (λ _. made_of made.new) result (met_of met.new) (judge (met_of met.old) (turns_walk each.now.line (in_turn (stmts_of body.now) each.now.name.value scope.now) each.now.turns.from each.now.turns.count (made_of made.old))) }
     ensures instances { met.new.instances ≡ met.old.instances }
     ensures counts { CountsUp met.old met.new }
     ensures made { take (length made.old.items) made.new.items ≡ made.old.items }
 {
-    let name = shared_name(alloc, var)?;
-    for turn in 0..turns.count {
-        let number = turns.number(turn);
-        one_turn(alloc, met, line, body, scope, &name, number, made)?;
+    for turn in 0..each.turns.count {
+        let number = each.turns.number(turn);
+        one_turn(alloc, met, each, number, body, scope, made)?;
     }
     Ok(())
 }
@@ -222,47 +227,20 @@ fn all_turns(
 fn one_turn(
     alloc: Global,
     met: &mut Met,
-    line: u32,
+    each: &Loop,
+    number: i64,
     body: &[Stmt],
     scope: &Scope,
-    name: &Rc<Text>,
-    number: i64,
     made: &mut Vec<design_core::Stmt>,
 ) -> Result<(), ElabFault>
-    ensures judged { Judged (λ _. made_of made.new) result (met_of met.new) (judge (met_of met.old) (turn_walk line (stmts_of body.now) (bound name.now.value number scope.now) (made_of made.old))) }
+    ensures judged { Judged (λ _. made_of made.new) result (met_of met.new) (judge (met_of met.old) (turn_walk each.now.line (stmts_of body.now) (bound each.now.name.value number scope.now) (made_of made.old))) }
     ensures instances { met.new.instances ≡ met.old.instances }
     ensures counts { CountsUp met.old met.new }
     ensures made { take (length made.old.items) made.new.items ≡ made.old.items }
 {
-    met.take(Count::Turns, line)?;
-    let inner = scope.inner(alloc, name, number)?;
+    met.take(Count::Turns, each.line)?;
+    let inner = scope.inner(alloc, &each.name, number)?;
     statements(alloc, met, body, &inner, made)?;
-    Ok(())
-}
-
-/// The branch of a `gen if` that is taken.
-#[cycle(statements)]
-#[tactic(auto, using(elab_base::proofs::Counting::count_steps, crate::proofs::StmtCases::given_steps, crate::proofs::Heights::height_branch, crate::proofs::Fronts::front_steps))]
-fn taken(
-    alloc: Global,
-    met: &mut Met,
-    line: u32,
-    left: &Int,
-    cmp: Cmp,
-    right: &Int,
-    yes: &[Stmt],
-    no: &Option<Vec<Stmt>>,
-    scope: &Scope,
-    made: &mut Vec<design_core::Stmt>,
-) -> Result<(), ElabFault>
-    ensures judged { Judged (λ _. made_of made.new) result (met_of met.new) (judge (met_of met.old) (statement_walk (tree.given line (int_of left.now) cmp (int_of right.now) (stmts_of yes.now) (source_else_of no.now)) scope.now (made_of made.old))) }
-    ensures instances { met.new.instances ≡ met.old.instances }
-    ensures counts { CountsUp met.old met.new }
-    ensures made { take (length made.old.items) made.new.items ≡ made.old.items }
-{
-    let holds = comparison(alloc, line, scope, left, cmp, right)?;
-    let branch = branch_of(holds, yes, no);
-    statements(alloc, met, branch, scope, made)?;
     Ok(())
 }
 
