@@ -9,7 +9,6 @@ use Rattle.std.proofs.lemmas.Option.{none-some}
 use Rattle.tree_core.specs.Tree.{Tree, Const, Leaf, One, Two, Mux}
 use Rattle.exec_core.specs.Leaves.{EachLeaf}
 use Rattle.exec_core.specs.Whole.{Place, Drivers}
-use Rattle.exec_core.specs.Design.{driver_of}
 use Rattle.list_core.proofs.Options.{some_same}
 use Rattle.exec_core.proofs.Wholes.{each_leaf}
 use Rattle.design_core.specs.Design as design
@@ -24,7 +23,7 @@ use Rattle.dep_order.specs.Standing.{SomeLeaf, StandFor}
 use Rattle.dep_order.specs.Signals.{signals_in}
 use Rattle.dep_order.specs.Wiring.{AreNumbers, DriverStands}
 use Rattle.place_core.specs.Numbering.{PlaceNumbers, AllCounted, count_instances, number_in, AreCounted}
-use Rattle.dep_order.specs.Ordering.{is_met_in, IsWiredDesign, marked_in, pairs_of}
+use Rattle.dep_order.specs.Ordering.{is_met_in, shown_driver, IsWiredDesign, marked_in, pairs_of}
 use Rattle.dep_order.specs.Either.{HasOrder, HasLoop, OrderOrLoop}
 use Rattle.dep_order.proofs.Answered.{place_of, place_is, cycles_answer, orders_answer}
 use Rattle.dep_order.proofs.Contracted.{order_of_signals, cycle_of_signals}
@@ -175,7 +174,7 @@ module _ (d : design.Design) (all : AllCounted) (counted : AreCounted d all) whe
       }
 
   design_graph : Graph
-  design_graph = graph (length all.1) (number_in all.0) (place_of d all.1) (driver_of (processes_of d))
+  design_graph = graph (length all.1) (number_in all.0) (place_of d all.1) (shown_driver d)
 
   marks : List Bool
   marks = map (λ v. is_met_in d (place_of d all.1 v)) (range_with_len 0 (length all.1))
@@ -187,25 +186,25 @@ module _ (d : design.Design) (all : AllCounted) (counted : AreCounted d all) whe
       let low : v < length all.1 = are_numbers.below p v e in
       record {
         marked = get_or-map-range_with_len (λ v. is_met_in d (place_of d all.1 v)) 0 (length all.1) v v false low (omega arith) ∙ ap (is_met_in d) here;
-        stands = subst (λ (vs : List ℕ). DriverStands (length all.1) design_graph (number_in all.0) vs (driver_of (processes_of d) p))
-            (sym (next_is (length all.1) (number_in all.0) (place_of d all.1) (driver_of (processes_of d)) v low ∙ ap (λ (q : Place). edges (number_in all.0) (driver_of (processes_of d) q)) here))
-            (edges_stand (length all.1) design_graph (number_in all.0) (driver_of (processes_of d) p) are_numbers);
+        stands = subst (λ (vs : List ℕ). DriverStands (length all.1) design_graph (number_in all.0) vs (shown_driver d p))
+            (sym (next_is (length all.1) (number_in all.0) (place_of d all.1) (shown_driver d) v low ∙ ap (λ (q : Place). edges (number_in all.0) (shown_driver d q)) here))
+            (edges_stand (length all.1) design_graph (number_in all.0) (shown_driver d p) are_numbers);
       }
 
   either : IsSound d → HasOrder d ⊎ HasLoop d
   unfolding design_graph
-  either sound = elim (order_or_cycle design_graph (is_graph (length all.1) (number_in all.0) (place_of d all.1) (driver_of (processes_of d)) are_numbers)) [
+  either sound = elim (order_or_cycle design_graph (is_graph (length all.1) (number_in all.0) (place_of d all.1) (shown_driver d) are_numbers)) [
     | inl o ↦ inl (record {
       order = pairs_of all.1 (marked_in marks (signals_in (length all.1) o.order));
       tells = orders_answer d all design_graph marks (signals_in (length all.1) o.order) counted wired (accepted_drivers d sound)
           (order_of_signals (length all.1) design_graph o.order (signals_in (length all.1) o.order)
-          (subst (λ (k : ℕ). length all.1 ≤ k) (sym (graph_length (length all.1) (number_in all.0) (place_of d all.1) (driver_of (processes_of d)))) (omega arith)) o.is_order refl);
+          (subst (λ (k : ℕ). length all.1 ≤ k) (sym (graph_length (length all.1) (number_in all.0) (place_of d all.1) (shown_driver d))) (omega arith)) o.is_order refl);
     })
     | inr c ↦ inr (record {
       loop = pairs_of all.1 (signals_in (length all.1) c.cycle);
       tells = cycles_answer d all design_graph marks (signals_in (length all.1) c.cycle) counted wired (accepted_drivers d sound)
           (cycle_of_signals (length all.1) design_graph c.cycle (signals_in (length all.1) c.cycle)
-          (layered (length all.1) (number_in all.0) (place_of d all.1) (driver_of (processes_of d))) c.is_cycle refl);
+          (layered (length all.1) (number_in all.0) (place_of d all.1) (shown_driver d)) c.is_cycle refl);
     })
   ]
 
