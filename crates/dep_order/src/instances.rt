@@ -9,7 +9,7 @@ ghost use Rattle.list_core.specs.Lists.{EachOf};
 ghost use Rattle.design_core.specs.declared.variant.Signal.{Signal};
 ghost use Rattle.design_core.specs.View.{child_of};
 ghost use Rattle.design_core.specs.DesignView.{design_of};
-ghost use Rattle.design_exec.specs.Processes.{conn_link, instances_of, links_at, none_or, processes_at};
+ghost use Rattle.design_exec.specs.Processes.{conn_link, instances_of, links_at, none_or, numbers_below, processes_at};
 ghost use Rattle.place_core.specs.Numbering.{numbers_of};
 ghost use Rattle.dep_order.specs.Linking.{AllLayered, AreBelow, DrivesLinks, DrivesProcesses};
 ghost use Rattle.place_core.specs.Linking.{links_of_child, link_of_output};
@@ -21,7 +21,7 @@ use design_core::{
 };
 use graph_order::Graph;
 use names::NameMap;
-use place_core::numbers_below;
+use place_core::numbers_by_parent;
 use std::alloc::Global;
 use text_core::NoMemory;
 
@@ -187,6 +187,13 @@ fn drive_child_outs(
     Ok(())
 }
 
+/// An instance as the parent of its children: its number, and the numbers of these in order.
+struct Parent<'a> {
+    number: u32,
+    instance: &'a Instance,
+    below: &'a [u32],
+}
+
 /// Drives the inputs of the children of an instance, and its signals that are outputs of children, by the links of the instance,
 /// unless their drivers were met before.
 fn drive_instance(
@@ -195,24 +202,28 @@ fn drive_instance(
     driven: &mut [bool],
     design: &Design,
     maps: &[NameMap<u32>],
-    number: u32,
-    instance: &Instance,
+    parent: Parent<'_>,
 ) -> Result<(), NoMemory>
     requires graph { IsGraph graph.old }
     requires below { AreBelow (length graph.old) (numbers_of maps.now) }
     requires marked { AreBelow (length driven.old) (numbers_of maps.now) }
     requires maps { length maps.now ≡ length design.now.instances }
-    requires number { number < length maps.now }
+    requires number { parent.number < length maps.now }
+    requires children { parent.below.now ≡ numbers_below (design_of design.now) parent.number }
     ensures graph { OnOk result (IsGraph graph.new) }
     ensures count { length graph.new ≡ length graph.old }
-    ensures drives { OnOk result (DrivesLinks graph.old driven.old graph.new driven.new (numbers_of maps.now) (links_at (design_of design.now) (number, instance.now))) }
+    ensures drives { OnOk result (DrivesLinks graph.old driven.old graph.new driven.new (numbers_of maps.now) (links_at (design_of design.now) (parent.entry.number, parent.entry.instance.now))) }
     ensures layers { OnOk result (AllLayered graph.old graph.new (numbers_of maps.now)) }
 {
-    let below = numbers_below(alloc, design, number)?;
+    let Parent {
+        number,
+        instance,
+        below,
+    } = parent;
     let children = children_of(&design.variants, instance.variant);
-    drive_children(alloc, graph, driven, maps, number, &below, children)?;
+    drive_children(alloc, graph, driven, maps, number, below, children)?;
     let signals = signals_of(&design.variants, instance.variant);
-    drive_child_outs(graph, driven, maps, number, &below, signals)?;
+    drive_child_outs(graph, driven, maps, number, below, signals)?;
     Ok(())
 }
 
@@ -233,9 +244,14 @@ pub(crate) fn drive_links(
     ensures drives { OnOk result (DrivesLinks graph.old driven.old graph.new driven.new (numbers_of maps.now) (flat_map (links_at (design_of design.now)) (instances_of (design_of design.now)))) }
     ensures layers { OnOk result (AllLayered graph.old graph.new (numbers_of maps.now)) }
 {
+    let below = numbers_by_parent(alloc, design)?;
     for (number, instance) in design.instances.items().iter().enumerate() {
-        let number = in_32_bits(number)?;
-        drive_instance(alloc, graph, driven, design, maps, number, instance)?;
+        let parent = Parent {
+            number: in_32_bits(number)?,
+            instance,
+            below: &below[number],
+        };
+        drive_instance(alloc, graph, driven, design, maps, parent)?;
     }
     Ok(())
 }

@@ -2,3 +2,4 @@ pub mod Orders
 pub mod Numbering
 pub mod Linking
 pub mod Assigned
+pub mod Below

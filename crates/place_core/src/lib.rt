@@ -10,7 +10,7 @@ mod numbering;
 mod order;
 
 pub use assigned::{assigned_in, assigned_in_either};
-pub use below::numbers_below;
+pub use below::numbers_by_parent;
 pub use laws::signals_are_numbered;
 pub use numbering::number_signals;
 pub use order::Order;

@@ -7,14 +7,14 @@ ghost use Rattle.exec_core.specs.Design.{place};
 ghost use Rattle.design_core.specs.declared.variant.Signal.{Signal};
 ghost use Rattle.design_core.specs.View.{child_of, conn_of};
 ghost use Rattle.design_core.specs.DesignView.{design_of};
-ghost use Rattle.design_exec.specs.Processes.{conn_link, links_at, none_or, processes_of};
+ghost use Rattle.design_exec.specs.Processes.{conn_link, links_at, none_or, numbers_below, processes_of};
 ghost use Rattle.place_core.specs.Linking.{links_of_child, link_of_output};
 ghost use Rattle.ssa_core.specs.Links.{link_as};
 
 use design_core::{
     Child, Conn, Design, Expr, Instance, Kind, Signal, children_of, in_32_bits, signals_of,
 };
-use place_core::numbers_below;
+use place_core::numbers_by_parent;
 use std::alloc::Global;
 use text_core::NoMemory;
 
@@ -157,19 +157,19 @@ fn push_signals<'a>(
 
 /// Puts the links of an instance last: its connections to children, and its signals that are outputs of children.
 fn push_instance<'a>(
-    alloc: Global,
     links: &mut Vec<Link<'a>>,
     design: &'a Design,
     number: u32,
     instance: &Instance,
+    below: &[u32],
 ) -> Result<(), NoMemory>
+    requires { below.now ≡ numbers_below (design_of design.now) number }
     ensures { OnOk result (map link_as links.new.items ≡ map link_as links.old.items ++ links_at (design_of design.now) (number, instance.now)) }
 {
-    let below = numbers_below(alloc, design, number)?;
     let children = children_of(&design.variants, instance.variant);
-    push_children(links, number, &below, children)?;
+    push_children(links, number, below, children)?;
     let signals = signals_of(&design.variants, instance.variant);
-    push_signals(links, number, &below, signals)?;
+    push_signals(links, number, below, signals)?;
     Ok(())
 }
 
@@ -177,9 +177,11 @@ fn push_instance<'a>(
 pub fn links_of(alloc: Global, design: &Design) -> Result<Vec<Link<'_>>, NoMemory>
     ensures { IfOk result (λ links. map link_as links.items ≡ (processes_of (design_of design.now)).links) }
 {
+    let below = numbers_by_parent(alloc, design)?;
     let mut links = Vec::new(alloc);
     for (number, instance) in design.instances.items().iter().enumerate() {
-        push_instance(alloc, &mut links, design, in_32_bits(number)?, instance)?;
+        let children = &below[number];
+        push_instance(&mut links, design, in_32_bits(number)?, instance, children)?;
     }
     Ok(links)
 }

@@ -8,17 +8,17 @@ use Rattle.dep_order.proofs.Linked.{are_instances, instance_drives}
 use Rattle.dep_order.proofs.instances.drive_instance.Goals as goal
 
 pub drive_children-requires-clause-numbers : goal.drive_children-requires-clause-numbers
-drive_children-requires-clause-numbers c = are_instances (design_of c.args.design.now) c.args.number (length c.args.maps.now) c.deref-2.result.now c.requires.maps (c.deref-2.ensures.value ∙ c.in_ok-below.ensures)
+drive_children-requires-clause-numbers c = are_instances (design_of c.args.design.now) c.args.parent.number (length c.args.maps.now) c.args.parent.below.now c.requires.maps c.requires.children
 
 pub drive_child_outs-requires-clause-numbers : goal.drive_child_outs-requires-clause-numbers
-drive_child_outs-requires-clause-numbers c = are_instances (design_of c.args.design.now) c.args.number (length c.args.maps.now) c.deref-4.result.now c.requires.maps (c.deref-4.ensures.value ∙ c.in_ok-below.ensures)
+drive_child_outs-requires-clause-numbers c = are_instances (design_of c.args.design.now) c.args.parent.number (length c.args.maps.now) c.args.parent.below.now c.requires.maps c.requires.children
 
 pub returns-clause-drives : goal.returns-clause-drives
 returns-clause-drives c =
-    let v = c.args.instance.now.variant in
-    instance_drives c.args.graph.now c.drive_children.new.graph c.drive_child_outs.new.graph c.args.driven.now c.drive_children.new.driven c.drive_child_outs.new.driven (numbers_of c.args.maps.now) (design_of c.args.design.now) c.args.number c.args.instance.now
-    c.deref-2.result.now c.deref-4.result.now (map child_of c.children_of-children.result.now) c.signals_of-signals.result.now (c.deref-2.ensures.value ∙ c.in_ok-below.ensures) (c.deref-4.ensures.value ∙ c.in_ok-below.ensures)
-    (c.children_of-children.ensures ∙ ap (λ vs. children_at v (map variant_of vs)) c.deref.ensures.value) (c.signals_of-signals.ensures ∙ ap (λ vs. signals_at v (map variant_of vs)) c.deref-3.ensures.value)
+    let v = c.args.parent.instance.now.variant in
+    instance_drives c.args.graph.now c.drive_children.new.graph c.drive_child_outs.new.graph c.args.driven.now c.drive_children.new.driven c.drive_child_outs.new.driven (numbers_of c.args.maps.now) (design_of c.args.design.now) c.args.parent.number c.args.parent.instance.now
+    c.args.parent.below.now c.args.parent.below.now (map child_of c.children_of-children.result.now) c.signals_of-signals.result.now c.requires.children c.requires.children
+    (c.children_of-children.ensures ∙ ap (λ vs. children_at v (map variant_of vs)) c.deref.ensures.value) (c.signals_of-signals.ensures ∙ ap (λ vs. signals_at v (map variant_of vs)) c.deref-2.ensures.value)
     c.in_ok-drive_children.ensures.drives c.in_ok-drive_child_outs.ensures.drives
 
 pub returns-clause-layers : goal.returns-clause-layers

@@ -25,7 +25,7 @@ loop-number-preserved c =
           (sym (numbered_more (links_at d) c.args.design.now.instances i r (omega (arith, ap length c.items-instance-items.ensures, c.loop-number-test.true)) (c.instance-item.is ∙ ap (λ rs. get_or rs i r) c.items-instance-items.ensures)))
           (links_both c.args.graph.now c.loop-number.graph c.drive_instance.new.graph c.args.driven.now c.loop-number.driven c.drive_instance.new.driven (numbers_of c.args.maps.now) (flat_map (links_at d) (enumerate_from 0 (take i c.args.design.now.instances))) (links_at d (i, r))
           c.loop-number.invariant.drives
-          (subst (λ n. DrivesLinks c.loop-number.graph c.loop-number.driven c.drive_instance.new.graph c.drive_instance.new.driven (numbers_of c.args.maps.now) (links_at d (n, r))) c.in_ok-number.ensures c.in_ok-drive_instance.ensures.drives));
+          (subst (λ n. DrivesLinks c.loop-number.graph c.loop-number.driven c.drive_instance.new.graph c.drive_instance.new.driven (numbers_of c.args.maps.now) (links_at d (n, r))) c.in_ok-in_32_bits.ensures c.in_ok-drive_instance.ensures.drives));
     }
 
 pub returns-clause-drives : goal.returns-clause-drives
