@@ -22,14 +22,13 @@ use Rattle.exec_core.proofs.Sources.{process_checked}
 use Rattle.design_core.specs.Design.{Variant, Design}
 use Rattle.design_exec.specs.Processes.{process, processes_of}
 use Rattle.check_exec.specs.Premises.{IsSound}
-use Rattle.check_exec.proofs.Instances.{Stands, clean}
-use Rattle.check_exec.proofs.Checks.{widths_are}
+use Rattle.check_exec.proofs.Instances.{Stands}
 use Rattle.world_core.specs.Sites.{Site, site_body, sites_of, unset_in, Spot, all_spots}
 use Rattle.world_core.specs.Kept.{block_row, whole_in, enable_tree, name_tree}
 use Rattle.world_core.specs.Source.{nothing, settled_in, visit_in, unset_among, unset_at}
 use Rattle.world_core.proofs.Status.{unset_means, unset_told}
 use Rattle.world_laws.proofs.SitesOf.{SiteIs, sites_are, IsOrdered, ordered, spot_is}
-use Rattle.world_laws.proofs.Spots.{scope_known, process_in, row_slot, enable_value, name_value}
+use Rattle.world_laws.proofs.Spots.{scope_known, process_in, process_widths, row_slot, enable_value, name_value}
 
 -- ---- options
 
@@ -130,7 +129,7 @@ module _ (d : Design) (sound : IsSound d) (order : List Place) (ok : Accepted (p
       let alone = ordered d sound.kept p.0 is.site in
       let site = each_member (SiteIs d) (sites_of d) (sites_are d) p.0 alone.among in
       let stands : Stands d p.1 is.of site.of = record { instance = is.at; variant = ap (slice_get d.variants) is.variant ∙ site.at } in
-      site.widths ∙ sym (widths_are d sound p.1 is.of site.of p.0.block stands (clean d sound.accepted p.1 is.of site.of stands) site.among)
+      process_widths d sound p.1 is.of p.0 site stands
 
   pub spot_unset : (p : Spot) → IsIn p (all_spots d) → (row : Row) → block_row p.0 ≡ Some row → SpotUnset d (length order) p
   spot_unset p among row e =

@@ -12,7 +12,7 @@ use Rattle.tree_core.specs.Tree.{Whole}
 use Rattle.tree_core.specs.Width.{tree_width}
 use Rattle.exec_core.specs.Block.{Name}
 use Rattle.list_core.specs.Lists.{IsIn}
-use Rattle.exec_core.specs.Trees.{Row}
+use Rattle.exec_core.specs.Trees.{Row, block_rows, row_at}
 use Rattle.exec_core.specs.Paths.{HasTree, RowChecked}
 use Rattle.exec_core.specs.Whole.{Place}
 use Rattle.exec_core.specs.Design.{moved, signals_of, width_in}
@@ -35,7 +35,7 @@ use Rattle.world_core.specs.declared.mode.Mode.{Mode}
 use Rattle.world_core.specs.Sites.{Site, site_body, sites_of, Spot, all_spots}
 use Rattle.world_core.specs.Kept.{block_row, whole_in, enable_tree, name_tree}
 use Rattle.world_laws.proofs.SitesOf.{SiteIs, sites_are, ordered, spot_is}
-use Rattle.world_laws.proofs.Spots.{process_in}
+use Rattle.world_laws.proofs.Spots.{process_in, process_widths}
 use Rattle.trim_core.specs.Named.{named, node_names}
 use Rattle.trim_core.specs.Trimmed.{FoundTold, NameTold, NamesTold, RowTold}
 
@@ -46,12 +46,12 @@ mapped_from f (Some a) b e = (a, (refl, same_Some (f a) b e))
 -- ---- the width of an enable
 
 module _ (d : Design) (sound : IsSound d) (order : List Place) (ok : Accepted (processes_of d) order) where
-  its_width : (i : ℕ) (v : Variant) (s : Site) → IsIn (process i v.signals s.block) (processes_of d).processes → (row : Row) → block_row s ≡ Some row → (T : Whole) → enable_tree d (length order) (s, i) ≡ Some T → tree_width T ≡ 1
-  its_width i v s m row is T e =
+  its_width : (i : ℕ) (v : Variant) (s : Site) → IsIn (process i v.signals s.block) (processes_of d).processes → s.widths ≡ width_in (processes_of d) (process i v.signals s.block) → (row : Row) → block_row s ≡ Some row → (T : Whole) → enable_tree d (length order) (s, i) ≡ Some T → tree_width T ≡ 1
+  its_width i v s m wide row is T e =
       let here : option_map (whole_in d (length order) i) row.enable ≡ Some T = sym (ap (λ o. option_map (whole_in d (length order) i) (option_and_then (λ (r : Row). r.enable) o)) is) ∙ e in
       let tree = mapped_from (whole_in d (length order) i) row.enable T here in
       let checked : RowChecked (signals_of (processes_of d) (process i v.signals s.block)) (width_in (processes_of d) (process i v.signals s.block)) (site_body s) row =
-      (process_checked (processes_of d) order ok (process i v.signals s.block) m).each_row s.slot row is in
+      (process_checked (processes_of d) order ok (process i v.signals s.block) m).each_row s.slot row (subst (λ w. row_at s.slot (block_rows w (site_body s)) ≡ Some row) wide is) in
       let has : HasTree (signals_of (processes_of d) (process i v.signals s.block)) (width_in (processes_of d) (process i v.signals s.block)) 1 (Some tree.0) =
       subst (HasTree (signals_of (processes_of d) (process i v.signals s.block)) (width_in (processes_of d) (process i v.signals s.block)) 1) tree.1.0 checked.enable in
       let fits = moved_fits (processes_of d) (process i v.signals s.block) tree.0 has.0 in
@@ -72,7 +72,7 @@ module _ (d : Design) (sound : IsSound d) (order : List Place) (ok : Accepted (p
       let site = each_member (SiteIs d) (sites_of d) (sites_are d) p.0 alone.among in
       let stands : instances.Stands d p.1 is.of site.of = record { instance = is.at; variant = ap (slice_get d.variants) is.variant ∙ site.at } in
       let row = row_of_enable p T e in
-      its_width p.1 site.of p.0 (process_in d p.1 is.of site.of stands p.0.block site.among) row.0 row.1 T e
+      its_width p.1 site.of p.0 (process_in d p.1 is.of site.of stands p.0.block site.among) (process_widths d sound p.1 is.of p.0 site stands) row.0 row.1 T e
 
 -- ---- what is found
 

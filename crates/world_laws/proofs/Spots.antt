@@ -14,7 +14,7 @@ use Rattle.list_core.specs.Lists.{IsIn, IsNotIn}
 use Rattle.exec_core.specs.Trees.{Row, row_at}
 use Rattle.exec_core.specs.Agree.{Shows, TellsVisit}
 use Rattle.exec_core.specs.Paths.{known_in}
-use Rattle.exec_core.specs.Design.{Process, place, signals_of}
+use Rattle.exec_core.specs.Design.{Process, place, signals_of, width_in}
 use Rattle.exec_core.specs.Run.{slots_in}
 use Rattle.list_core.proofs.Options.{some_if}
 use Rattle.list_core.proofs.Lists.{filter_member, none_in, in_cases}
@@ -26,10 +26,12 @@ use Rattle.design_core.specs.Slots.{Head, heads, stmt_heads, else_heads, slots_o
 use Rattle.design_core.specs.WellFormed.{IsDesign}
 use Rattle.design_exec.specs.Processes.{instances_of, process, processes_at, processes_of, body_of, stmt_of, else_of, signals_in, blocks_in, is_signal_of}
 use Rattle.check_exec.proofs.Facts.{in_any, name_same}
-use Rattle.check_exec.proofs.Instances.{Stands, signals_are}
+use Rattle.check_exec.proofs.Instances.{Stands, clean, signals_are}
+use Rattle.check_exec.proofs.Checks.{widths_are}
+use Rattle.check_exec.specs.Premises.{IsSound}
 use Rattle.world_core.specs.Sites.{Site, sites_of, sites_in_order}
 use Rattle.list_core.proofs.Listing.{map_in, map_from, flat_in, flat_from, filter_from, at_number}
-use Rattle.world_laws.proofs.SitesOf.{SiteOf, site_of, ordered, at_numbers}
+use Rattle.world_laws.proofs.SitesOf.{SiteIs, SiteOf, site_of, ordered, at_numbers}
 
 -- ---- the names in scope are known
 
@@ -146,3 +148,7 @@ pub name_value : (known : Key → Bool) (V : Tree Name → Bits) (row : Row) (x 
     → option_and_then (λ (env : Env Bits). env (Now x)) visit ≡ Some (V t)
 name_value known V row x t (Some env) k e tells seen = subst (λ o. Shows V o (env (Now x))) e (tells.3 (Now x) k)
 name_value known V row x t None k e tells seen = absurd (true≢false (sym seen))
+
+-- the widths at a statement are those of each process of its block
+pub process_widths : (d : Design) → IsSound d → (i : ℕ) (r : Instance) (s : Site) (site : SiteIs d s) → Stands d i r site.of → s.widths ≡ width_in (processes_of d) (process i (site.of).signals s.block)
+process_widths d sound i r s site stands = site.widths ∙ sym (widths_are d sound i r site.of s.block stands (clean d sound.accepted i r site.of stands) site.among)
