@@ -10,6 +10,6 @@ mod put;
 mod session;
 
 pub use batch::{asked_in, left, run_batch};
+pub use io_edge::SinkEnd;
 pub use lines::next_line;
 pub use session::write_batch;
-pub use io_edge::SinkEnd;

@@ -1,3 +1,5 @@
+//! The walk through statements: an assignment sets its key, an `if` walks both branches from one place and joins what they leave.
+
 ghost use Rattle.std.specs.Prelude.{◌≡◌, ◌∷◌, [], IfOk, OnOk, Some};
 ghost use Rattle.exec_core.specs.Block.{If};
 ghost use Rattle.exec_core.specs.Exec.{put};

@@ -124,8 +124,8 @@ module _ (p : code.Parts) (h : HasParts p) where
       let t = written q k w signal in
       let key = key_at p h k w.process w.found in
       let is : next_tree d q ≡ moved w.process.instance t.tree = ap (next_by d q) w.first
-          ∙ ap (λ (trees : Env (Tree Name)). moved w.process.instance (unwrap_or (trees (Next q.name)) (Leaf q.name))) (blocks_are_shown (design_in p) h.parts.sound w.process (in_at d.processes k w.process w.found)).ends
-          ∙ ap (λ o. moved w.process.instance (unwrap_or o (Leaf q.name))) t.ends in
+      ∙ ap (λ (trees : Env (Tree Name)). moved w.process.instance (unwrap_or (trees (Next q.name)) (Leaf q.name))) (blocks_are_shown (design_in p) h.parts.sound w.process (in_at d.processes k w.process w.found)).ends
+      ∙ ap (λ o. moved w.process.instance (unwrap_or o (Leaf q.name))) t.ends in
       subst (λ u. StandsBy p ns u id) (sym is) (stands key.0 w.process t.tree key.1.0 key.1.1 t.ends)
 
   -- ---- lists of next values

@@ -5,6 +5,6 @@ mod laws;
 mod line;
 mod rows;
 
+pub use io_edge::SinkEnd;
 pub use laws::texts_are_trails;
 pub use rows::write_trail;
-pub use io_edge::SinkEnd;

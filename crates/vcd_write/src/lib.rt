@@ -10,6 +10,6 @@ mod value;
 mod word;
 mod write;
 
-pub use laws::{tells_the_samples, waves_read_back};
 pub use io_edge::SinkEnd;
+pub use laws::{tells_the_samples, waves_read_back};
 pub use write::write_vcd;

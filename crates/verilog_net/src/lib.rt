@@ -6,9 +6,9 @@
 mod laws;
 mod write;
 
+pub use io_edge::SinkEnd;
 pub use laws::{
     compiled_nets_are_kept_nets, modules_compute_sources, printed_designs_mean_their_nets,
     prints_the_design,
 };
-pub use io_edge::SinkEnd;
 pub use write::write_verilog;

@@ -6,6 +6,6 @@
 mod laws;
 mod write;
 
-pub use laws::{compiled_waves_are_kept, waves_tell_runs};
 pub use io_edge::SinkEnd;
+pub use laws::{compiled_waves_are_kept, waves_tell_runs};
 pub use write::write_waves;
