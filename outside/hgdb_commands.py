@@ -1,0 +1,398 @@
+"""The commands of hgdb-client, each a function `do_NAME` over the words behind it; hgdb_prompt.py has what they are made of.
+
+What GDB has and a session has not is made of requests: `until` and `start` set and rest breakpoints, `finish` steps, `info line` asks
+for a breakpoint and takes it away. So the listeners of a session count those stops too.
+"""
+import re
+
+import hgdb_expr, hgdb_points, hgdb_wave
+from hgdb_prompt import COMMANDS, INFOS, Client, Failed, command_of, counted, formatted, number_of, place_of, rows_of, usage
+
+
+class Commands(Client):
+    """The commands over a session."""
+
+    # Commands: breakpoints
+
+    def placed(self, name, words):
+        """A line, an instance or None, and a condition or None."""
+        given = re.fullmatch(r"([0-9]{1,20})(?: at (\S+))?(?: if\b ?(.*))?", " ".join(words))
+        if not given:
+            raise usage(name)
+        return int(given[1]), given[2], given[3]
+
+    def do_break(self, words, temporary=False):
+        line, path, cond = self.placed("tbreak" if temporary else "break", words)
+        point = self.points.add(line, path, cond, temporary)
+        slots = f"slot{'s' * (len(point.slots) != 1)} {', '.join(map(str, point.slots))}"
+        changed = f" if {point.cond}" if point.cond != cond else ""
+        self.say(f"{'Temporary b' if temporary else 'B'}reakpoint {point.number} at line {line}{changed}, {slots}")
+
+    def do_tbreak(self, words):
+        self.do_break(words, True)
+
+    def numbered(self, words, have, what):
+        """Those that numbers name, or all; what is none of them is told."""
+        found = []
+        for word in words or map(str, list(have)):
+            number = number_of(word)
+            if number is None:
+                self.fail(f"{word} is no number of a {what}")
+            elif number not in have:
+                self.fail(f"There is no {what} {number}")
+            else:
+                found.append(number)
+        return found
+
+    def each(self, words, does):
+        for number in self.numbered(words, self.points.numbers(), "breakpoint"):
+            does(self.points.all[number])
+
+    def do_delete(self, words):
+        self.each(words, self.points.remove)
+
+    def do_disable(self, words):
+        self.each(words, self.points.disable)
+
+    def do_enable(self, words):
+        self.each(words, self.points.enable)
+
+    def point(self, name, words, least, most):
+        """The breakpoint that the first word names."""
+        if not least <= len(words) <= most:
+            raise usage(name)
+        if not (found := self.numbered(words[:1], self.points.numbers(), "breakpoint")):
+            raise Failed()
+        return self.points.all[found[0]]
+
+    def do_condition(self, words):
+        point = self.point("condition", words, 1, len(words))
+        self.points.condition(point, " ".join(words[1:]) or None)
+        self.say(f"Breakpoint {point.number} stops {f'if {point.cond}' if point.cond else 'always'}")
+
+    def do_ignore(self, words):
+        point, count = self.point("ignore", words, 2, 2), number_of(words[1])
+        if count is None:
+            raise usage("ignore")
+        point.ignored = count
+        self.say(f"Breakpoint {point.number} is ignored {hgdb_points.times(count)}")
+
+    # Commands: runs
+
+    def do_continue(self, words, cmd="continue"):
+        _, count, behind = counted(cmd, words, 0)
+        self.go(cmd, count, behind)
+
+    def do_reverse(self, words):
+        self.do_continue(words, "reverse")
+
+    def do_step(self, words, cmd="step"):
+        instance, count, behind = counted(cmd, words)
+        pending = self.walk(cmd, instance, count, behind)
+        if not behind:
+            self.show(pending)
+
+    def do_back(self, words):
+        self.do_step(words, "back")
+
+    def do_until(self, words):
+        line, path, cond = self.placed("until", words)
+        self.idle()
+        point = self.points.add(line, path, cond, hidden=True)
+        try:
+            self.go("continue")
+        finally:
+            self.points.remove(point)
+
+    def do_finish(self, _):
+        self.idle()
+        if not self.stopped():
+            self.look("values")
+        found = self.statement(self.place)
+        block = found.block if found is not None else self.source.block(self.place["line"])
+        if block is None:
+            raise Failed("The source does not tell which block this is")
+        pending = self.within(block, self.place["cycle"], self.here())
+        given = None if self.hits else self.gives("=", "<=", "let")
+        self.show([it for it in pending if given is None or it[0] != (self.here(), given[0])])
+        if given is not None:
+            self.say(f"  {given[0]} is assigned {given[1]}", kind="pending")
+
+    def within(self, block, cycle, path):
+        """Goes to the last statement of a block that an instance executes in this cycle. Returns what `walk` does."""
+
+        def leaves(place):
+            return place is None or place["cycle"] != cycle or not block.first <= place["line"] <= block.last
+
+        self.passing, pending = leaves, ()
+        try:
+            pending = self.walk("step", path, hgdb_wave.STATEMENTS)
+            if leaves(self.place) and not self.press.pressed:
+                self.passing = lambda place: True
+                self.asked("back", instance=path)
+                self.settle()
+        finally:
+            self.passing = lambda place: False
+        return pending
+
+    def do_start(self, _):
+        self.idle()
+        resting = self.points.resting()
+        try:
+            self.go("reverse")
+        finally:
+            self.points.again(resting)
+        self.points.forget()
+
+    def do_run(self, words):
+        self.do_start(words)
+        if self.edge == "start" and not self.press.pressed:
+            self.go("continue")
+
+    def do_wait(self, _):
+        self.settle()
+        self.show()
+
+    def do_pause(self, _):
+        self.paused(self.asked("pause"))
+        self.catch_up()
+
+    # Commands: what is looked at
+
+    def do_threads(self, _):
+        for path in self.asked("threads")["threads"]:
+            self.paths.add(path)
+            self.say(f"{'*' if path == self.here() else ' '} {path}")
+
+    def do_instance(self, words):
+        if len(words) > 1:
+            raise usage("instance")
+        if words and words[0] not in self.paths:
+            self.idle()
+            self.found(words[0])
+        self.chosen = words[0] if words else None
+        if self.chosen is None:
+            self.say("No instance is chosen")
+        else:
+            executes = "" if self.place is None or self.stopped() else ", which does not execute this statement"
+            self.say(f"Instance {self.chosen}{executes}")
+
+    def found(self, path):
+        """Looks for an instance: at the start and at the end a step leads nowhere, and elsewhere a breakpoint shows whether it is there."""
+        if self.edge != "stopped":
+            self.asked("back" if self.edge == "start" else "step", instance=path)
+            while self.on.running:
+                self.on.listen()
+            self.on.notices.clear()
+        elif not self.reaches(path):
+            known = "executes a statement" if self.source.lines else "was seen; `step` with its name goes to its next statement"
+            raise Failed(f"No instance {path} {known}")
+        self.paths.add(path)
+
+    def reaches(self, path):
+        """Whether an instance has a statement on one of the lines that are known."""
+        lines = {it for module in self.source.modules for it in self.source.lines_of(module)}
+        lines |= {self.place["line"]} | {it.line for it in self.points.all.values()}
+        told = [it for it, _ in self.on.ask([("break", {"line": line, "instance": path}) for line in sorted(lines)])]
+        taken = [it["bp"] for it in told if it["ok"]]
+        self.on.ask([("delete", {"bp": bp}) for bp in taken])
+        return bool(taken)
+
+    def evaluated(self, text):
+        """The value of an expression at the instance that is looked at, and the text that was asked for."""
+        gens = self.place["gens"] if self.place is not None else ()
+
+        def ask(texts):
+            return [it for it, _ in self.on.ask([("eval", {"instance": self.here(), "expr": it}) for it in texts])]
+
+        new, reply = hgdb_expr.fitted(ask, text, gens)
+        if self.on.notices:
+            self.catch_up()
+            new, reply = hgdb_expr.fitted(ask, text, gens)
+        if reply.get("name") == text and text in dict(gens):
+            return text, str(dict(gens)[text])
+        return new, self.accepted(reply, new)["value"]
+
+    def do_print(self, words, form=""):
+        if not words:
+            raise usage("print")
+        text, value = self.evaluated(" ".join(words))
+        self.say(f"{text} = {formatted(value, form)}")
+
+    def do_display(self, words, form=""):
+        if words:
+            self.shown_last += 1
+            self.displays[self.shown_last] = " ".join(words), form
+        self.tell_displays(*[self.shown_last] * bool(words))
+
+    def tell_displays(self, *numbers):
+        """Shows the expressions that are shown at each stop. One of names that are not in scope is left out."""
+        for number in numbers or self.displays:
+            text, form = self.displays[number]
+            if self.stopped():
+                try:
+                    new, value = self.evaluated(text)
+                    self.say(f"{number}: {new} = {formatted(value, form)}")
+                except Failed as why:
+                    self.say(*[f"{number}: {text}: {why.lines[0]}"] * ("no name" not in why.lines[0]))
+
+    def do_undisplay(self, words):
+        for number in self.numbered(words, self.displays, "display"):
+            del self.displays[number]
+
+    def do_wave(self, words):
+        count = number_of(words[-1]) if len(words) > 1 else None
+        names = words[:-1] if count is not None else words
+        count = hgdb_wave.USUAL if count is None else count
+        self.idle()
+        if not names:
+            raise usage("wave")
+        if not 1 <= count <= hgdb_wave.CYCLES:
+            raise Failed(f"wave shows 1 to {hgdb_wave.CYCLES} cycles")
+        have = self.look("values")["values"]
+        for name in names:
+            if name not in dict(have):
+                raise Failed(f"No name {name} is in scope")
+        self.on.patient, resting = True, self.points.resting()
+        try:
+            wave = hgdb_wave.Wave(self.on, self.place, self.here(), lambda it: self.right(it, "="), lambda: self.press.pressed)
+            found = wave.taken(count)
+        except hgdb_wave.Lacking as why:
+            raise Failed(str(why)) from why
+        finally:
+            self.points.again(resting)
+            self.on.patient = False
+        if not found:
+            raise Failed("Interrupted")
+        self.say(*hgdb_wave.lines(names, found, self.place["cycle"]))
+
+    # Commands: what is told
+
+    def do_info(self, words):
+        found = [it for it in INFOS if words and it.startswith(words[0])]
+        if len(found) != 1 or len(words) > 1 + (found[0] == "line"):
+            raise usage("info")
+        getattr(self, f"info_{found[0]}")(words[1:])
+
+    def info_locals(self, _):
+        self.say(*[f"{name} = {shown}" for name, shown in self.values().items()])
+
+    def info_breakpoints(self, _):
+        self.say(*[it.told() for it in self.points.all.values()] or ["No breakpoints"])
+
+    def info_display(self, _):
+        told = [f"{number}: {f'/{form} ' if form else ''}{text}" for number, (text, form) in self.displays.items()]
+        self.say(*told or ["No displays"])
+
+    def info_line(self, words):
+        """Which slots a line has, as a breakpoint there tells them."""
+        line = number_of(words[0]) if words else self.place and self.place["line"]
+        if line is None:
+            raise usage("info") if words else Failed("It stands at no line")
+        self.idle()
+        reply = self.asked("break", line=line)
+        self.points.unset(reply["bp"])
+        told = f"Line {line} has slot{'s' * (len(reply['slots']) != 1)} {', '.join(map(str, reply['slots']))}"
+        if (block := self.source.block(line)) is not None:
+            told += f", in the {block.kind} of {block.module}, lines {block.first} to {block.last}"
+        points = [str(it.number) for it in self.points.all.values() if it.line == line]
+        self.say(told, *[f"Breakpoint{'s' * (len(points) != 1)} {', '.join(points)}"] * bool(points), *self.listing(line, line))
+
+    def info_threads(self, _):
+        self.do_threads([])
+
+    def info_listeners(self, _):
+        self.say(*[f"Listener {k}" for k in self.asked("status")["listeners"]] or ["No listeners"])
+
+    def do_where(self, _):
+        status = self.asked("status")
+        if status["mode"] != "idle":
+            self.say(f"A run is under way, {status['mode']}, {place_of(status['at'])}")
+        elif isinstance(status["at"], str) or not self.asked("threads")["threads"]:
+            self.say(f"It stands {place_of(status['at'])}")
+        else:
+            self.hits = []
+            self.tell_place()
+
+    def listing(self, first, last):
+        """Lines of the source with marks: `B` for a breakpoint, `b` for a disabled one, `>` for the stop."""
+        marks, stop = {}, self.place and self.place["line"]
+        for point in self.points.all.values():
+            marks[point.line] = "B" if point.bp is not None or marks.get(point.line) == "B" else "b"
+        told = [f"{marks.get(number, ' ')}{'>' if number == stop else ' '} {number}\t{text}" for number, text in self.lines(first, last)]
+        return [self.paint("place", it) if it[1] == ">" else it for it in told]
+
+    def do_list(self, words):
+        if not self.source.lines:
+            raise Failed("No source is known")
+        given = re.fullmatch(r"(?:([0-9]{1,9})(?: ?, ?([0-9]{1,9}))?|(-))?", " ".join(words))
+        if not given:
+            raise usage("list")
+        size, before = self.listsize, self.listed
+        if given[2]:
+            first, last = int(given[1]), int(given[2])
+        elif given[3] and before is not None:
+            first, last = before[0] - size, before[0] - 1
+        elif given[1] or before is None:
+            line = int(given[1] or self.place and self.place["line"] or 1)
+            first = max(1, line - size // 2)
+            last = first + size - 1
+        else:
+            first, last = before[1] + 1, before[1] + size
+        told = self.listing(first, last)
+        if not told:
+            raise Failed(f"The source has {len(self.source.lines)} lines" if last > 0 else "The source begins with line 1")
+        self.listed = max(1, first), last
+        self.say(*told)
+
+    def do_set(self, words):
+        number = number_of(words[1]) if len(words) == 2 else None
+        if not number or not "listsize".startswith(words[0]):
+            raise usage("set")
+        self.listsize = number
+
+    def do_drop(self, words):
+        k = number_of(words[0]) if len(words) == 1 else None
+        if k is None:
+            raise usage("drop")
+        self.say(f"Listener {k} counted {rows_of(self.asked('drop', k=k)['rows'])}")
+
+    def do_help(self, words):
+        one, others = command_of(words[0]) if words else (None, [])
+        if words and one is None:
+            raise Failed(unknown(words[0], others))
+        for name, (others, behind, what) in COMMANDS.items():
+            if one in (None, name):
+                short = f" ({', '.join(others)})" if others else ""
+                self.say(f"{name} {behind}".rstrip() + short, f"    {what}")
+
+    def quit(self):
+        """Takes leave, and shows what the listeners counted."""
+        for told in self.on.leave():
+            self.say(f"Listener {told['k']} counted {rows_of(told['rows'])}")
+
+    def obey(self, line):
+        """Does what a line asks for. Returns whether it was to quit."""
+        first, *words = line.split() or [""]
+        first, _, form = first.partition("/")
+        if words and words[0] in ("/x", "/d", "/t"):
+            form = words.pop(0)[1:]
+        name, others = command_of(first)
+        self.warned = False
+        try:
+            self.catch_up()
+            if name is None:
+                raise Failed(unknown(first, others))
+            if form and (name not in ("print", "display") or form not in tuple("xdt")) or words and not COMMANDS[name][1]:
+                raise usage(name)
+            if name == "quit":
+                return True
+            getattr(self, f"do_{name}")(words, *[form] * bool(form))
+        except Failed as why:
+            self.fail(*why.lines)
+        return False
+
+
+def unknown(word, others):
+    """What is said of a word that names no command."""
+    return f"Ambiguous command {word!r}: {', '.join(others)}" if others else f"No command {word!r}: try \"help\""
