@@ -1,6 +1,5 @@
 -- An expression alone, whose names are themselves.
-use Rattle.std.proofs.Common.{◌≡◌, List, [], Option, Some, None, refl, sym, ap, ◌∙◌, subst, IsSome}
-use Rattle.tree_core.specs.Tree as tree
+use Rattle.std.proofs.Common.{◌≡◌, List, Option, Some, None, refl, sym, ap, ◌∙◌, subst, IsSome}
 use Rattle.tree_core.specs.Tree.{Const, Leaf, One, Two, Mux}
 use Rattle.std.proofs.lemmas.Option.{same_Some, none-some}
 use Rattle.exec_core.specs.Block.{Name, Expr, Key, Now, Next}

@@ -1,6 +1,5 @@
 -- A block's terms and log as contracts see them, and what they tell of it.
 use Rattle.std.specs.Prelude.{◌≡◌, ◌<◌, Bool, List, length, Option, Some, None, if◌then◌else◌}
-use Rattle.tree_core.specs.Tree as tree
 use Rattle.tree_core.specs.Tree.{Tree}
 use Rattle.exec_core.specs.Block.{Name, Expr, Key, Now, Next, Body}
 use Rattle.exec_core.specs.Exec.{Env}

@@ -1,5 +1,5 @@
 -- Ports of children that are not there, and inputs without a connection.
-use Rattle.std.specs.Prelude.{ℕ, ◌||◌, not, bytes_eq, List, [], Option, None}
+use Rattle.std.specs.Prelude.{ℕ, ◌||◌, not, bytes_eq, List, Option, None}
 use Rattle.std.specs.List.{list_any}
 use Rattle.design_core.specs.declared.variant.Signal.{Signal}
 use Rattle.design_core.specs.WellFormed.{signals_at}

@@ -1,5 +1,5 @@
 -- The children of an instance, and their instances.
-use Rattle.std.proofs.Common.{◌≡◌, ℕ, ◌<◌, [], ◌∷◌, Some, option_map, unwrap_or, sym, ap, ◌∙◌}
+use Rattle.std.proofs.Common.{◌≡◌, ℕ, ◌<◌, [], Some, option_map, unwrap_or, sym, ap, ◌∙◌}
 use Rattle.std.specs.Prelude.{slice_get}
 use Rattle.list_core.proofs.Listing.{some_at}
 use Rattle.design_core.specs.declared.design.Instance.{Instance}

@@ -17,7 +17,6 @@ use Rattle.design_core.specs.declared.variant.Kind.{Kind}
 use Rattle.design_core.specs.declared.variant.Kind.TheVariants as kind
 use Rattle.design_core.specs.Design.{Child, Variant, Design}
 use Rattle.design_core.specs.WellFormed.{child_names}
-use Rattle.design_exec.specs.Processes as processes
 use Rattle.design_exec.specs.Processes.{Numbered, Given, is_signal_of, instance_signals, signals_in, signal_width, processes_of, given_by, givens_at}
 use Rattle.names.specs.Known.{Known, none, with}
 use Rattle.check_core.specs.Faults.{first_of}

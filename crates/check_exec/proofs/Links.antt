@@ -18,12 +18,10 @@ use Rattle.design_core.specs.declared.variant.Kind.TheVariants as kind
 use Rattle.design_core.specs.Design.{Conn, Child, Variant, Design}
 use Rattle.design_core.specs.WellFormed as formed
 use Rattle.design_core.specs.WellFormed.{IsDesign, IsVariant, child_outs, if_child_out, outputs_of, output_of}
-use Rattle.design_exec.specs.Processes as processes
 use Rattle.design_exec.specs.Processes.{Link, tree_of, is_signal_of, instance_signals, signal_width, none_or, conn_link, child_links, output_link, links_at, processes_of}
 use Rattle.names.specs.Known.{none}
 use Rattle.check_core.specs.Faults.{first_of}
 use Rattle.check_core.specs.Names.{scope_of, named, any_kind, is_input, is_child_output, unknown_read, unknown_in_conn, unknown_in_child}
-use Rattle.check_core.specs.Ports as ports
 use Rattle.check_core.specs.Ports.{unknown_output, unknown_port_at, unknown_port_in_child}
 use Rattle.check_core.specs.Widths as checked
 use Rattle.check_core.specs.Widths.{is_sized, bad_signal, bad_conn, bad_in_child, signal_mismatch, conn_mismatch, mismatch_in_child, widths_of, needed, width_in}

@@ -1,5 +1,5 @@
 -- Widths that are widths, and those of signals.
-use Rattle.std.proofs.Common.{◌≡◌, ℕ, ◌<◌, ◌≤◌, ◌==◌, ◌^◌, Bool, true, false, ◌&&◌, not, nat_lt, bytes_eq, List, [], ◌∷◌, map, Some, None, option_map, unwrap_or, Result, Ok, Err, inl, inr, refl, sym, ap, ◌∙◌, subst, if◌then◌else◌, leb-true, ltb-true, eqb-true}
+use Rattle.std.proofs.Common.{◌≡◌, ℕ, ◌≤◌, ◌==◌, ◌^◌, Bool, true, false, ◌&&◌, not, nat_lt, bytes_eq, List, [], ◌∷◌, map, Some, None, option_map, unwrap_or, Result, Ok, Err, inl, inr, refl, sym, ap, ◌∙◌, subst, if◌then◌else◌, leb-true, ltb-true, eqb-true}
 use Rattle.std.specs.Prelude.{ℤ, pos, negsuc, find}
 use Rattle.std.proofs.lemmas.Option.{none-some}
 use Rattle.bv_core.specs.Value.{IsBits}
@@ -8,7 +8,6 @@ use Rattle.exec_core.specs.Block.{Name}
 use Rattle.list_core.specs.Lists.{IsIn}
 use Rattle.design_core.specs.declared.expr.Literal.{Literal}
 use Rattle.design_core.specs.declared.variant.Signal.{Signal}
-use Rattle.design_exec.specs.Processes as processes
 use Rattle.design_exec.specs.Processes.{signal_width, value_of}
 use Rattle.check_core.specs.declared.fault.CheckFault.{CheckFault}
 use Rattle.check_core.specs.declared.fault.Clash.{Clash}

@@ -19,7 +19,7 @@ use Rattle.place_core.specs.Linking.{Link}
 use Rattle.dep_order.specs.Joined.{IsJoined, with_drivers}
 use Rattle.place_core.specs.Orders.{Pair, signal_at, StandsFirst}
 use Rattle.place_core.specs.Numbering.{AllCounted, number_in, place_at, IsNumbering, AreCounted}
-use Rattle.dep_order.specs.Ordering.{is_met_in, shown_driver, DriversAreTrees, pair_of, pairs_of, marked_in, IsWiredDesign, OrdersAnswer, CyclesAnswer}
+use Rattle.dep_order.specs.Ordering.{is_met_in, DriversAreTrees, pair_of, pairs_of, marked_in, IsWiredDesign, OrdersAnswer, CyclesAnswer}
 use Rattle.dep_order.proofs.Joining.{apart_places, cycles_join, orders_join}
 use Rattle.place_core.proofs.Numbers.{at_within, numbered}
 

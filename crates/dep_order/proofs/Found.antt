@@ -12,7 +12,6 @@ use Rattle.exec_core.specs.Whole.{Place, Drivers}
 use Rattle.list_core.proofs.Options.{some_same}
 use Rattle.exec_core.proofs.Wholes.{each_leaf}
 use Rattle.design_core.specs.Design as design
-use Rattle.design_exec.specs.Processes.{processes_of}
 use Rattle.check_exec.specs.Premises.{IsSound}
 use Rattle.list_core.specs.Lists.{EachOf, IsIn}
 use Rattle.graph_order.specs.Graphs.{Graph, edges_of, IsGraph}

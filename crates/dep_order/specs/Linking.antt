@@ -1,9 +1,6 @@
 -- The signals of all instances, driven by the links and processes of a design.
-use Rattle.std.specs.Prelude.{ℕ, ◌≤◌, Bool, List, [], ◌∷◌, ◌++◌, length}
+use Rattle.std.specs.Prelude.{ℕ, ◌≤◌, Bool, List, [], ◌++◌, length}
 use Rattle.exec_core.specs.Design.{Process}
-use Rattle.design_core.specs.declared.variant.Kind.{Kind}
-use Rattle.design_core.specs.declared.variant.Kind.TheVariants as kind
-use Rattle.design_core.specs.Design as design
 use Rattle.list_core.specs.Lists.{EachOf}
 use Rattle.graph_order.specs.Graphs.{Graph}
 use Rattle.dep_order.specs.Reaching.{IsLayered}

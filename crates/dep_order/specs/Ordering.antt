@@ -1,5 +1,5 @@
 -- From signals as numbers to signals as pairs of an instance and a place.
-use Rattle.std.specs.Prelude.{◌↔◌, ◌≡◌, ℕ, ◌≤◌, Bool, true, false, List, [], map, filter, length, Option, is_some, slice_index_or, Some}
+use Rattle.std.specs.Prelude.{◌≡◌, ℕ, ◌≤◌, Bool, true, false, List, [], map, filter, length, Option, is_some, slice_index_or, Some}
 use Rattle.tree_core.specs.Tree.{Tree}
 use Rattle.exec_core.specs.Whole.{Place, OverSignals}
 use Rattle.exec_core.specs.Design.{driver_of}

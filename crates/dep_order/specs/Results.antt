@@ -1,5 +1,5 @@
 -- What depends on what in a design, and what is told of it.
-use Rattle.std.specs.Prelude.{◌≡◌, ◌≢◌, ℕ, ◌<◌, ◌⊎◌, List, [], ◌∷◌, map, Some}
+use Rattle.std.specs.Prelude.{◌≡◌, List, [], ◌∷◌, map, Some}
 use Rattle.tree_core.specs.Tree.{Tree}
 use Rattle.list_core.specs.Lists.{EachOf, AreApart}
 use Rattle.exec_core.specs.Whole.{Place, Drivers}

@@ -1,5 +1,5 @@
 -- An elaborated design as processes, links and what is given, whose execution is defined.
-use Rattle.std.specs.Prelude.{ℕ, ◌==◌, ℤ, Bool, false, bytes_eq, List, [], ◌∷◌, ◌++◌, map, Option, Some, None, option_map, unwrap_or, slice_get, find, if◌then◌else◌, codes}
+use Rattle.std.specs.Prelude.{ℕ, ◌==◌, Bool, false, bytes_eq, List, [], ◌∷◌, ◌++◌, map, Option, Some, None, option_map, unwrap_or, slice_get, find, if◌then◌else◌, codes}
 use Rattle.std.specs.List.{enumerate_from, flat_map, list_any}
 use Rattle.bv_core.specs.Value.{Bits}
 use Rattle.bv_core.specs.declared.operators.Op1.{Op1}

@@ -1,5 +1,5 @@
 -- The parts of a design's symbol table that do not depend on its nodes.
-use Rattle.std.specs.Prelude.{ℤ, List, [], map}
+use Rattle.std.specs.Prelude.{ℤ, [], map}
 use Rattle.exec_core.specs.Block.{Name}
 use Rattle.design_core.specs.declared.design.Instance as design_instance
 use Rattle.design_core.specs.Design.{Variant, Design}

@@ -13,7 +13,7 @@ use Rattle.list_core.proofs.Lists.{each_member, filter_member, flat_map_apart}
 use Rattle.list_core.proofs.Options.{some_if}
 use Rattle.design_core.specs.declared.design.Instance.{Instance}
 use Rattle.design_core.specs.Design.{Variant, Design}
-use Rattle.design_core.specs.Slots.{Head, heads, scope}
+use Rattle.design_core.specs.Slots.{heads}
 use Rattle.design_exec.specs.Processes.{Numbered, instances_of, process, processes_of, body_widths, signal_width}
 use Rattle.check_exec.proofs.Checks.{blocks_are_checked, widths_are}
 use Rattle.check_exec.proofs.Facts.{each_map, each_flat, from_zero}

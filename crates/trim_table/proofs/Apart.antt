@@ -1,5 +1,5 @@
 -- Lists of names that differ.
-use Rattle.std.proofs.Common.{◌≢◌, ℕ, ◌<◌, List, [], ◌∷◌, ◌++◌, sym, arith}
+use Rattle.std.proofs.Common.{◌≢◌, ℕ, ◌<◌, List, [], ◌∷◌, sym, arith}
 use Rattle.std.specs.Prelude.{All}
 use Rattle.std.specs.List.{AllPairs}
 use Rattle.std.proofs.lemmas.List.Elements.{All-nil, All-cons}

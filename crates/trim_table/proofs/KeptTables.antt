@@ -1,19 +1,17 @@
 -- The table of a compiled design is the table of its design.
-use Rattle.std.proofs.Common.{◌≡◌, ℕ, ◌||◌, Bool, true, List, [], ◌∷◌, map, Option, Some, None, if◌then◌else◌, refl, sym, ap, ap₂, ◌∙◌, subst}
+use Rattle.std.proofs.Common.{◌≡◌, ℕ, ◌||◌, true, List, [], ◌∷◌, map, Option, Some, None, if◌then◌else◌, refl, sym, ap, ap₂, ◌∙◌}
 use Rattle.std.specs.Prelude.{is_some}
 use Rattle.std.proofs.lemmas.Bool.{false_from_ne_true}
-use Rattle.bv_core.specs.Value.{Bits}
 use Rattle.bv_core.specs.declared.reference.Ref.{Ref}
 use Rattle.bv_core.specs.declared.reference.Ref.TheVariants.{Node, Const}
 use Rattle.bv_core.specs.declared.reference.Binding.{Binding}
 use Rattle.bv_core.specs.declared.reference.Binding.TheVariants.{Value, Unset, Removed}
 use Rattle.tree_core.specs.Tree.{Whole}
-use Rattle.tree_core.specs.Width.{tree_width}
 use Rattle.tree_core.specs.Fold.{constant}
 use Rattle.exec_core.specs.Block.{Name}
 use Rattle.exec_core.specs.Kept.{has_number}
 use Rattle.design_core.specs.Design.{Design}
-use Rattle.net_core.specs.Nodes.{Shape, trees_of}
+use Rattle.net_core.specs.Nodes.{trees_of}
 use Rattle.net_core.specs.Nets.{NetParts}
 use Rattle.symtab.specs.declared.parts.Row.{Row}
 use Rattle.symtab.specs.declared.parts.Slot.{Slot}
@@ -22,11 +20,11 @@ use Rattle.world_core.specs.declared.mode.Mode.{Mode}
 use Rattle.world_core.specs.Sites.{Site, sites_in_order, Spot, spots_of}
 use Rattle.world_core.specs.Kept.{enable_tree, name_tree, kept_trees}
 use Rattle.world_core.proofs.Kept.{number_told, has_told}
-use Rattle.lower_core.specs.Shape.{slot_part, shape_of}
+use Rattle.lower_core.specs.Shape.{slot_part}
 use Rattle.trim_core.specs.Named.{node_names}
-use Rattle.trim_core.specs.KeptNet.{number_of, node_of, kept_net}
+use Rattle.trim_core.specs.KeptNet.{node_of, kept_net}
 use Rattle.trim_core.specs.KeptTable.{found_as, found_at, name_cell, enable_cell, kept_cell, kept_row, kept_slot, kept_table}
-use Rattle.trim_core.specs.Trimmed.{FoundTold, NameTold, NamesTold, RowTold, RowsTold, SlotsTold, bare_slot, bare, IsTrimmed}
+use Rattle.trim_core.specs.Trimmed.{FoundTold, NameTold, NamesTold, RowTold, RowsTold, SlotsTold, bare_slot, IsTrimmed}
 use Rattle.trim_table.specs.KeptTables.{CompiledTablesAreKept}
 use Rattle.trim_table.proofs.Nodes.{nodes_are, stands_at, stands_in}
 

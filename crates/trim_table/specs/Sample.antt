@@ -1,6 +1,5 @@
 -- The symbol table of the design of two instances that design_exec translates by hand, where nothing but what is needed is kept.
 use Rattle.std.specs.Prelude.{◌≡◌, ℕ, List, [], ◌∷◌, codes}
-use Rattle.bv_core.specs.Value.{Bits}
 use Rattle.bv_core.specs.declared.reference.Ref.{Ref}
 use Rattle.bv_core.specs.declared.reference.Ref.TheVariants.{Node, Const}
 use Rattle.bv_core.specs.declared.reference.Binding.{Binding}

@@ -12,7 +12,7 @@ use Rattle.design_core.specs.Design.{Design}
 use Rattle.list_core.specs.Lists.{from}
 use Rattle.design_exec.specs.Processes.{processes_of}
 use Rattle.world_core.specs.declared.mode.Mode.{Mode}
-use Rattle.world_core.specs.Sites.{Site, sites_at, sites_in_order, site_body, instances_with, unset_in}
+use Rattle.world_core.specs.Sites.{Site, sites_at, sites_in_order, instances_with, unset_in}
 use Rattle.world_core.specs.World.{Status, IsUnset, IsRemoved, HasWidth, shown_by, Shows, World}
 use Rattle.world_core.specs.Kept.{name_tree, is_kept}
 

@@ -1,5 +1,5 @@
 -- A row of a stimulus gives each input of the top a value of its width, and what is looked up of it is the input of that name.
-use Rattle.std.proofs.Common.{◌≡◌, ℕ, ◌==◌, Bool, true, false, ℤ, bytes_eq, List, [], ◌∷◌, ◌++◌, map, Option, Some, None, option_map, unwrap_or, if◌then◌else◌, inl, inr, refl, sym, ap, ◌∙◌, subst, eqb-true}
+use Rattle.std.proofs.Common.{◌≡◌, ℕ, ◌==◌, Bool, true, false, bytes_eq, List, [], ◌∷◌, ◌++◌, map, Option, Some, None, option_map, unwrap_or, if◌then◌else◌, inl, inr, refl, sym, ap, ◌∙◌, subst, eqb-true}
 use Rattle.std.specs.Prelude.{slice_get, All}
 use Rattle.std.specs.List.{flat_map}
 use Rattle.std.proofs.lemmas.Option.{none-some, same_Some}
@@ -16,9 +16,7 @@ use Rattle.design_core.specs.declared.variant.Signal.{Signal}
 use Rattle.design_core.specs.declared.variant.Kind.{Kind}
 use Rattle.design_core.specs.declared.variant.Kind.TheVariants as kind
 use Rattle.design_core.specs.Design.{Variant, Design}
-use Rattle.design_core.specs.Ports as ports
 use Rattle.design_core.specs.Ports.{ports_in, is_port, top_signals}
-use Rattle.design_exec.specs.Processes as processes
 use Rattle.design_exec.specs.Processes.{Numbered, Given, processes_of, given_by, givens_at}
 use Rattle.names.specs.Known.{Known, none, with}
 use Rattle.check_core.specs.Names.{signal_thing}

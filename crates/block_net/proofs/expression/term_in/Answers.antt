@@ -1,4 +1,4 @@
-use Rattle.std.proofs.Common.{◌≡◌, Some, ap, ◌∙◌, subst}
+use Rattle.std.proofs.Common.{ap, ◌∙◌, subst}
 use Rattle.exec_core.specs.Trees.{tree_in}
 use Rattle.block_net.specs.Source.{expr_in}
 use Rattle.block_net.specs.Terms.{Stands}

@@ -1,4 +1,4 @@
-use Rattle.std.proofs.Common.{length, sym, subst}
+use Rattle.std.proofs.Common.{length, subst}
 use Rattle.place_core.specs.Below.{PutsBelow, lists_of}
 use Rattle.place_core.proofs.Children.{next_put}
 use Rattle.place_core.proofs.below.put_instances.Goals as goal

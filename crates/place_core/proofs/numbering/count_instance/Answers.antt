@@ -1,4 +1,4 @@
-use Rattle.std.proofs.Common.{◌≡◌, ap, ◌∙◌}
+use Rattle.std.proofs.Common.{ap, ◌∙◌}
 use Rattle.place_core.specs.Numbering.{count_signals}
 use Rattle.place_core.proofs.numbering.count_instance.Goals as goal
 
