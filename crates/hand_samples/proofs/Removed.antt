@@ -43,10 +43,10 @@ have_four x r h k p e =
 
 -- a block ends with the values of its targets
 abbrev Ends : Process → (Place → Bits) → Place → Type 0
-Ends b E p = own b.body p.name ≡ true → ends b E (Now p.name) ≡ Some (E p)
+Ends b E p = own b.body p.name ≡ true → ends (processes_of design) b E (Now p.name) ≡ Some (E p)
 
 targets_end : (b : Process) (E : Place → Bits) → b.instance ≡ 0 → Ends b E (place 0 (codes "x")) → Ends b E (place 0 (codes "y")) → Ends b E (place 0 (codes "r")) → (x : Name)
-    → IsTarget (processes_of design) b x → ends b E (Now x) ≡ Some (E (place b.instance x))
+    → IsTarget (processes_of design) b x → ends (processes_of design) b E (Now x) ≡ Some (E (place b.instance x))
 targets_end b E here of_x of_y of_r x target = each_signal (Ends b E) of_x of_y of_r b.instance x target.1 target.0
 
 settles : (x r : ℕ) → x < 16 → r < 16 → (registers : Place → Bits) (row : Name → Bits) → row (codes "x") ≡ four x → registers (place 0 (codes "r")) ≡ four r → Settled (processes_of design) registers row (cycle x r)
