@@ -46,7 +46,7 @@ height_branch first chosen second true e = rw e (omega arith)
 height_branch first chosen second false e = rw e (omega (arith, else_height second))
 
 -- one level down leaves room for any body
-pub level_below : (room : ℕ) (ms : List Module) (n : ℕ) → 0 < room → n ≤ tallest ms → levels (room - 1) ms + (8 * n + 2) < levels room ms
+pub level_below : (room : ℕ) (ms : List Module) (n : ℕ) → 0 < room → n ≤ tallest ms → levels (room - 1) ms + (8 * n + 3) < levels room ms
 unfolding levels
 level_below zero ms n h k = absurd (omega arith)
 level_below (suc room) ms n h k = let e : suc room - 1 ≡ room = omega arith in rw e (omega arith)

@@ -13,7 +13,7 @@ use Rattle.design_core.specs.Design.{Gens, Body, Done}
 use Rattle.elab_base.specs.Compares.{compares}
 use Rattle.elab_base.specs.Turns.{turns_at}
 use Rattle.elab_base.proofs.Steps.{counted, refused, given, faulty, ends, then_assoc}
-use Rattle.elab_walk.specs.Walked.{counted_wire, counted_register, turn, in_turn, else_items, entry}
+use Rattle.elab_walk.specs.Walked.{counted_wire, counted_register, child_walk, turn, in_turn, else_items, entry}
 
 item_wire : (ms : List Module) (enter : Enter) (here : Here) (line : ℕ) (f : Fam) (w : Int) (gens : Gens) (made : Made) →
     item_walk ms enter here (wire line f w) gens made ≡ and_then (counted_wire line gens f w) (λ s. Gives (with_signal made s))
@@ -49,39 +49,35 @@ module _ (ms : List Module) (enter : Enter) (here : Here) (line : ℕ) (left : I
   pub given_fault : (x : Fault) → compares line gens left cmp right ≡ Faulty x → judge seen (item_walk ms enter here (given_items line left cmp right first second) gens made) ≡ Err x
   given_fault x e = ap (judge seen) (item_given ms enter here line left cmp right first second gens made) ∙ faulty _ _ _ _ e
 
-  given_on : (chosen : Items) (b : Bool) (r : Result (Made × Seen) Fault) → compares line gens left cmp right ≡ Gives b → chosen ≡ (if b then first else else_items second) → judge seen (items_walk ms enter here chosen gens made) ≡ r →
+  pub given_on : (chosen : Items) (b : Bool) (r : Result (Made × Seen) Fault) → compares line gens left cmp right ≡ Gives b → chosen ≡ (if b then first else else_items second) → judge seen (items_walk ms enter here chosen gens made) ≡ r →
       judge seen (item_walk ms enter here (given_items line left cmp right first second) gens made) ≡ r
   given_on chosen b r e c q = ap (judge seen) (item_given ms enter here line left cmp right first second gens made)
       ∙ given _ _ _ _ _ e (ap (judge seen) (one_branch ms enter here first second gens made b) ∙ ap (λ body. judge seen (items_walk ms enter here body gens made)) (sym c) ∙ q)
 
-  pub given_done : (chosen : Items) (b : Bool) (last : Made) (after : Seen) → compares line gens left cmp right ≡ Gives b → chosen ≡ (if b then first else else_items second) → judge seen (items_walk ms enter here chosen gens made) ≡ Ok (last, after) →
-      judge seen (item_walk ms enter here (given_items line left cmp right first second) gens made) ≡ Ok (last, after)
-  given_done chosen b last after e c q = given_on chosen b (Ok (last, after)) e c q
-
-  pub given_last_fault : (chosen : Items) (b : Bool) (x : Fault) → compares line gens left cmp right ≡ Gives b → chosen ≡ (if b then first else else_items second) → judge seen (items_walk ms enter here chosen gens made) ≡ Err x →
-      judge seen (item_walk ms enter here (given_items line left cmp right first second) gens made) ≡ Err x
-  given_last_fault chosen b x e c q = given_on chosen b (Err x) e c q
-
-pub ruleset given_steps = (given_fault, given_done, given_last_fault)
-
 -- ---- a child
+
+module _ (enter : Enter) (here : Here) (want : Asked) (made : Made) (seen : Seen) (at : ℕ) where
+  pub child_fault : (x : Fault) → at ≡ here.number + 1 + length made.below → judge seen (enter want here at) ≡ Err x → judge seen (child_walk enter here want made) ≡ Err x
+  unfolding child_walk
+  child_fault x n q = refused _ _ _ _ (ap (λ k. judge seen (enter want here k)) (sym n) ∙ q)
+
+  pub child_done : (instances : List Instance) (s1 : Seen) → at ≡ here.number + 1 + length made.below → judge seen (enter want here at) ≡ Ok (instances, s1) → judge seen (child_walk enter here want made) ≡ Ok (with_child made want instances, s1)
+  unfolding child_walk
+  child_done instances s1 n q = counted _ _ _ _ _ _ (ap (λ k. judge seen (enter want here k)) (sym n) ∙ q) (ends _ _)
+
+pub ruleset child_steps = (child_fault, child_done)
 
 module _ (ms : List Module) (enter : Enter) (here : Here) (line : ℕ) (f : Fam) (child : Name) (args : List Param) (cs : List Conn) (gens : Gens) (made : Made) (seen : Seen) where
   pub inst_fault : (x : Fault) → judge seen (asked ms line gens f child args cs) ≡ Err x → judge seen (item_walk ms enter here (inst line f child args cs) gens made) ≡ Err x
   unfolding item_walk
   inst_fault x e = refused _ _ _ _ e
 
-  pub inst_below : (want : Asked) (s1 : Seen) (at : ℕ) (x : Fault) → judge seen (asked ms line gens f child args cs) ≡ Ok (want, s1) → at ≡ here.number + 1 + length made.below → judge s1 (enter want here at) ≡ Err x →
-      judge seen (item_walk ms enter here (inst line f child args cs) gens made) ≡ Err x
-  unfolding item_walk
-  inst_below want s1 at x e n q = counted _ _ _ _ _ _ e (refused _ _ _ _ (ap (λ k. judge s1 (enter want here k)) (sym n) ∙ q))
-
-  pub inst_done : (want : Asked) (s1 s2 : Seen) (at : ℕ) (instances : List Instance) → judge seen (asked ms line gens f child args cs) ≡ Ok (want, s1) → at ≡ here.number + 1 + length made.below → judge s1 (enter want here at) ≡ Ok (instances, s2) →
-      judge seen (item_walk ms enter here (inst line f child args cs) gens made) ≡ Ok (with_child made want instances, s2)
-  unfolding item_walk
-  inst_done want s1 s2 at instances e n q = counted _ _ _ _ _ _ e (counted _ _ _ _ _ _ (ap (λ k. judge s1 (enter want here k)) (sym n) ∙ q) (ends _ _))
-
-pub ruleset inst_steps = (inst_fault, inst_below, inst_done)
+  pub inst_on : (x : Name) (given_so : List Param) (joined : List Conn) (want : Asked) (s1 : Seen) (r : Result (Made × Seen) Fault) → x ≡ child → given_so ≡ args → joined ≡ cs → judge seen (asked ms line gens f x given_so joined) ≡ Ok (want, s1) →
+      judge s1 (child_walk enter here want made) ≡ r → judge seen (item_walk ms enter here (inst line f child args cs) gens made) ≡ r
+  unfolding item_walk child_walk
+  inst_on x given_so joined want s1 r i j k e q =
+      let asked_so = ap (λ y. judge seen (asked ms line gens f y args cs)) (sym i) ∙ ap (λ y. judge seen (asked ms line gens f x y cs)) (sym j) ∙ ap (λ y. judge seen (asked ms line gens f x given_so y)) (sym k) in
+      counted _ _ _ _ _ _ (asked_so ∙ e) q
 
 -- ---- modules
 
@@ -221,7 +217,9 @@ pub entry_last_fault : (line : ℕ) (ps : List Port) (seen s1 : Seen) (x : Fault
 unfolding entry
 entry_last_fault line ps seen s1 x e1 e2 = counted _ _ _ _ _ _ e1 (e2)
 
-pub ruleset item_steps = (wire_fault_1, wire_done, reg_fault_1, reg_done, comb_fault_1, comb_done, ff_fault_1, ff_done, repeat_fault_1, repeat_done, repeat_last_fault)
+pub ruleset item_steps = (wire_fault_1, wire_done, reg_fault_1, reg_done, inst_fault, comb_fault_1, comb_done, ff_fault_1, ff_done)
+
+pub ruleset repeat_steps = (repeat_fault_1, repeat_done, repeat_last_fault)
 
 pub ruleset turn_steps = (turn_fault_1, turn_done, turn_last_fault)
 

@@ -1,13 +1,14 @@
 -- What the body of an instance gave so far, and the steps of the walk over items.
-use Rattle.std.specs.Prelude.{ℕ, ℤ, List, [], ◌∷◌, ◌++◌, length, map, Result, Ok, Err}
-use Rattle.gen_tree.specs.Tree.{Int, Fam, Lit, Items, no_item, ElseItems, no_else_items, otherwise_items, Port, Module}
+use Rattle.std.specs.Prelude.{ℕ, ◌+◌, ℤ, Bool, true, false, List, [], ◌∷◌, ◌++◌, length, map, Result, Ok, Err}
+use Rattle.gen_tree.specs.Tree.{Int, Fam, Lit, Items, no_item, ElseItems, no_else_items, otherwise_items, wire, reg, inst, comb, ff, repeat_items, given_items, Port, Module}
 use Rattle.gen_tree.specs.Tree as tree
+use Rattle.gen_tree.specs.View.{modules_of}
 use Rattle.elab_core.specs.declared.Count.TheVariants.{Instances, Signals, Turns}
 use Rattle.elab_core.specs.declared.Instance as code_instance
 use Rattle.elab_core.specs.Walk.{Walk, Gives, ◌>>=◌, counts, Fault, Seen}
 use Rattle.elab_core.specs.Numbers.{bound, number}
 use Rattle.elab_core.specs.Elaborated.{Child, Instance}
-use Rattle.elab_core.specs.Elab.{expr, Here, Enter, Made, Asked, wire_signal, register, port_kind, items_walk, count_outputs, child_outputs, first_signals}
+use Rattle.elab_core.specs.Elab.{expr, Here, Enter, Made, Asked, wire_signal, register, port_kind, with_child, items_walk, instance, count_outputs, child_outputs, first_signals}
 use Rattle.elab_core.specs.View.{content_of, instance_of}
 use Rattle.design_core.specs.declared.Signal.{Signal}
 use Rattle.exec_core.specs.Block.{Name}
@@ -16,6 +17,7 @@ use Rattle.design_core.specs.View.{conn_of}
 use Rattle.elab_walk.specs.declared.made.Made as code_made
 use Rattle.elab_walk.specs.declared.made.Here as code_here
 use Rattle.elab_walk.specs.declared.asked.Asked as code_asked
+use Rattle.elab_walk.specs.declared.walker.Walker as code_walker
 
 unfoldable pub placed_of : List code_instance.Instance → List Instance
 placed_of all = map instance_of all
@@ -25,6 +27,23 @@ made_of made = record { content = content_of made.content; below = placed_of mad
 
 abbrev pub here_of : code_here.Here → Here
 here_of here = record { path = here.path; number = here.number }
+
+-- the modules that a walker finds, and how it enters an instance
+abbrev pub modules_in : code_walker.Walker → List Module
+modules_in walker = modules_of walker.modules.now.all.now
+
+abbrev pub enter_in : code_walker.Walker → Enter
+enter_in walker = instance (modules_in walker) walker.room
+
+-- an item that stands for none of its own: those of its turns, or of one of its branches, stand there
+abbrev pub is_generated : tree.Item → Bool
+is_generated (wire line f w) = false
+is_generated (reg line f w l) = false
+is_generated (inst line f x args cs) = false
+is_generated (comb line body) = false
+is_generated (ff line body) = false
+is_generated (repeat_items line x from to body) = true
+is_generated (given_items line left cmp right first second) = true
 
 -- a child as it is asked for, of this module
 abbrev pub asked_of : code_asked.Asked → Module → Asked
@@ -70,6 +89,12 @@ counted_register line gens f w l = do
   s ← register line gens f w l
   counted ← counts Signals line
   Gives s
+
+-- a child that was asked for: its instances get the next numbers
+unfoldable pub child_walk : Enter → Here → Asked → Made → Walk Made
+child_walk enter here want made = do
+  instances ← enter want here (here.number + 1 + length made.below)
+  Gives (with_child made want instances)
 
 -- the count of an instance, and of its outputs as signals of its parent
 unfoldable pub entry : ℕ → List Port → Walk (Unit {0})

@@ -1,50 +1,38 @@
 //! Items, and the instances below.
 
-ghost use Rattle.std.specs.Prelude.{◌≡◌, ◌+◌, ◌^◌, ◌<◌, ◌≤◌, ◌++◌, codes, length, map, IfOk, OnOk, if◌then◌else◌};
-ghost use Rattle.gen_tree.specs.Tree as tree;
-ghost use Rattle.gen_tree.specs.View.{int_of, fam_of, param_of, conn_of, item_of, items_of, else_items_of, port_of, module_of, modules_of};
+ghost use Rattle.std.specs.Prelude.{◌≡◌, ◌+◌, ◌^◌, ◌<◌, ◌≤◌, ◌++◌, true, codes, length, map, IfOk, OnOk, if◌then◌else◌};
+ghost use Rattle.gen_tree.specs.View.{item_of, items_of, else_items_of, port_of, module_of};
 ghost use Rattle.elab_core.specs.Results.{Judged, NoMemoryOr};
 ghost use Rattle.elab_core.specs.Walk.{judge};
-ghost use Rattle.elab_core.specs.Elab.{item_walk, items_walk, module_walk, instance as instance_walk, turns as turns_walk};
+ghost use Rattle.elab_core.specs.Elab.{item_walk, items_walk, module_walk, turns as turns_walk};
 ghost use Rattle.elab_base.specs.Met.{met_of};
 ghost use Rattle.gen_scope.specs.Gens.{bound};
 ghost use Rattle.elab_walk.specs.Height.{height, tallest};
-ghost use Rattle.elab_walk.specs.Walked.{made_of, placed_of, here_of, asked_of, turn as turn_walk, in_turn, else_items, entry as entry_walk};
+ghost use Rattle.elab_walk.specs.Walked.{made_of, placed_of, here_of, modules_in, enter_in, is_generated, asked_of, child_walk, turn as turn_walk, in_turn, else_items, entry as entry_walk};
 
 use crate::asked::Asked;
 use crate::asking::asked;
 use crate::gather::{add_block, add_child, add_signal, begun, placed};
 use crate::made::{Here, Made};
-use crate::modules::Modules;
 use crate::signals::{count_outputs, counted_register, counted_wire, ports};
-use elab_base::{Met, Turns, comparison, shared_name, turns_of};
-use elab_body::block;
+use crate::walker::Walker;
+use elab_base::{Met, comparison};
+use elab_body::{Loop, block, loop_of};
 use elab_core::{Count, ElabFault, Instance};
-use gen_scope::Scope;
-use gen_tree::{Cmp, Conn, Fam, Int, Item, Module, Param, Port};
+use gen_tree::{Item, Module, Port};
 use std::alloc::Global;
-use std::rc::Rc;
 use text_core::Text;
 
 /// Items one after another, behind what was made.
 #[cycle(walking)]
 #[tactic(auto, using(crate::proofs::ItemLoops::items_steps, crate::proofs::Heights::height_at))]
-fn items(
-    alloc: Global,
-    met: &mut Met,
-    modules: &Modules,
-    room: u32,
-    here: &Here,
-    body: &[Item],
-    scope: &Scope,
-    made: &mut Made,
-) -> Result<(), ElabFault>
-    requires { met.old.instances ≡ here.now.number + 1 + length (made_of made.old).below }
-    ensures judged { Judged (λ _. made_of made.new) result (met_of met.new) (judge (met_of met.old) (items_walk (modules_of modules.now.all.now) (instance_walk (modules_of modules.now.all.now) room) (here_of here.now) (items_of body.now) scope.now (made_of made.old))) }
-    ensures counted { OnOk result (met.new.instances ≡ here.now.number + 1 + length (made_of made.new).below) }
+fn items(walker: &Walker, met: &mut Met, body: &[Item], made: &mut Made) -> Result<(), ElabFault>
+    requires { met.old.instances ≡ walker.now.here.now.number + 1 + length (made_of made.old).below }
+    ensures judged { Judged (λ _. made_of made.new) result (met_of met.new) (judge (met_of met.old) (items_walk (modules_in walker.now) (enter_in walker.now) (here_of walker.now.here.now) (items_of body.now) walker.now.scope.now (made_of made.old))) }
+    ensures counted { OnOk result (met.new.instances ≡ walker.now.here.now.number + 1 + length (made_of made.new).below) }
 {
     for item in body {
-        one_item(alloc, met, modules, room, here, item, scope, made)?;
+        one_item(walker, met, item, made)?;
     }
     Ok(())
 }
@@ -52,25 +40,16 @@ fn items(
 /// One item.
 #[cycle(walking)]
 #[tactic(auto, using(gen_tree::proofs::Views::view_steps, crate::proofs::Heights::heights, crate::proofs::ItemCases::item_steps))]
-fn one_item(
-    alloc: Global,
-    met: &mut Met,
-    modules: &Modules,
-    room: u32,
-    here: &Here,
-    item: &Item,
-    scope: &Scope,
-    made: &mut Made,
-) -> Result<(), ElabFault>
-    requires { met.old.instances ≡ here.now.number + 1 + length (made_of made.old).below }
-    ensures judged { Judged (λ _. made_of made.new) result (met_of met.new) (judge (met_of met.old) (item_walk (modules_of modules.now.all.now) (instance_walk (modules_of modules.now.all.now) room) (here_of here.now) (item_of item.now) scope.now (made_of made.old))) }
-    ensures counted { OnOk result (met.new.instances ≡ here.now.number + 1 + length (made_of made.new).below) }
+fn one_item(walker: &Walker, met: &mut Met, item: &Item, made: &mut Made) -> Result<(), ElabFault>
+    requires { met.old.instances ≡ walker.now.here.now.number + 1 + length (made_of made.old).below }
+    ensures judged { Judged (λ _. made_of made.new) result (met_of met.new) (judge (met_of met.old) (item_walk (modules_in walker.now) (enter_in walker.now) (here_of walker.now.here.now) (item_of item.now) walker.now.scope.now (made_of made.old))) }
+    ensures counted { OnOk result (met.new.instances ≡ walker.now.here.now.number + 1 + length (made_of made.new).below) }
 {
+    let Walker { alloc, scope, .. } = *walker;
     match item {
         Item::Wire { line, name, width } => {
             let signal = counted_wire(alloc, met, *line, scope, name, width)?;
-            add_signal(made, signal)?;
-            Ok(())
+            add_signal(made, signal)
         }
         Item::Reg {
             line,
@@ -79,8 +58,7 @@ fn one_item(
             start,
         } => {
             let signal = counted_register(alloc, met, *line, scope, name, width, start)?;
-            add_signal(made, signal)?;
-            Ok(())
+            add_signal(made, signal)
         }
         Item::Inst {
             line,
@@ -89,32 +67,32 @@ fn one_item(
             args,
             conns,
         } => {
-            child(
-                alloc,
-                met,
-                modules,
-                room,
-                here,
-                *line,
-                name,
-                module.bytes(),
-                args,
-                conns,
-                scope,
-                made,
-            )?;
-            Ok(())
+            let (want, found) = asked(walker, met, *line, name, module.bytes(), args, conns)?;
+            child(walker, met, want, found, made)
         }
         Item::Comb { line, body } => {
             let body = block(alloc, met, body, scope)?;
-            add_block(made, *line, false, body)?;
-            Ok(())
+            add_block(made, *line, false, body)
         }
         Item::Ff { line, body } => {
             let body = block(alloc, met, body, scope)?;
-            add_block(made, *line, true, body)?;
-            Ok(())
+            add_block(made, *line, true, body)
         }
+        Item::For { .. } | Item::GenIf { .. } => generated(walker, met, item, made),
+    }
+}
+
+/// A `for` or a `gen if`: what its turns give, or the branch that is taken.
+#[cycle(walking)]
+#[tactic(auto, using(gen_tree::proofs::Views::view_steps, crate::proofs::Heights::heights, crate::proofs::ItemCases::repeat_steps, crate::proofs::Heights::height_branch))]
+fn generated(walker: &Walker, met: &mut Met, item: &Item, made: &mut Made) -> Result<(), ElabFault>
+    requires kind { is_generated (item_of item.now) ≡ true }
+    requires numbered { met.old.instances ≡ walker.now.here.now.number + 1 + length (made_of made.old).below }
+    ensures judged { Judged (λ _. made_of made.new) result (met_of met.new) (judge (met_of met.old) (item_walk (modules_in walker.now) (enter_in walker.now) (here_of walker.now.here.now) (item_of item.now) walker.now.scope.now (made_of made.old))) }
+    ensures counted { OnOk result (met.new.instances ≡ walker.now.here.now.number + 1 + length (made_of made.new).below) }
+{
+    let Walker { alloc, scope, .. } = *walker;
+    match item {
         Item::For {
             line,
             var,
@@ -122,11 +100,8 @@ fn one_item(
             to,
             body,
         } => {
-            let turns = turns_of(alloc, *line, scope, from, to)?;
-            all_turns(
-                alloc, met, modules, room, here, *line, &turns, var, body, scope, made,
-            )?;
-            Ok(())
+            let each = loop_of(alloc, *line, scope, var, from, to)?;
+            all_turns(walker, met, &each, body, made)
         }
         Item::GenIf {
             line,
@@ -136,38 +111,31 @@ fn one_item(
             yes,
             no,
         } => {
-            taken(
-                alloc, met, modules, room, here, *line, left, *cmp, right, yes, no, scope, made,
-            )?;
-            Ok(())
+            let holds = comparison(alloc, *line, scope, left, *cmp, right)?;
+            items(walker, met, branch_of(holds, yes, no), made)
         }
+        Item::Wire { .. } | Item::Reg { .. } | Item::Inst { .. } => unreachable!(),
+        Item::Comb { .. } | Item::Ff { .. } => unreachable!(),
     }
 }
 
-/// A child: what is asked for, then its instances, which get the next numbers.
+/// A child that was asked for: its instances, which get the next numbers.
 #[cycle(walking)]
-#[tactic(auto, using(crate::proofs::ItemCases::inst_steps, crate::proofs::GatherSteps::made_many))]
+#[tactic(auto, using(crate::proofs::ItemCases::child_steps, crate::proofs::GatherSteps::made_many))]
 fn child(
-    alloc: Global,
+    walker: &Walker,
     met: &mut Met,
-    modules: &Modules,
-    room: u32,
-    here: &Here,
-    line: u32,
-    name: &Fam,
-    of: &[u8],
-    args: &[Param],
-    conns: &[Conn],
-    scope: &Scope,
+    want: Asked,
+    found: &Module,
     made: &mut Made,
 ) -> Result<(), ElabFault>
-    requires { met.old.instances ≡ here.now.number + 1 + length (made_of made.old).below }
-    ensures judged { Judged (λ _. made_of made.new) result (met_of met.new) (judge (met_of met.old) (item_walk (modules_of modules.now.all.now) (instance_walk (modules_of modules.now.all.now) room) (here_of here.now) (tree.inst line (fam_of name.now) of.now (map param_of args.now) (map conn_of conns.now)) scope.now (made_of made.old))) }
-    ensures counted { OnOk result (met.new.instances ≡ here.now.number + 1 + length (made_of made.new).below) }
+    requires height { height (module_of found.now).items ≤ tallest (modules_in walker.now) }
+    requires numbered { met.old.instances ≡ walker.now.here.now.number + 1 + length (made_of made.old).below }
+    ensures judged { Judged (λ _. made_of made.new) result (met_of met.new) (judge (met_of met.old) (child_walk (enter_in walker.now) (here_of walker.now.here.now) (asked_of want (module_of found.now)) (made_of made.old))) }
+    ensures counted { OnOk result (met.new.instances ≡ walker.now.here.now.number + 1 + length (made_of made.new).below) }
 {
-    let (want, found) = asked(alloc, met, modules, line, scope, name, of, args, conns)?;
-    let instances = instances_below(alloc, met, modules, room, &want, found, here)?;
-    add_child(alloc, made, want, instances)?;
+    let instances = instances_below(walker, met, &want, found)?;
+    add_child(walker.alloc, made, want, instances)?;
     Ok(())
 }
 
@@ -175,28 +143,19 @@ fn child(
 #[cycle(walking)]
 #[tactic(auto, using(crate::proofs::ItemLoops::turns_steps, elab_body::proofs::StmtLoops::signed_steps))]
 fn all_turns(
-    alloc: Global,
+    walker: &Walker,
     met: &mut Met,
-    modules: &Modules,
-    room: u32,
-    here: &Here,
-    line: u32,
-    turns: &Turns,
-    var: &Text,
+    each: &Loop,
     body: &[Item],
-    scope: &Scope,
     made: &mut Made,
 ) -> Result<(), ElabFault>
-    requires { met.old.instances ≡ here.now.number + 1 + length (made_of made.old).below }
-    ensures judged { Judged (λ _. made_of made.new) result (met_of met.new) (judge (met_of met.old) (turns_walk line (in_turn (modules_of modules.now.all.now) (instance_walk (modules_of modules.now.all.now) room) (here_of here.now) (items_of body.now) var.now scope.now) turns.now.from turns.now.count (made_of made.old))) }
-    ensures counted { OnOk result (met.new.instances ≡ here.now.number + 1 + length (made_of made.new).below) }
+    requires { met.old.instances ≡ walker.now.here.now.number + 1 + length (made_of made.old).below }
+    ensures judged { Judged (λ _. made_of made.new) result (met_of met.new) (judge (met_of met.old) (turns_walk each.now.line (in_turn (modules_in walker.now) (enter_in walker.now) (here_of walker.now.here.now) (items_of body.now) each.now.name.value walker.now.scope.now) each.now.turns.from each.now.turns.count (made_of made.old))) }
+    ensures counted { OnOk result (met.new.instances ≡ walker.now.here.now.number + 1 + length (made_of made.new).below) }
 {
-    let name = shared_name(alloc, var)?;
-    for turn in 0..turns.count {
-        let number = turns.number(turn);
-        one_turn(
-            alloc, met, modules, room, here, line, body, scope, &name, number, made,
-        )?;
+    for turn in 0..each.turns.count {
+        let number = each.turns.number(turn);
+        one_turn(walker, met, each, number, body, made)?;
     }
     Ok(())
 }
@@ -205,84 +164,38 @@ fn all_turns(
 #[cycle(walking)]
 #[tactic(auto, using(crate::proofs::ItemCases::turn_steps))]
 fn one_turn(
-    alloc: Global,
+    walker: &Walker,
     met: &mut Met,
-    modules: &Modules,
-    room: u32,
-    here: &Here,
-    line: u32,
-    body: &[Item],
-    scope: &Scope,
-    name: &Rc<Text>,
+    each: &Loop,
     number: i64,
+    body: &[Item],
     made: &mut Made,
 ) -> Result<(), ElabFault>
-    requires { met.old.instances ≡ here.now.number + 1 + length (made_of made.old).below }
-    ensures judged { Judged (λ _. made_of made.new) result (met_of met.new) (judge (met_of met.old) (turn_walk (modules_of modules.now.all.now) (instance_walk (modules_of modules.now.all.now) room) (here_of here.now) line (items_of body.now) (bound name.now.value number scope.now) (made_of made.old))) }
-    ensures counted { OnOk result (met.new.instances ≡ here.now.number + 1 + length (made_of made.new).below) }
+    requires { met.old.instances ≡ walker.now.here.now.number + 1 + length (made_of made.old).below }
+    ensures judged { Judged (λ _. made_of made.new) result (met_of met.new) (judge (met_of met.old) (turn_walk (modules_in walker.now) (enter_in walker.now) (here_of walker.now.here.now) each.now.line (items_of body.now) (bound each.now.name.value number walker.now.scope.now) (made_of made.old))) }
+    ensures counted { OnOk result (met.new.instances ≡ walker.now.here.now.number + 1 + length (made_of made.new).below) }
 {
-    met.take(Count::Turns, line)?;
-    let inner = scope.inner(alloc, name, number)?;
-    items(alloc, met, modules, room, here, body, &inner, made)?;
+    met.take(Count::Turns, each.line)?;
+    let inner = walker.scope.inner(walker.alloc, &each.name, number)?;
+    let within = Walker {
+        scope: &inner,
+        ..*walker
+    };
+    items(&within, met, body, made)?;
     Ok(())
 }
 
-/// The branch of a `gen if` that is taken.
-#[cycle(walking)]
-#[tactic(auto, using(crate::proofs::ItemCases::given_steps, crate::proofs::Heights::height_branch))]
-fn taken(
-    alloc: Global,
-    met: &mut Met,
-    modules: &Modules,
-    room: u32,
-    here: &Here,
-    line: u32,
-    left: &Int,
-    cmp: Cmp,
-    right: &Int,
-    yes: &[Item],
-    no: &Option<Vec<Item>>,
-    scope: &Scope,
-    made: &mut Made,
-) -> Result<(), ElabFault>
-    requires { met.old.instances ≡ here.now.number + 1 + length (made_of made.old).below }
-    ensures judged { Judged (λ _. made_of made.new) result (met_of met.new) (judge (met_of met.old) (item_walk (modules_of modules.now.all.now) (instance_walk (modules_of modules.now.all.now) room) (here_of here.now) (tree.given_items line (int_of left.now) cmp (int_of right.now) (items_of yes.now) (else_items_of no.now)) scope.now (made_of made.old))) }
-    ensures counted { OnOk result (met.new.instances ≡ here.now.number + 1 + length (made_of made.new).below) }
-{
-    let holds = comparison(alloc, line, scope, left, cmp, right)?;
-    let branch = branch_of(holds, yes, no);
-    items(alloc, met, modules, room, here, branch, scope, made)?;
-    Ok(())
-}
-
-/// The body of a module: its ports, then its items.
+/// The body of a module whose parameters are the scope: its ports, then its items.
 #[cycle(walking)]
 #[tactic(auto, using(crate::proofs::ItemCases::module_steps))]
-pub(crate) fn body_of(
-    alloc: Global,
-    met: &mut Met,
-    modules: &Modules,
-    room: u32,
-    here: &Here,
-    found: &Module,
-    params: &Scope,
-) -> Result<Made, ElabFault>
-    requires { met.old.instances ≡ here.now.number + 1 }
-    ensures judged { Judged (λ made. made_of made) result (met_of met.new) (judge (met_of met.old) (module_walk (modules_of modules.now.all.now) (instance_walk (modules_of modules.now.all.now) room) (here_of here.now) (module_of found.now) params.now)) }
-    ensures counted { IfOk result (λ made. met.new.instances ≡ here.now.number + 1 + length (made_of made).below) }
+pub(crate) fn body_of(walker: &Walker, met: &mut Met, found: &Module) -> Result<Made, ElabFault>
+    requires { met.old.instances ≡ walker.now.here.now.number + 1 }
+    ensures judged { Judged (λ made. made_of made) result (met_of met.new) (judge (met_of met.old) (module_walk (modules_in walker.now) (enter_in walker.now) (here_of walker.now.here.now) (module_of found.now) walker.now.scope.now)) }
+    ensures counted { IfOk result (λ made. met.new.instances ≡ walker.now.here.now.number + 1 + length (made_of made).below) }
 {
-    let signals = ports(alloc, met, &found.ports, params)?;
-    let mut made = begun(alloc, signals);
-    items(
-        alloc,
-        met,
-        modules,
-        room,
-        here,
-        &found.items,
-        params,
-        &mut made,
-    )?;
+    let signals = ports(walker.alloc, met, &found.ports, walker.scope)?;
+    let mut made = begun(walker.alloc, signals);
+    items(walker, met, &found.items, &mut made)?;
     Ok(made)
 }
 
@@ -290,20 +203,23 @@ pub(crate) fn body_of(
 #[cycle(walking)]
 #[tactic(auto, using(crate::proofs::Heights::level_below, crate::proofs::ItemCases::instance_steps))]
 fn instances_below(
-    alloc: Global,
+    walker: &Walker,
     met: &mut Met,
-    modules: &Modules,
-    room: u32,
     want: &Asked,
     found: &Module,
-    here: &Here,
 ) -> Result<Vec<Instance>, ElabFault>
-    requires { height (module_of found.now).items ≤ tallest (modules_of modules.now.all.now) }
-    ensures judged { Judged (λ all. placed_of all.items) result (met_of met.new) (judge (met_of met.old) (instance_walk (modules_of modules.now.all.now) room (asked_of want.now (module_of found.now)) (here_of here.now) met.old.instances)) }
+    requires { height (module_of found.now).items ≤ tallest (modules_in walker.now) }
+    ensures judged { Judged (λ all. placed_of all.items) result (met_of met.new) (judge (met_of met.old) (enter_in walker.now (asked_of want.now (module_of found.now)) (here_of walker.now.here.now) met.old.instances)) }
     ensures counted { IfOk result (λ all. met.new.instances ≡ met.old.instances + length (placed_of all.items)) }
     ensures some { IfOk result (λ all. 0 < length all.items) }
     ensures number { OnOk result (met.old.instances < 2 ^ 32) }
 {
+    let Walker {
+        alloc,
+        room,
+        here,
+        ..
+    } = *walker;
     if room == 0 {
         let name = Text::new(alloc, want.name.bytes())?;
         return Err(ElabFault::TooDeep {
@@ -315,15 +231,15 @@ fn instances_below(
     entry(met, want.line, &found.ports)?;
     let path = path_below(alloc, here.path.bytes(), want.name.bytes())?;
     let inner = Here { path, number };
-    let made = body_of(alloc, met, modules, room - 1, &inner, found, &want.params)?;
-    let all = placed(
-        alloc,
-        inner.path,
-        Some(here.number),
-        want.place,
-        &want.params,
-        made,
-    )?;
+    let below = Walker {
+        room: room - 1,
+        here: &inner,
+        scope: &want.params,
+        ..*walker
+    };
+    let made = body_of(&below, met, found)?;
+    let parent = Some(here.number);
+    let all = placed(alloc, inner.path, parent, want.place, &want.params, made)?;
     Ok(all)
 }
 

@@ -10,5 +10,6 @@ mod modules;
 mod signals;
 mod top;
 mod values;
+mod walker;
 
 pub use top::walk;

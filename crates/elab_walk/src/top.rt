@@ -1,3 +1,5 @@
+//! The walk from the top of a source.
+
 ghost use Rattle.std.specs.Prelude.{◌≡◌, map};
 ghost use Rattle.gen_tree.specs.View.{modules_of, source_of};
 ghost use Rattle.elab_core.specs.Results.{Answers, Judged};
@@ -12,6 +14,7 @@ use crate::item::body_of;
 use crate::made::Here;
 use crate::modules::Modules;
 use crate::values::top_values;
+use crate::walker::Walker;
 use elab_base::Met;
 use elab_core::{Count, ElabFault, Instance};
 use gen_tree::Source;
@@ -35,7 +38,14 @@ fn instances(
     met.take(Count::Instances, 0)?;
     let path = Text::new(alloc, top)?;
     let here = Here { path, number: 0 };
-    let made = body_of(alloc, met, modules, 32, &here, found, &params)?;
+    let walker = Walker {
+        alloc,
+        modules,
+        room: 32,
+        here: &here,
+        scope: &params,
+    };
+    let made = body_of(&walker, met, found)?;
     let all = placed(alloc, here.path, None, place, &params, made)?;
     Ok(all)
 }
