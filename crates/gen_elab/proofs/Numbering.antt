@@ -6,7 +6,7 @@ use Rattle.design_core.specs.declared.Stmt as code_stmt
 use Rattle.design_core.specs.declared.Stmt.TheVariants as variants
 use Rattle.design_core.specs.declared.Expr as code_expr
 use Rattle.exec_core.specs.Block.{Name}
-use Rattle.design_core.specs.Design.{Gens, Body, Then, If}
+use Rattle.design_core.specs.Design.{Gens, Expr, Body, Then, Else, If}
 use Rattle.design_core.specs.View.{expr_of, stmt_of, body_of, else_of}
 use Rattle.design_core.proofs.Views.{stmt_assign, stmt_let, stmt_if}
 use Rattle.elab_core.specs.Design.{size, stmt_size, numbered, numbered_stmt, numbered_else}
@@ -27,19 +27,11 @@ pub mixed_end : (done : List code_stmt.Stmt) (k : ℕ) → mixed done k [] ≡ b
 mixed_end [] k = refl
 mixed_end (s ∷ done) k = ap (Then (stmt_of s)) (mixed_end done k)
 
-pub assign_numbered : (k slot line : ℕ) (gens : Gens) (x : Name) (e : code_expr.Expr) → stmt_of (variants.Assign k line gens x e) ≡ numbered_stmt k (stmt_of (variants.Assign slot line gens x e))
-assign_numbered k slot line gens x e = stmt_assign k line gens x e ∙ ap (numbered_stmt k) (sym (stmt_assign slot line gens x e))
-
-pub let_numbered : (k slot line : ℕ) (gens : Gens) (x : Name) (e : code_expr.Expr) → stmt_of (variants.Let k line gens x e) ≡ numbered_stmt k (stmt_of (variants.Let slot line gens x e))
-let_numbered k slot line gens x e = stmt_let k line gens x e ∙ ap (numbered_stmt k) (sym (stmt_let slot line gens x e))
-
-pub if_numbered : (k slot line : ℕ) (gens : Gens) (c : code_expr.Expr) (a now : Vec code_stmt.Stmt Global) (b then : Option (Vec code_stmt.Stmt Global)) (next : ℕ)
-    → body_of now.items ≡ numbered (k + 1) (body_of a.items) → next ≡ k + 1 + size (body_of a.items) → else_of then ≡ numbered_else next (else_of b)
-    → stmt_of (variants.If k line gens c now then) ≡ numbered_stmt k (stmt_of (variants.If slot line gens c a b))
-if_numbered k slot line gens c a now b then next first is second =
-    stmt_if k line gens c now then
-    ∙ ap₂ (λ p q. If k line gens (expr_of c) p q) first (second ∙ ap (λ n. numbered_else n (else_of b)) is)
-    ∙ ap (numbered_stmt k) (sym (stmt_if slot line gens c a b))
+-- an `if` whose statements have their slots
+pub if_numbered : (k line : ℕ) (gens : Gens) (c : Expr) (a now : Body) (b then : Else) (next : ℕ)
+    → now ≡ numbered (k + 1) a → next ≡ k + 1 + size a → then ≡ numbered_else next b
+    → If k line gens c now then ≡ If k line gens c (numbered (k + 1) a) (numbered_else (k + 1 + size a) b)
+if_numbered k line gens c a now b then next first is second = ap₂ (λ p q. If k line gens c p q) first (second ∙ ap (λ n. numbered_else n b) is)
 
 front : (body : List code_stmt.Stmt) (i : ℕ) (s d : code_stmt.Stmt) → i < length body → s ≡ get_or body i d → drop i body ≡ s ∷ drop (i + 1) body
 front body i s d below at = drop_more body i d below ∙ ap (λ (x : code_stmt.Stmt). x ∷ drop (i + 1) body) (sym at)

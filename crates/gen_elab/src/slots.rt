@@ -1,8 +1,11 @@
+//! Slots of statements, in preorder: each kind of statement is taken apart and made again with its slot.
+
 ghost use Rattle.std.specs.Prelude.{◌≡◌, ◌+◌, ◌<◌, ◌^◌};
-ghost use Rattle.design_core.specs.View.{body_of, else_of, stmt_of};
+ghost use Rattle.design_core.specs.Design as design;
+ghost use Rattle.design_core.specs.View.{body_of, else_of, expr_of, stmt_of};
 ghost use Rattle.elab_core.specs.Design.{size, else_size, stmt_size, numbered, numbered_else, numbered_stmt};
 
-use design_core::Stmt;
+use design_core::{Expr, Stmt};
 use gen_scope::Scope;
 use std::alloc::Global;
 use std::mem;
@@ -14,9 +17,59 @@ fn nothing(alloc: Global) -> Stmt {
         slot: 0,
         line: 0,
         gens: Scope::empty(),
-        test: design_core::Expr::Read(Text::empty(alloc)),
+        test: Expr::Read(Text::empty(alloc)),
         yes: Vec::new(alloc),
         no: None,
+    }
+}
+
+/// An assignment.
+#[tactic(auto, using(design_core::proofs::Views::design_views))]
+fn assignment(slot: u32, line: u32, gens: Scope, target: Text, value: Expr) -> Stmt
+    ensures { stmt_of result ≡ design.Assign slot line gens target (expr_of value) }
+{
+    Stmt::Assign {
+        slot,
+        line,
+        gens,
+        target,
+        value,
+    }
+}
+
+/// A `let`.
+#[tactic(auto, using(design_core::proofs::Views::design_views))]
+fn binding(slot: u32, line: u32, gens: Scope, name: Text, value: Expr) -> Stmt
+    ensures { stmt_of result ≡ design.Let slot line gens name (expr_of value) }
+{
+    Stmt::Let {
+        slot,
+        line,
+        gens,
+        name,
+        value,
+    }
+}
+
+/// An `if`.
+#[tactic(auto, using(design_core::proofs::Views::design_views))]
+fn choice(
+    slot: u32,
+    line: u32,
+    gens: Scope,
+    test: Expr,
+    yes: Vec<Stmt>,
+    no: Option<Vec<Stmt>>,
+) -> Stmt
+    ensures { stmt_of result ≡ design.If slot line gens (expr_of test) (body_of yes.items) (else_of no) }
+{
+    Stmt::If {
+        slot,
+        line,
+        gens,
+        test,
+        yes,
+        no,
     }
 }
 
@@ -52,55 +105,43 @@ fn number_stmt(alloc: Global, stmt: Stmt, first: u32) -> (Stmt, u32)
             target,
             value,
             ..
-        } => (
-            Stmt::Assign {
-                slot: first,
-                line,
-                gens,
-                target,
-                value,
-            },
-            first + 1,
-        ),
+        } => (assignment(first, line, gens, target, value), first + 1),
         Stmt::Let {
             line,
             gens,
             name,
             value,
             ..
-        } => (
-            Stmt::Let {
-                slot: first,
-                line,
-                gens,
-                name,
-                value,
-            },
-            first + 1,
-        ),
+        } => (binding(first, line, gens, name, value), first + 1),
         Stmt::If {
             line,
             gens,
             test,
-            mut yes,
+            yes,
             no,
             ..
-        } => {
-            let next = number(alloc, &mut yes, first + 1);
-            let (no, after) = number_else(alloc, no, next);
-            (
-                Stmt::If {
-                    slot: first,
-                    line,
-                    gens,
-                    test,
-                    yes,
-                    no,
-                },
-                after,
-            )
-        }
+        } => number_if(alloc, first, line, gens, test, yes, no),
     }
+}
+
+/// An `if` with this slot, those inside it with the next ones, and the slot behind them.
+#[cycle(numbering)]
+fn number_if(
+    alloc: Global,
+    slot: u32,
+    line: u32,
+    gens: Scope,
+    test: Expr,
+    mut yes: Vec<Stmt>,
+    no: Option<Vec<Stmt>>,
+) -> (Stmt, u32)
+    requires { slot + (1 + size (body_of yes.items) + else_size (else_of no)) < 2 ^ 32 }
+    ensures slots { stmt_of result.0 ≡ design.If slot line gens (expr_of test) (numbered (slot + 1) (body_of yes.items)) (numbered_else (slot + 1 + size (body_of yes.items)) (else_of no)) }
+    ensures next { result.1 ≡ slot + (1 + size (body_of yes.items) + else_size (else_of no)) }
+{
+    let next = number(alloc, &mut yes, slot + 1);
+    let (no, after) = number_else(alloc, no, next);
+    (choice(slot, line, gens, test, yes, no), after)
 }
 
 /// The same for what an `else` holds, if one stands there.

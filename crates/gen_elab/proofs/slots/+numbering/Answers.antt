@@ -1,8 +1,7 @@
-use Rattle.std.proofs.Common.{ap, sym, ◌+◌, ◌<◌, ◌∙◌, arith, List, length, drop}
-use Rattle.std.specs.Vec.{with_items}
+use Rattle.std.proofs.Common.{ap, ◌+◌, ◌<◌, ◌∙◌, arith, List, length, drop}
 use Rattle.design_core.specs.declared.Stmt as code_stmt
-use Rattle.design_core.specs.View.{body_of, stmt_of}
-use Rattle.elab_core.specs.Design.{size, numbered, numbered_stmt}
+use Rattle.design_core.specs.View.{body_of, else_of, expr_of}
+use Rattle.elab_core.specs.Design.{size, numbered}
 use Rattle.gen_elab.proofs.Numbering.{if_numbered, at_step, next_step, at_end, cut}
 use Rattle.gen_elab.proofs.slots.+numbering.Goals as goal
 
@@ -20,11 +19,11 @@ pub number-returns-clause-slots : goal.number-returns-clause-slots
 number-returns-clause-slots t c =
     at_end c.loop-index.body c.args.body.now c.loop-index.index c.args.first c.loop-index.next (omega (arith, c.loop-index-test.false, c.loop-index.auto.body)) c.loop-index.invariant.slots
 
-pub number_stmt-returns-in-If-clause-slots : goal.number_stmt-returns-in-If-clause-slots
-number_stmt-returns-in-If-clause-slots t c =
+pub number_if-returns-clause-slots : goal.number_if-returns-clause-slots
+number_if-returns-clause-slots t c =
     let items = c.deref_mut.ensures.value in
-    if_numbered c.args.first c.in-If.slot c.in-If.line c.in-If.gens c.in-If.test c.in-If.yes (with_items c.in-If.yes c.number-next.new.body) c.in-If.no c.number_else-no.result.0 c.number-next.result
-    (ap body_of (cut c.in-If.yes.len c.number-next.new.body (drop (length c.number-next.new.body) c.in-If.yes.items) (c.number-next.auto.body ∙ c.deref_mut.ensures.len)) ∙ c.number-next.ensures.slots ∙ ap (λ (l : List code_stmt.Stmt). numbered (c.args.first + 1) (body_of l)) items)
-    (c.number-next.ensures.next ∙ ap (λ (l : List code_stmt.Stmt). c.args.first + 1 + size (body_of l)) items)
+    c.choice.ensures
+    ∙ if_numbered c.args.slot c.args.line c.args.gens (expr_of c.args.test) (body_of c.args.yes.items) _ (else_of c.args.no) _ c.number-next.result
+    (ap body_of (cut c.args.yes.len c.number-next.new.body (drop (length c.number-next.new.body) c.args.yes.items) (c.number-next.auto.body ∙ c.deref_mut.ensures.len)) ∙ c.number-next.ensures.slots ∙ ap (λ (l : List code_stmt.Stmt). numbered (c.args.slot + 1) (body_of l)) items)
+    (c.number-next.ensures.next ∙ ap (λ (l : List code_stmt.Stmt). c.args.slot + 1 + size (body_of l)) items)
     c.number_else-no.ensures.slots
-    ∙ ap (λ (s : code_stmt.Stmt). numbered_stmt c.args.first (stmt_of s)) (sym c.in-If.is)

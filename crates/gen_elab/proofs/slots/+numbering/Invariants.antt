@@ -13,10 +13,13 @@ invariant-number-loop-index l = record {
 }
 
 abbrev pub decreases-number : goal.decreases-number
-decreases-number l = 3 * size (body_of l.body.now) + 1
+decreases-number l = 4 * size (body_of l.body.now) + 1
 
 abbrev pub decreases-number_stmt : goal.decreases-number_stmt
-decreases-number_stmt l = 3 * stmt_size (stmt_of l.stmt)
+decreases-number_stmt l = 4 * stmt_size (stmt_of l.stmt)
+
+abbrev pub decreases-number_if : goal.decreases-number_if
+decreases-number_if l = 4 * (size (body_of l.yes.items) + else_size (else_of l.no)) + 3
 
 abbrev pub decreases-number_else : goal.decreases-number_else
-decreases-number_else l = 3 * else_size (else_of l.no) + 2
+decreases-number_else l = 4 * else_size (else_of l.no) + 2
