@@ -108,12 +108,8 @@ pub(crate) fn width_in(
         }
         Expr::Slice(inner, high, low) => {
             let width = width_in(alloc, lets, signals, line, name, inner)?;
-            let width = told(
-                alloc,
-                line,
-                name,
-                slice_width(width, bits(*high), bits(*low)),
-            )?;
+            let found = slice_width(width, bits(*high), bits(*low));
+            let width = told(alloc, line, name, found)?;
             Ok(width)
         }
     }
