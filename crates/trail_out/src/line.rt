@@ -131,25 +131,31 @@ fn push_head(alloc: Global, text: &mut Vec<u8>, cycle: u64, line: u32) -> Result
     Ok(())
 }
 
-/// Adds the line of a statement, in the cycle at which the trace stands.
+/// A line of a trail: the cycle, the statement, and the path of the instance that executes it.
+#[derive(Clone, Copy)]
+pub(crate) struct Line<'l> {
+    pub cycle: u64,
+    pub slot: &'l Slot,
+    pub path: &'l Text,
+}
+
+/// Adds a line with these cells, in the cycle at which the trace stands.
 pub(crate) fn push_line<T: Trace>(
     alloc: Global,
     text: &mut Vec<u8>,
     trace: &T,
-    cycle: u64,
-    slot: &Slot,
-    path: &Text,
+    line: &Line,
     cells: &Cells,
 ) -> Result<(), NoMemory>
     requires placed { IsSome (T.cursor trace.now) }
-    requires long { length slot.now.names ≡ length cells.now }
+    requires long { length line.now.slot.now.names ≡ length cells.now }
     requires stand { All (CellStands (T.samples trace.now).nodes) cells.now }
-    ensures { OnOk result (text.new.items ≡ text.old.items ++ line_text cycle slot.now path.now (samples_at (T.samples trace.now) (T.cursor trace.now)) cells.now) }
+    ensures { OnOk result (text.new.items ≡ text.old.items ++ line_text line.now.cycle line.now.slot.now line.now.path.now (samples_at (T.samples trace.now) (T.cursor trace.now)) cells.now) }
 {
-    push_head(alloc, text, cycle, slot.line)?;
-    text.extend_from_slice(path.bytes())?;
-    push_variables(alloc, text, slot.gens.items())?;
-    push_cells(alloc, text, trace, slot.names.items(), cells)?;
+    push_head(alloc, text, line.cycle, line.slot.line)?;
+    text.extend_from_slice(line.path.bytes())?;
+    push_variables(alloc, text, line.slot.gens.items())?;
+    push_cells(alloc, text, trace, line.slot.names.items(), cells)?;
     text.push(b'\n')?;
     Ok(())
 }

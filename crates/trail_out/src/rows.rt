@@ -1,6 +1,6 @@
 //! The lines of a table's rows, cycle after cycle, through a text that waits until it is long.
 
-ghost use Rattle.std.specs.Prelude.{◌≡◌, ◌<◌, ◌≤◌, ◌++◌, ℕ, [], All, IsSome, IsErrOf, OnErr, OnOk, length};
+ghost use Rattle.std.specs.Prelude.{◌≡◌, ◌<◌, ◌≤◌, ◌++◌, ℕ, [], All, IsSome, IsErrOf, OnErr, OnOk, Some, if◌then◌else◌, length};
 ghost use Rattle.std.specs.List.{flat_map};
 ghost use Rattle.list_core.specs.Lists.{from};
 ghost use Rattle.io_edge.specs.Faults.{Rose};
@@ -8,18 +8,25 @@ ghost use Rattle.io_edge.specs.Taken.{Appends, AppendsFront};
 ghost use Rattle.symtab.specs.Shape.{IsTable};
 ghost use Rattle.world_core.specs.World.{trail_text};
 ghost use Rattle.trace_core.specs.Known.{known, is_one};
-ghost use Rattle.trace_world.specs.TraceWorld.{trace_world};
-ghost use Rattle.trail_out.specs.Texts.{row_text, rows_text, slot_text, table_text};
+ghost use Rattle.trace_world.specs.TraceWorld.{is_on, trace_world};
+ghost use Rattle.trail_out.specs.Texts.{line_text, path_at, rows_text, slot_text, table_text};
 ghost use Rattle.io_edge.specs.Waiting.{Passes};
 ghost use Rattle.trail_out.specs.Written.{samples_at, RowStands, SlotStands};
 
-use crate::line::{push_line, sample_of};
+use crate::line::{Line, push_line, sample_of};
 use bv_core::Sample;
 use io_edge::{Sink, SinkEnd, put_long};
 use std::alloc::Global;
 use symtab::{Row, Slot, Table, TableParts};
-use text_core::NoMemory;
+use text_core::{NoMemory, Text};
 use trace_core::Trace;
+
+/// The rows that are written: a table, and the parts that it was made of.
+#[derive(Clone, Copy)]
+struct Rows<'t> {
+    table: &'t Table,
+    parts: &'t TableParts,
+}
 
 /// Whether a sample is known and is 1.
 fn is_one(sample: Sample) -> bool
@@ -36,23 +43,26 @@ fn push_row<T: Trace>(
     alloc: Global,
     text: &mut Vec<u8>,
     trace: &T,
-    cycle: u64,
-    parts: &TableParts,
-    slot: &Slot,
-    instance: u32,
+    line: &Line,
     row: &Row,
 ) -> Result<(), NoMemory>
     requires placed { IsSome (T.cursor trace.now) }
-    requires instance { instance < length parts.now.instances }
-    requires stands { RowStands (T.samples trace.now).nodes slot.now.names row.now }
-    ensures { OnOk result (text.new.items ≡ text.old.items ++ row_text cycle (samples_at (T.samples trace.now) (T.cursor trace.now)) parts.now slot.now instance row.now) }
+    requires stands { RowStands (T.samples trace.now).nodes line.now.slot.now.names row.now }
+    ensures { OnOk result (text.new.items ≡ text.old.items ++ (if is_on (samples_at (T.samples trace.now) (T.cursor trace.now)) (Some row.now.on) then line_text line.now.cycle line.now.slot.now line.now.path.now (samples_at (T.samples trace.now) (T.cursor trace.now)) row.now.cells else [])) }
 {
     if !is_one(sample_of(trace, row.on)) {
         return Ok(());
     }
-    let path = &parts.instances.items()[instance as usize].path;
-    push_line(alloc, text, trace, cycle, slot, path, &row.cells)?;
+    push_line(alloc, text, trace, line, &row.cells)?;
     Ok(())
+}
+
+/// The path of an instance.
+fn path_of(parts: &TableParts, instance: u32) -> &Text
+    requires { instance < length parts.now.instances }
+    ensures { result.now ≡ path_at parts.now instance }
+{
+    &parts.instances.items()[instance as usize].path
 }
 
 /// Adds the lines of a slot's rows, which stand for these instances.
@@ -71,16 +81,8 @@ fn push_rows<T: Trace>(
     ensures { OnOk result (text.new.items ≡ text.old.items ++ rows_text cycle (samples_at (T.samples trace.now) (T.cursor trace.now)) parts.now slot.now instances.now slot.now.rows) }
 {
     for (place, row) in slot.rows.items().iter().enumerate() {
-        push_row(
-            alloc,
-            text,
-            trace,
-            cycle,
-            parts,
-            slot,
-            instances[place],
-            row,
-        )?;
+        let path = path_of(parts, instances[place]);
+        push_row(alloc, text, trace, &Line { cycle, slot, path }, row)?;
     }
     Ok(())
 }
@@ -91,24 +93,23 @@ fn write_slot<T: Trace, S: Sink>(
     text: &mut Vec<u8>,
     trace: &T,
     cycle: u64,
-    table: &Table,
-    parts: &TableParts,
+    rows: &Rows,
     k: u32,
     out: &mut S,
 ) -> Result<(), SinkEnd>
     requires placed { IsSome (T.cursor trace.now) }
-    requires parts { parts.now ≡ table.now }
-    requires table { IsTable table.now }
-    requires slot { k < length table.now.slots }
-    requires nodes { length table.now.nodes ≤ (T.samples trace.now).nodes }
-    ensures ok { OnOk result (Passes (S.taken out.old) (S.taken out.new) text.old.items text.new.items (slot_text cycle (samples_at (T.samples trace.now) (T.cursor trace.now)) table.now k)) }
-    ensures front { OnErr result (AppendsFront (S.taken out.old) (S.taken out.new) (text.old.items ++ slot_text cycle (samples_at (T.samples trace.now) (T.cursor trace.now)) table.now k)) }
+    requires parts { rows.now.parts.now ≡ rows.now.table.now }
+    requires table { IsTable rows.now.table.now }
+    requires slot { k < length rows.now.table.now.slots }
+    requires nodes { length rows.now.table.now.nodes ≤ (T.samples trace.now).nodes }
+    ensures ok { OnOk result (Passes (S.taken out.old) (S.taken out.new) text.old.items text.new.items (slot_text cycle (samples_at (T.samples trace.now) (T.cursor trace.now)) rows.now.table.now k)) }
+    ensures front { OnErr result (AppendsFront (S.taken out.old) (S.taken out.new) (text.old.items ++ slot_text cycle (samples_at (T.samples trace.now) (T.cursor trace.now)) rows.now.table.now k)) }
     ensures failed { IsErrOf result SinkEnd.Failed → Rose (S.fault_count out.old) (S.fault_count out.new) }
     ensures later { S.fault_count out.old ≤ S.fault_count out.new }
 {
-    let slot = table.slot(k);
-    let instances = table.instances_of(k);
-    push_rows(alloc, text, trace, cycle, parts, slot, instances)?;
+    let slot = rows.table.slot(k);
+    let instances = rows.table.instances_of(k);
+    push_rows(alloc, text, trace, cycle, rows.parts, slot, instances)?;
     put_long(text, out)?;
     Ok(())
 }
@@ -119,21 +120,20 @@ fn write_cycle<T: Trace, S: Sink>(
     text: &mut Vec<u8>,
     trace: &T,
     cycle: u64,
-    table: &Table,
-    parts: &TableParts,
+    rows: &Rows,
     out: &mut S,
 ) -> Result<(), SinkEnd>
     requires placed { IsSome (T.cursor trace.now) }
-    requires parts { parts.now ≡ table.now }
-    requires table { IsTable table.now }
-    requires nodes { length table.now.nodes ≤ (T.samples trace.now).nodes }
-    ensures ok { OnOk result (Passes (S.taken out.old) (S.taken out.new) text.old.items text.new.items (flat_map (slot_text cycle (samples_at (T.samples trace.now) (T.cursor trace.now)) table.now) (from 0 (length table.now.slots)))) }
-    ensures front { OnErr result (AppendsFront (S.taken out.old) (S.taken out.new) (text.old.items ++ flat_map (slot_text cycle (samples_at (T.samples trace.now) (T.cursor trace.now)) table.now) (from 0 (length table.now.slots)))) }
+    requires parts { rows.now.parts.now ≡ rows.now.table.now }
+    requires table { IsTable rows.now.table.now }
+    requires nodes { length rows.now.table.now.nodes ≤ (T.samples trace.now).nodes }
+    ensures ok { OnOk result (Passes (S.taken out.old) (S.taken out.new) text.old.items text.new.items (flat_map (slot_text cycle (samples_at (T.samples trace.now) (T.cursor trace.now)) rows.now.table.now) (from 0 (length rows.now.table.now.slots)))) }
+    ensures front { OnErr result (AppendsFront (S.taken out.old) (S.taken out.new) (text.old.items ++ flat_map (slot_text cycle (samples_at (T.samples trace.now) (T.cursor trace.now)) rows.now.table.now) (from 0 (length rows.now.table.now.slots)))) }
     ensures failed { IsErrOf result SinkEnd.Failed → Rose (S.fault_count out.old) (S.fault_count out.new) }
     ensures later { S.fault_count out.old ≤ S.fault_count out.new }
 {
-    for k in 0..table.slots() {
-        write_slot(alloc, text, trace, cycle, table, parts, k, out)?;
+    for k in 0..rows.table.slots() {
+        write_slot(alloc, text, trace, cycle, rows, k, out)?;
     }
     Ok(())
 }
@@ -143,21 +143,20 @@ fn write_cycles<T: Trace, S: Sink>(
     alloc: Global,
     text: &mut Vec<u8>,
     trace: &mut T,
-    table: &Table,
-    parts: &TableParts,
+    rows: &Rows,
     out: &mut S,
 ) -> Result<(), SinkEnd>
-    requires parts { parts.now ≡ table.now }
-    requires table { IsTable table.now }
-    requires nodes { length table.now.nodes ≤ (T.samples trace.old).nodes }
-    ensures ok { OnOk result (Passes (S.taken out.old) (S.taken out.new) text.old.items text.new.items (table_text (T.samples trace.old) table.now)) }
-    ensures front { OnErr result (AppendsFront (S.taken out.old) (S.taken out.new) (text.old.items ++ table_text (T.samples trace.old) table.now)) }
+    requires parts { rows.now.parts.now ≡ rows.now.table.now }
+    requires table { IsTable rows.now.table.now }
+    requires nodes { length rows.now.table.now.nodes ≤ (T.samples trace.old).nodes }
+    ensures ok { OnOk result (Passes (S.taken out.old) (S.taken out.new) text.old.items text.new.items (table_text (T.samples trace.old) rows.now.table.now)) }
+    ensures front { OnErr result (AppendsFront (S.taken out.old) (S.taken out.new) (text.old.items ++ table_text (T.samples trace.old) rows.now.table.now)) }
     ensures failed { IsErrOf result SinkEnd.Failed → Rose (S.fault_count out.old) (S.fault_count out.new) }
     ensures later { S.fault_count out.old ≤ S.fault_count out.new }
 {
     for cycle in 0..trace.cycles() {
         trace.seek(cycle);
-        write_cycle(alloc, text, trace, cycle, table, parts, out)?;
+        write_cycle(alloc, text, trace, cycle, rows, out)?;
     }
     Ok(())
 }
@@ -177,7 +176,11 @@ pub fn write_trail<T: Trace, S: Sink>(
     ensures later { S.fault_count out.old ≤ S.fault_count out.new }
 {
     let mut text = Vec::new(alloc);
-    write_cycles(alloc, &mut text, trace, table, table.parts(), out)?;
+    let rows = Rows {
+        table,
+        parts: table.parts(),
+    };
+    write_cycles(alloc, &mut text, trace, &rows, out)?;
     out.put(&text)?;
     Ok(())
 }

@@ -9,6 +9,6 @@ use Rattle.trail_out.proofs.rows.write_cycle.Given as goal
 -- the lines of the slots so far
 abbrev pub invariant-loop-k : goal.invariant-loop-k
 invariant-loop-k g l = record {
-  passes : Passes (g.S.Sink.taken l.initial.out) (g.S.Sink.taken l.out) l.initial.text.items l.text.items (flat_map (slot_text l.cycle (samples_at (g.T.Trace.samples l.trace) (g.T.Trace.cursor l.trace)) l.table) (from 0 l.k));
+  passes : Passes (g.S.Sink.taken l.initial.out) (g.S.Sink.taken l.out) l.initial.text.items l.text.items (flat_map (slot_text l.cycle (samples_at (g.T.Trace.samples l.trace) (g.T.Trace.cursor l.trace)) l.rows.table.now) (from 0 l.k));
   later : g.S.Sink.fault_count l.initial.out ≤ g.S.Sink.fault_count l.out;
 }

@@ -8,7 +8,7 @@ use Rattle.trail_out.proofs.rows.write_cycles.Given as goal
 -- the lines of the cycles so far; the samples are those of the beginning
 abbrev pub invariant-loop-cycle : goal.invariant-loop-cycle
 invariant-loop-cycle g l = record {
-  passes : Passes (g.S.Sink.taken l.initial.out) (g.S.Sink.taken l.out) l.initial.text.items l.text.items (flat_map (cycle_text (g.T.Trace.samples l.initial.trace) l.table) (from 0 l.cycle));
+  passes : Passes (g.S.Sink.taken l.initial.out) (g.S.Sink.taken l.out) l.initial.text.items l.text.items (flat_map (cycle_text (g.T.Trace.samples l.initial.trace) l.rows.table.now) (from 0 l.cycle));
   samples : g.T.Trace.samples l.trace ≡ g.T.Trace.samples l.initial.trace;
   later : g.S.Sink.fault_count l.initial.out ≤ g.S.Sink.fault_count l.out;
 }
