@@ -1,14 +1,10 @@
 -- Slots in preorder.
-use Rattle.std.proofs.Common.{◌≡◌, ℕ, ◌+◌, ◌<◌, ◌≤◌, List, [], ◌∷◌, ◌++◌, length, take, drop, get_or, set, Vec, Global, Option, refl, sym, ap, ap₂, ◌∙◌, arith}
+use Rattle.std.proofs.Common.{◌≡◌, ℕ, ◌+◌, ◌<◌, ◌≤◌, List, [], ◌∷◌, ◌++◌, length, take, drop, get_or, set, refl, sym, ap, ap₂, ◌∙◌, arith}
 use Rattle.std.proofs.lemmas.List.{take_more_set, take-append-le, take-set, take_all, drop-set-lt, drop_more, length-set}
 use Rattle.std.proofs.Math.ListN.{drop_of_length-le}
 use Rattle.design_core.specs.declared.Stmt as code_stmt
-use Rattle.design_core.specs.declared.Stmt.TheVariants as variants
-use Rattle.design_core.specs.declared.Expr as code_expr
-use Rattle.exec_core.specs.Block.{Name}
 use Rattle.design_core.specs.Design.{Gens, Expr, Body, Then, Else, If}
-use Rattle.design_core.specs.View.{expr_of, stmt_of, body_of, else_of}
-use Rattle.design_core.proofs.Views.{stmt_assign, stmt_let, stmt_if}
+use Rattle.design_core.specs.View.{stmt_of, body_of}
 use Rattle.elab_core.specs.Design.{size, stmt_size, numbered, numbered_stmt, numbered_else}
 
 -- statements that have their slots, and behind them others with slots from a number on
