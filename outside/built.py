@@ -3,9 +3,11 @@
 A judge is called with the path of the built hgdb, by default crates/hgdb/out/hgdb. Without that program nothing is judged, which
 is no fault; a path that is given and has no program is one.
 """
-import importlib.machinery, importlib.util, os, subprocess, sys, tempfile
+import importlib.machinery, importlib.util, os, shutil, subprocess, sys, tempfile
 
 HERE = os.path.dirname(os.path.abspath(__file__))
+# A run has so long, in seconds, where nothing else is said. An unproved build is slow: OUTSIDE_TIMES=30 gives it 30 times as long.
+SECONDS = 60 * int(os.environ.get("OUTSIDE_TIMES", "1"))
 
 
 def program(judge):
@@ -17,7 +19,7 @@ def program(judge):
     return path
 
 
-def run(path, words, files, seconds=60, full=False):
+def run(path, words, files, seconds=SECONDS, full=False):
     """Runs the program where these files are, and returns its status and what it wrote. Where it takes longer the status is None."""
     with tempfile.TemporaryDirectory() as folder:
         for name, content in files.items():
@@ -36,6 +38,16 @@ def run(path, words, files, seconds=60, full=False):
     return ran.returncode, ran.stdout or b""
 
 
+def there(judge, tool, what):
+    """Whether a tool is there, or `outside/tools` installs it. Where it is not, that is told, with what is left out: `outside/all` collects these
+    lines."""
+    if not shutil.which(tool):
+        subprocess.run([f"{HERE}/tools", tool], stdin=subprocess.DEVNULL, stdout=subprocess.DEVNULL, stderr=subprocess.DEVNULL)
+    if not shutil.which(tool):
+        print(f"{judge}: there is no {tool}, so {what}", flush=True)
+    return bool(shutil.which(tool))
+
+
 def difference(got, want):
     """Tells the first place at which a text differs from what is wanted."""
     at = next((i for i, (a, b) in enumerate(zip(got, want)) if a != b), min(len(got), len(want)))
@@ -46,7 +58,7 @@ def difference(got, want):
 def fault(answer, status, want):
     """Tells what is wrong with an answer of `run`, or nothing."""
     if answer[0] is None:
-        return "it had not ended in time"
+        return "it had not ended in the time that it is given here"
     if answer[0] != status:
         return f"status {answer[0]}, and {status} is wanted; it wrote {answer[1][:200]!r}"
     return None if answer[1] == want else difference(answer[1], want)
