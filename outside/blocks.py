@@ -2,7 +2,7 @@
 
 A page is Markdown. Behind the three backquotes that open a block stand its kind and, for a file, its name:
 
-  console              lines `$ COMMAND`, each with the lines that it prints below it, up to the next one
+  console [TOOL]..     lines `$ COMMAND`, each with the lines that it prints below it, up to the next one; not run where a tool is not there
   ANY KIND then NAME   a file of this name, which is written where the commands run
   sh                   commands for the reader, which are not run: each is `rt`, or a file that is there
   grammar, json        not run
@@ -17,7 +17,7 @@ import built
 
 ROOT = os.path.dirname(built.HERE)
 MARK = "-- outside, end of a command --"
-SECONDS = 300
+SECONDS = 5 * built.SECONDS
 
 
 def blocks(path):
@@ -48,10 +48,21 @@ def commands(lines):
     return [(command, "".join(f"{it}\n" for it in printed)) for command, printed in found]
 
 
+def lacking(found):
+    """The blocks that are not run for want of a tool: the tool and the line."""
+    for kind, name, _, number in found:
+        for tool in (name or "").split() if kind == "console" else ():
+            if not shutil.which(tool):
+                yield tool, number
+
+
 def script(found):
     """The shell script of a page's blocks, and for each of its commands the line of its block, the command and what it prints."""
     text, wanted = "", []
+    without = {number for _, number in lacking(found)}
     for kind, name, lines, number in found:
+        if kind == "console" and number in without:
+            continue
         if kind == "console":
             for command, printed in commands(lines):
                 text += f"{command}\nlast=$?; echo '{MARK}'; (exit $last)\n"
@@ -72,8 +83,9 @@ def left(found):
             yield f"line {number}: nothing runs this block"
 
 
-def faults(program, page, other=None):
-    """Runs a page; returns how many commands it has, and what is wrong. For the words of `other` other ones are put."""
+def faults(program, page, other=None, errors=True):
+    """Runs a page; returns how many commands it has, and what is wrong. For the words of `other` other ones are put. What a command prints is
+    standard output, and standard error with it, unless that is left out."""
     text, wanted = script(blocks(page))
     for word, put in (other or {}).items():
         text = text.replace(word, put)
@@ -84,7 +96,7 @@ def faults(program, page, other=None):
         os.symlink(built.HERE, f"{folder}/there/outside")
         path = {**os.environ, "PATH": f"{folder}/bin:{os.environ['PATH']}", "LC_ALL": "C", "PYTHONDONTWRITEBYTECODE": "1"}
         ran = subprocess.run(["sh"], input=text.encode(), cwd=f"{folder}/there", env=path, stdout=subprocess.PIPE,
-                             stderr=subprocess.STDOUT, timeout=SECONDS)
+                             stderr=subprocess.STDOUT if errors else subprocess.DEVNULL, timeout=SECONDS)
     told = re.split(f"^{re.escape(MARK)}\n", ran.stdout.decode(errors="replace"), flags=re.M)
     found = []
     for (number, command, printed), got in zip(wanted, told):
