@@ -2,9 +2,16 @@
 //!
 //! It makes the words of the command line, the adapters of the system and the listeners of the sessions, calls `dbg_app::serve` where
 //! the words are a service and `dbg_app::run` otherwise, and ends with the status.
-//! Standard output has what these write; a hint after a usage fault goes to standard error.
+//! Standard output has what these write. Once that is over, `reasons` says on standard error why the run ended as it did.
 #![tactic(auto)]
 
+mod kept;
+mod noted;
+mod reasons;
+
+use crate::kept::KeptSink;
+use crate::noted::NotedFiles;
+use crate::reasons::{explain, explain_address, explain_status};
 use dbg_app::{address_of, run, serve};
 use io_edge::{Sink, StdFiles, StdSink, Words};
 use listen::{CycleHits, LineHits, Listener};
@@ -107,19 +114,24 @@ fn print_text(rt: &impl Print, text: &str) -> u8 {
 
 /// Does what the words say over the system's files and its output, and gives the status. A session has two listeners of its stops: the
 /// first counts them by line, the second by cycle. Fails only where there is no memory for these.
-fn run_over<R: Files + Print + AllocGlobal>(rt: &R, words: &Words) -> Result<u8, NoMemory> {
+fn run_over<R: Files + Print + Eprint + AllocGlobal>(
+    rt: &R,
+    words: &Words,
+) -> Result<u8, NoMemory> {
     let alloc = rt.alloc();
     let mut listeners: Vec<Box<dyn Listener>> = Vec::new(alloc);
     listeners.push(Box::new(alloc, LineHits::new(alloc)?)?)?;
     listeners.push(Box::new(alloc, CycleHits::new(alloc)?)?)?;
-    let mut files = StdFiles::new(rt);
-    let mut out = StdSink::new(rt);
-    Ok(run(alloc, words, &mut files, &mut out, listeners).status)
+    let mut files = NotedFiles::new(StdFiles::new(rt));
+    let mut out = KeptSink::new(StdSink::new(rt));
+    let status = run(alloc, words, &mut files, &mut out, listeners).status;
+    explain(rt, words, status, files.missed(), out.front());
+    Ok(status)
 }
 
 /// Serves what the words say over the system's files, its output and its network, and gives the status. There are as many sets of the two
 /// listeners as a service has clients at most. Fails only where there is no memory for the address and the listeners.
-fn serve_over<R: Files + Print + AllocGlobal + Net + Threads + Wait + Sync>(
+fn serve_over<R: Files + Print + Eprint + AllocGlobal + Net + Threads + Wait + Sync>(
     rt: &R,
     words: &Words,
     address: &str,
@@ -136,28 +148,33 @@ where
         sets.push(set)?;
     }
     let mut door = TcpDoor::new(rt, alloc, address)?;
-    let mut files = StdFiles::new(rt);
-    let mut out = StdSink::new(rt);
-    Ok(serve(rt, alloc, words, &mut files, &mut out, &mut door, sets).status)
+    let mut files = NotedFiles::new(StdFiles::new(rt));
+    let mut out = KeptSink::new(StdSink::new(rt));
+    let status = serve(rt, alloc, words, &mut files, &mut out, &mut door, sets).status;
+    explain(rt, words, status, files.missed(), out.front());
+    explain_address(rt, address, out.front(), door.listens());
+    Ok(status)
+}
+
+/// The end of a run that came to no file, with what is said of its status.
+fn ended(rt: &impl Eprint, status: u8) -> ExitCode {
+    explain_status(rt, status);
+    ExitCode::from(status)
 }
 
 fn main(rt: HostRuntime) -> io::Result<ExitCode> {
     let Ok(words) = words(&rt) else {
-        return Ok(ExitCode::from(9));
+        return Ok(ended(&rt, 9));
     };
     if let Some(text) = text_asked_for(&words) {
-        return Ok(ExitCode::from(print_text(&rt, text)));
+        return Ok(ended(&rt, print_text(&rt, text)));
     }
-    let ended = match address_of(&words) {
+    let status = match address_of(&words) {
         Some(address) => serve_over(&rt, &words, address),
         None => run_over(&rt, &words),
     };
-    let Ok(status) = ended else {
-        return Ok(ExitCode::from(9));
-    };
-    if status == 2 {
-        // A standard error that fails changes nothing.
-        let _ = eprintln!(rt; "hgdb: `hgdb --help` tells the commands");
+    match status {
+        Ok(status) => Ok(ExitCode::from(status)),
+        Err(_) => Ok(ended(&rt, 9)),
     }
-    Ok(ExitCode::from(status))
 }

@@ -38,6 +38,11 @@ impl<R: Net + Drop> TcpDoor<R> {
         })
     }
 
+    /// Whether the address is bound.
+    pub fn listens(&self) -> bool {
+        self.listener.is_some()
+    }
+
     /// Binds the address, if that is not done.
     fn bind(&mut self) -> Result<(), DoorEnd>
         ensures { self.new.faults ≡ self.old.faults }
