@@ -34,8 +34,8 @@ pub const DESIGN: [Advice; 20] = [
     Advice {
         name: "Syntax",
         means: "no source goes on with a token of this line, or it is the 65th open bracket, or the text ends too early",
-        todo: "look at this line and the end of the one before it: commonly a ';' is missing there, or an operator has no brackets round its \
-               application, or '&&', 'else if', a bare 1 as a value, '=' in an ff, [0] for [0:0], or a keyword as a name stands here",
+        todo: "look here and at the end of the line before: commonly a ';' is missing, an operator has no brackets round its application, or there \
+               is '&&', 'else if', a bare 1 as a value, '=' in an ff, [0] for [0:0], or a keyword as a name",
     },
     Advice {
         name: "UnknownModule",

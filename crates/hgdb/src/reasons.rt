@@ -142,6 +142,17 @@ fn say_assigned<R: Eprint + AllocGlobal>(rt: &R, text: &[u8], line: u64, name: &
     };
 }
 
+/// Says the fields of a refusal but for the line, which is shown.
+fn say_fields(rt: &impl Eprint, fields: &str) {
+    let rest = match fields.strip_prefix("line ") {
+        Some(rest) => rest.split_once(' ').map_or("", |(_, rest)| rest),
+        None => fields,
+    };
+    if !rest.is_empty() {
+        let _ = eprintln!(rt; "  = {rest}");
+    }
+}
+
 /// Shows where a source is refused.
 fn show_design<R: Files + Eprint + AllocGlobal>(rt: &R, name: &str, fault: &Fault<'_>) {
     let text = read_again(rt, name, SOURCE).unwrap_or(Vec::new(rt.alloc()));
@@ -165,9 +176,7 @@ fn show_design<R: Files + Eprint + AllocGlobal>(rt: &R, name: &str, fault: &Faul
     if let Some(first) = fault.number_in("first") {
         show(rt, name, &text, first, Some("the first one"));
     }
-    if !fault.fields.is_empty() {
-        let _ = eprintln!(rt; "  = {}", fault.fields);
-    }
+    say_fields(rt, fault.fields);
     say_more(rt, &text, fault);
 }
 
@@ -200,9 +209,7 @@ fn show_stimulus<R: Files + Eprint + AllocGlobal>(rt: &R, name: &str, fault: &Fa
     }
     let text = read_again(rt, name, STIMULUS).unwrap_or(Vec::new(rt.alloc()));
     show(rt, name, &text, line, None);
-    if !fault.fields.is_empty() {
-        let _ = eprintln!(rt; "  = {}", fault.fields);
-    }
+    say_fields(rt, fault.fields);
 }
 
 /// Explains the refusal of a source or a stimulus, whose line is the first of what was printed.
