@@ -39,10 +39,8 @@ def run(path, words, files, seconds=SECONDS, full=False):
 
 
 def there(judge, tool, what):
-    """Whether a tool is there, or `outside/tools` installs it. Where it is not, that is told, with what is left out: `outside/all` collects these
-    lines."""
-    if not shutil.which(tool):
-        subprocess.run([f"{HERE}/tools", tool], stdin=subprocess.DEVNULL, stdout=subprocess.DEVNULL, stderr=subprocess.DEVNULL)
+    """Whether a tool is there. Where it is not, that is told, with what is left out: `outside/all` collects these lines. `outside/tools` installs
+    tools."""
     if not shutil.which(tool):
         print(f"{judge}: there is no {tool}, so {what}", flush=True)
     return bool(shutil.which(tool))
