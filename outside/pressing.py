@@ -3,10 +3,11 @@
 - For each command the server is killed once a stop was shown, and then the command is given: the client ends and says so, at once or,
   behind a command that asks nothing, at the next one.
 - For each command the server is halted, so that no reply comes, the command is given and Ctrl-C pressed; then the server goes on. The
-  session is still there. Ctrl-C twice gives it up, and a command that took more than a second tells it.
+  session is still there. Ctrl-C twice gives it up.
 - A server that is a script tells a stop between a request and its reply, and leaves a run to a pause, at a place where nothing executes.
 - Over a dump file Ctrl-C ends the run of the program, and the session stands where it stood.
-- At a terminal a stop is shown while nothing is typed, lines are kept for the next time, and there are colours, but for NO_COLOR.
+- At a terminal a stop is shown while nothing is typed, a command that took more than a second tells it, lines are kept for the next time,
+  and there are colours, but for NO_COLOR.
 """
 import concurrent.futures, json, os, re, select, signal, stat, subprocess, sys, tempfile, threading, time
 
@@ -155,7 +156,7 @@ def presses(program):
 
 
 def given_up(program):
-    """Ctrl-C twice gives the connection up; before, a command that took more than a second is told."""
+    """Ctrl-C twice gives the connection up."""
     server, words = arbiter(program)
     with server, Pipe(*words) as client:
         client.give("step\nhelp drop\n")
@@ -163,18 +164,11 @@ def given_up(program):
         server.child.send_signal(signal.SIGSTOP)
         client.give("where\n")
         client.upto("(hgdb) where\n")
-        time.sleep(1.1)
-        server.child.send_signal(signal.SIGCONT)
-        client.upto("Cycle 0, line 9")
-        server.child.send_signal(signal.SIGSTOP)
-        client.give("where\n")
-        client.upto("(hgdb) where\n")
         client.press()
         client.upto(ASKS)
         client.press()
         status, _, error = client.rest()
-    fits = status == 1 and re.fullmatch(r"\(it took [1-9][0-9.]* s\)\nhgdb-client: the connection is over: it was given up\n", error)
-    serve.want(bool(fits), True, f"the end, {status}, {error!r}")
+    serve.want((status, error), (1, "hgdb-client: the connection is over: it was given up\n"), "the end")
 
 
 # A server that is a script
@@ -377,12 +371,17 @@ def terminals(program):
             typist.upto("(hgdb) ")
             typist.types("print turn\n")
             typist.upto("turn = 4'h1")
+            server.child.send_signal(signal.SIGSTOP)
+            typist.types("where\n")
+            time.sleep(1.1)
+            server.child.send_signal(signal.SIGCONT)
+            typist.upto("(it took ")
             typist.types("jump\n")
             typist.upto("\x1b[31mNo command 'jump'")
             typist.types("quit\n")
             serve.want(typist.ends(), 0, "the status")
         with open(f"{home}/.hgdb_history", encoding="utf-8") as file:
-            serve.want(file.read().splitlines(), ["break 37", "continue &", "print turn", "jump", "quit"], "the history")
+            serve.want(file.read().splitlines(), ["break 37", "continue &", "print turn", "where", "jump", "quit"], "the history")
         with Terminal(words, home, NO_COLOR="1") as typist:
             typist.upto("(hgdb) ")
             typist.types("\x1b[A\x1b[A\n")
