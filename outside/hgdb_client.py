@@ -36,6 +36,11 @@ REPLIES = {
     "break": ("bp", "slots"), "pause": ("at",), "threads": ("at", "gens", "line", "threads"), "values": ("values",),
     "eval": ("value",), "drop": ("rows",), "status": ("at", "bps", "listeners", "mode"),
 }
+# What a refusal of a code has besides; one of a condition, 7, has an offset or a name.
+KEPT = {
+    "1": (), "2": (), "3": ("field",), "4": (), "5": ("line",), "6": ("instance",), "8": ("name", "slot"), "9": ("name", "slot"),
+    "10": ("mode",), "11": (), "12": ("at",), "13": ("limit",), "14": ("bp",), "15": ("k",),
+}
 
 
 class Refused(Exception):
@@ -69,15 +74,14 @@ def line_of(text, cmd=None):
         found = json.loads(text)
     except ValueError:
         found = None
-    if not isinstance(found, dict):
-        needed = ("ok",)
-    elif "notice" in found:
-        needed = NOTICES.get(str(found["notice"]), ("ok",))
-    elif found.get("ok") is True:
+    needed = None
+    if isinstance(found, dict) and "notice" in found:
+        needed = NOTICES.get(str(found["notice"]))
+    elif isinstance(found, dict) and found.get("ok") is True:
         needed = REPLIES.get(cmd, ())
-    else:
-        needed = ("ok", "code", "error")
-    if not isinstance(found, dict) or any(name not in found for name in needed):
+    elif isinstance(found, dict) and found.get("ok") is False:
+        needed = ("code", "error", *KEPT.get(str(found.get("code")), ("name" if "name" in found else "offset",)))
+    if needed is None or any(name not in found for name in needed):
         raise Lost(f"this is no line of a session: {text[:80]!r}")
     return found
 

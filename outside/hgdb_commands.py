@@ -8,6 +8,9 @@ import re
 import hgdb_expr, hgdb_points, hgdb_wave
 from hgdb_prompt import COMMANDS, INFOS, Client, Failed, command_of, counted, formatted, number_of, place_of, rows_of, usage
 
+# The most statements that `finish` goes over; no design has more.
+MOST = 200_000
+
 
 class Commands(Client):
     """The commands over a session."""
@@ -112,28 +115,30 @@ class Commands(Client):
         block = found.block if found is not None else self.source.block(self.place["line"])
         if block is None:
             raise Failed("The source does not tell which block this is")
-        pending = self.within(block, self.place["cycle"], self.here())
-        given = None if self.hits else self.gives("=", "<=", "let")
+        pending, last = self.within(block, self.place["cycle"], self.here())
+        given = self.gives("=", "<=", "let") if last else None
         self.show([it for it in pending if given is None or it[0] != (self.here(), given[0])])
         if given is not None:
             self.say(f"  {given[0]} is assigned {given[1]}", kind="pending")
 
     def within(self, block, cycle, path):
-        """Goes to the last statement of a block that an instance executes in this cycle. Returns what `walk` does."""
+        """Goes to the last statement of a block that an instance executes in this cycle. Returns what `walk` does, and whether it came
+        there: a breakpoint and Ctrl-C end it before."""
 
         def leaves(place):
             return place is None or place["cycle"] != cycle or not block.first <= place["line"] <= block.last
 
-        self.passing, pending = leaves, ()
+        self.passing = leaves
         try:
-            pending = self.walk("step", path, hgdb_wave.STATEMENTS)
-            if leaves(self.place) and not self.press.pressed:
+            pending = self.walk("step", path, MOST)
+            last = leaves(self.place) and not self.press.pressed
+            if last:
                 self.passing = lambda place: True
                 self.asked("back", instance=path)
                 self.settle()
         finally:
             self.passing = lambda place: False
-        return pending
+        return pending, last
 
     def do_start(self, _):
         self.idle()
@@ -154,7 +159,9 @@ class Commands(Client):
         self.show()
 
     def do_pause(self, _):
-        self.paused(self.asked("pause"))
+        reply = self.on.request("pause")
+        if not self.on.notices:
+            self.paused(self.accepted(reply))
         self.catch_up()
 
     # Commands: what is looked at

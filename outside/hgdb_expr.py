@@ -270,4 +270,4 @@ def fitted(ask, text, gens=()):
     if found is None or not found.numbers and re.sub(r"\s", "", found.text()) == re.sub(r"\s", "", text):
         return text, reply
     new, other = found.asked(ask)
-    return (new, other) if other["ok"] or not found.numbers else (text, reply)
+    return (new, other) if other["ok"] or not found.numbers or "offset" not in other else (text, reply)

@@ -7,10 +7,10 @@ a reply is waited for all the same, since a session without its replies is none;
 """
 import re
 
-import hgdb_client, hgdb_expr, hgdb_points, hgdb_source, hgdb_wave
+import hgdb_client, hgdb_points, hgdb_source, hgdb_wave
 
-# Each command: other names, the words behind it, and what it does.
 WHERE = "LINE [at INSTANCE] [if CONDITION]"
+# Each command: other names, the words behind it, and what it does.
 COMMANDS = {
     "break": (("b", "br"), WHERE, "stop before the statements of a line"),
     "tbreak": (("tb",), WHERE, "the same, and take the breakpoint away at its first stop"),
@@ -35,8 +35,8 @@ COMMANDS = {
     "display": ((), "[/x | /d | /t] [EXPRESSION]", "show it at each stop; without an expression, show all of them now"),
     "undisplay": ((), "[NUMBER]..", "show it no longer"),
     "wave": ((), "NAME.. [CYCLES]", f"values over the cycles round the stop, {hgdb_wave.USUAL} of them, at most {hgdb_wave.CYCLES}"),
-    "info": (("i",), "locals | breakpoints | display | line [LINE] | threads | listeners", "the values of all names; what stands behind "
-             "the other words"),
+    "info": (("i",), "locals | breakpoints | display | line [LINE] | threads | listeners",
+             "the values of all names; what stands behind the other words"),
     "where": (("bt", "frame", "f"), "", "where the session stands"),
     "list": (("l",), "[LINE | FIRST,LAST | -]", "lines of the source: around the stop, the next ones, around a line, those before"),
     "set": ((), "listsize NUMBER", "how many lines `list` shows"),
@@ -102,9 +102,9 @@ def refusal(reply, text=None, nobody=False):
     elif code == 6 and text is None:
         why = f"there is no instance {reply['instance']}"
     elif code in REFUSALS:
-        why = REFUSALS[code].format_map({**dict.fromkeys(("field", "line", "instance", "name", "slot", "mode", "limit", "bp", "k")), **kept})
+        why = REFUSALS[code].format(**kept)
     else:
-        why = " ".join(f"{key} {value}" for key, value in kept.items()) or "no cause is told"
+        why = " ".join(f"{key} {value}" for key, value in kept.items())
     lines = [f"Refused: {why} ({name})"]
     if code == 7 and "offset" in reply and text is not None:
         front = text.encode()[:reply["offset"]].decode(errors="replace")
