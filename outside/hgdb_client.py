@@ -18,7 +18,7 @@ and notices are those of docs/SESSIONS.md, as dictionaries; messages.schema.json
   session.close()                   ends it without `bye`, as the end of `with` does
 
 A connection that is over is raised as Lost. A reply comes in the order of the requests; a run that was asked for by `request` goes on
-beside further requests, and its notice waits in `session.notices` until `wait` or `stops` takes it.
+beside further requests, and its notice waits in `session.notices` until `wait` takes it.
 
 What a session over a server and one over a dump file do in different ways stands in `Live` here, and in hgdb_trace.py.
 """
@@ -36,10 +36,10 @@ REPLIES = {
     "break": ("bp", "slots"), "pause": ("at",), "threads": ("at", "gens", "line", "threads"), "values": ("values",),
     "eval": ("value",), "drop": ("rows",), "status": ("at", "bps", "listeners", "mode"),
 }
-# What a refusal of a code has besides; one of a condition, 7, has an offset or a name.
+# What a refusal of a code has besides; one of a condition, 7, has an offset where it has no name.
 KEPT = {
-    "1": (), "2": (), "3": ("field",), "4": (), "5": ("line",), "6": ("instance",), "8": ("name", "slot"), "9": ("name", "slot"),
-    "10": ("mode",), "11": (), "12": ("at",), "13": ("limit",), "14": ("bp",), "15": ("k",),
+    "3": ("field",), "5": ("line",), "6": ("instance",), "7": ("offset",), "8": ("name", "slot"), "9": ("name", "slot"), "10": ("mode",),
+    "12": ("at",), "13": ("limit",), "14": ("bp",), "15": ("k",),
 }
 
 
@@ -80,7 +80,8 @@ def line_of(text, cmd=None):
     elif isinstance(found, dict) and found.get("ok") is True:
         needed = REPLIES.get(cmd, ())
     elif isinstance(found, dict) and found.get("ok") is False:
-        needed = ("code", "error", *KEPT.get(str(found.get("code")), ("name" if "name" in found else "offset",)))
+        kept = KEPT.get(str(found.get("code")), ())
+        needed = ("code", "error", *(() if kept == ("offset",) and "name" in found else kept))
     if needed is None or any(name not in found for name in needed):
         raise Lost(f"this is no line of a session: {text[:80]!r}")
     return found
@@ -118,10 +119,6 @@ class Session:
             self.running = None
             self.notices.append(notice)
 
-    def ends(self, notice):
-        """Whether nothing is to be found beyond this end of a run."""
-        return notice is None or notice["notice"] != "stopped"
-
     def run(self, cmd, **fields):
         """Asks for a run, waits for its end, and returns the notice."""
         reply, notice = self.ask([(cmd, fields)])[0]
@@ -131,7 +128,7 @@ class Session:
 
     def stops(self, cmd="continue", **fields):
         """Runs again and again: the stops up to the end or the start of the run."""
-        while not self.ends(notice := self.run(cmd, **fields)):
+        while (notice := self.run(cmd, **fields))["notice"] == "stopped":
             yield notice
 
     def wait(self, seconds=None):

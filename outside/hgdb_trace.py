@@ -38,7 +38,7 @@ def bare(line):
 
 
 class Trace(hgdb_client.Session):
-    """A session over a dump file. `files` are SYM, VCD and SCOPE."""
+    """A session over a dump file. `given` are the requests that are given again, and `told` the lines that they have to be told."""
 
     def __init__(self, sym, vcd, scope, program=None, record=None):
         super().__init__(record)
