@@ -22,7 +22,7 @@ beside further requests, and its notice waits in `session.notices` until `wait` 
 
 What a session over a server and one over a dump file do in different ways stands in `Live` here, and in hgdb_trace.py.
 """
-import json, select, time
+import contextlib, json, select, time
 
 import websocket
 from websocket import Lost
@@ -92,8 +92,8 @@ class Session:
 
     `running` is the command of the run that is under way, and `ran` that of the last one. `notices` are the ends of runs that nobody
     took yet, and `rows` what listeners told. `waker`, where it is not None, ends a wait: it has a `fileno` that is readable once the
-    wait is to end, `drain`, which makes it silent again, and `late`, which is called where a reply is then still not there. `patient`
-    says that a request is not to be given up."""
+    wait is to end, `drain`, which makes it silent again, and `late`, which is called where a reply is then still not there. Within `steady`
+    no request is given up."""
 
     def __init__(self, record=None):
         self.record, self.running, self.ran, self.notices, self.rows = record, None, None, [], []
@@ -104,6 +104,14 @@ class Session:
 
     def __exit__(self, *_):
         self.close()
+
+    @contextlib.contextmanager
+    def steady(self):
+        before, self.patient = self.patient, True
+        try:
+            yield
+        finally:
+            self.patient = before
 
     def kept(self, mark, text):
         """Writes a request or a line to the record."""

@@ -200,9 +200,10 @@ class Commands(Client):
         """Whether an instance has a statement on one of the lines that are known."""
         lines = {it for module in self.source.modules for it in self.source.lines_of(module)}
         lines |= {self.place["line"]} | {it.line for it in self.points.all.values()}
-        told = [it for it, _ in self.on.ask([("break", {"line": line, "instance": path}) for line in sorted(lines)])]
-        taken = [it["bp"] for it in told if it["ok"]]
-        self.on.ask([("delete", {"bp": bp}) for bp in taken])
+        with self.on.steady():
+            told = self.on.ask([("break", {"line": line, "instance": path}) for line in sorted(lines)])
+            taken = [reply["bp"] for reply, _ in told if reply["ok"]]
+            self.on.ask([("delete", {"bp": bp}) for bp in taken])
         return bool(taken)
 
     def evaluated(self, text):
@@ -260,15 +261,15 @@ class Commands(Client):
         for name in names:
             if name not in dict(have):
                 raise Failed(f"No name {name} is in scope")
-        self.on.patient, resting = True, self.points.resting()
+        resting = self.points.resting()
         try:
             wave = hgdb_wave.Wave(self.on, self.place, self.here(), lambda it: self.right(it, "="), lambda: self.press.pressed)
-            found = wave.taken(count)
+            with self.on.steady():
+                found = wave.taken(count)
         except hgdb_wave.Lacking as why:
             raise Failed(str(why)) from why
         finally:
             self.points.again(resting)
-            self.on.patient = False
         if not found:
             raise Failed("Interrupted")
         self.say(*hgdb_wave.lines(names, found, self.place["cycle"]))

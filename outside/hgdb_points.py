@@ -45,7 +45,8 @@ class Points:
         return self.answered(reply, text or ""), text
 
     def unset(self, bp):
-        self.answered(self.session.request("delete", bp=bp))
+        with self.session.steady():
+            self.answered(self.session.request("delete", bp=bp))
 
     def add(self, line, path, cond, temporary=False, hidden=False):
         """A new breakpoint. One that is hidden has the number 0."""
@@ -92,8 +93,10 @@ class Points:
         return found
 
     def again(self, found):
-        for point in found:
-            self.enable(point)
+        """Sets those again that rested."""
+        with self.session.steady():
+            for point in found:
+                self.enable(point)
 
     def fitting(self, stop, ran):
         """The breakpoints that a stop has. `ran` says that a run for breakpoints stopped there."""
