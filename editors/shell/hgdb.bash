@@ -58,8 +58,11 @@ _hgdb_client() {
   local word=${COMP_WORDS[COMP_CWORD]}
   case ${COMP_WORDS[COMP_CWORD - 1]} in
     -w) COMPREPLY=($(compgen -W "5 60" -- "$word")) ;;
-    -x) COMPREPLY=($(compgen -f -- "$word")) ;;
-    *) COMPREPLY=($(compgen -W "-w -x 127.0.0.1:4711" -- "$word") $(_hgdb_files "$word" hg)) ;;
+    -x | --record | --hgdb) COMPREPLY=($(compgen -f -- "$word")) ;;
+    --source) COMPREPLY=($(compgen -d -- "$word")) ;;
+    --replay) COMPREPLY=($(_hgdb_files "$word" json)) ;;
+    *.json) COMPREPLY=($(_hgdb_files "$word" vcd)) ;;
+    *) COMPREPLY=($(compgen -W "-w -x --replay --source --hgdb --record --help 127.0.0.1:4711" -- "$word") $(_hgdb_files "$word" hg)) ;;
   esac
   compopt -o filenames 2>/dev/null
 }
