@@ -108,7 +108,7 @@ class Source:
     """A source of this name and text; `name` is None where none is known."""
 
     def __init__(self, name=None, text=""):
-        self.name, self.lines = name, text.splitlines()
+        self.name, self.lines = name, [it.rstrip("\r") for it in text.removesuffix("\n").split("\n")] if text else []
         try:
             walk = Walk(hgdb_expr.tokens(text))
         except hgdb_expr.Bad:
@@ -150,7 +150,7 @@ class Source:
 
 def read(path):
     """The source of a file."""
-    with open(path, encoding="utf-8", errors="replace") as file:
+    with open(path, encoding="utf-8", errors="replace", newline="") as file:
         return Source(os.path.basename(path), file.read())
 
 
