@@ -1,9 +1,10 @@
 """What hgdb-client knows of a session of hgdb_client.py, live or over a dump file: where it stands, and what is shown of that.
 
-The commands themselves stand in hgdb_commands.py. Whatever comes from the session is taken in before a command is obeyed (`catch_up`), so that each command looks at the stop that was
-shown last. A command that is refused, or that is none, raises Failed with what is said of it, and changes nothing; that one failed is kept
-for the status of a script. Ctrl-C is noted (`press`) and looked at where something is waited for: a run is paused, a row of runs ends, and
-a reply is waited for all the same, since a session without its replies is none; Ctrl-C once more gives the connection up.
+The commands themselves stand in hgdb_commands.py. Whatever comes from the session is taken in before a command is obeyed (`catch_up`), so
+that each command looks at the stop that was shown last. A command that is refused, or that is none, raises Failed with what is said of it;
+that one failed is kept for the status of a script. Ctrl-C is noted (`press`) and looked at where something is waited for: a run is paused, a
+row of runs ends, and a reply is waited for all the same, since what a request has changed is told by its reply; Ctrl-C once more gives the
+connection up.
 """
 import re
 
