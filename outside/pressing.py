@@ -5,6 +5,7 @@
 - For each command the server is halted, so that no reply comes, the command is given and Ctrl-C pressed; then the server goes on. The
   session is still there. Ctrl-C twice gives it up.
 - A server that is a script tells a stop between a request and its reply, and leaves a run to a pause, at a place where nothing executes.
+  In a file of commands Ctrl-C leaves out the rest.
 - Over a dump file Ctrl-C ends the run of the program, and the session stands where it stood.
 - At a terminal a stop is shown while nothing is typed, a command that took more than a second tells it, lines are kept for the next time,
   and there are colours, but for NO_COLOR.
@@ -225,18 +226,20 @@ def no_stop(**at):
     return {"at": at, "code": 12, "error": "NoStop", "ok": False, "seq": 1}
 
 
-def played(answer, commands, steps, told):
+def played(answer, commands, steps, told, by_file=False):
     """A session with a server that is a script. A step that is the text `press` presses Ctrl-C."""
     faults = []
-    with serve.socket.create_server(("127.0.0.1", 0)) as listener:
-        with Pipe(f"127.0.0.1:{listener.getsockname()[1]}") as client:
+    with serve.socket.create_server(("127.0.0.1", 0)) as listener, tempfile.NamedTemporaryFile("w") as file:
+        file.write(commands)
+        file.flush()
+        with Pipe(*["-x", file.name] * by_file, f"127.0.0.1:{listener.getsockname()[1]}") as client:
             steps = [[client.press if it == "press" else it for it in step] for step in steps]
             thread = threading.Thread(target=scripted, args=(listener, answer, steps, faults), daemon=True)
             thread.start()
-            client.give(commands)
+            client.give("" if by_file else commands)
             status, got, error = client.rest()
             thread.join(SECONDS)
-    serve.want(faults, [], "the requests")
+    serve.want((faults, status), ([], 3 if "Interrupted" in told or "Refused" in told else 0), "the requests, and the status")
     want = "Attached to a design whose source is not given\n" + told
     if got != want:
         raise serve.Wrong(built.difference(got.encode(), want.encode()))
@@ -274,6 +277,12 @@ JUST = ([
     ({"cmd": "continue"}, ok(), "press"), ({"cmd": "pause"}, {"notice": "ended"}, {"code": 11, "error": "NotRunning", "ok": False, "seq": 2}),
     ({"cmd": "bye"}, ok()),
 ], "continue\n", "(hgdb) continue\nThe end of the run\n")
+LEFT_OUT = ([
+    ({"cmd": "continue"}, ok(), "press"), ({"cmd": "pause"}, ok(at="end")), ({"cmd": "bye"}, ok()),
+], "continue\nwhere\n", """(hgdb) continue
+Paused at the end of the run
+Interrupted: the rest of the commands is left out
+""")
 
 
 # Over a dump file
@@ -399,6 +408,8 @@ def judged(program):
     answer = built.other("client").answer
     for name, (steps, commands, told) in (("a stop before a reply", LATE), ("a pause where nothing executes", PAUSE), ("a pause too late", JUST)):
         yield name, serve.guarded(played, answer, commands, steps, told)
+    steps, commands, told = LEFT_OUT
+    yield "Ctrl-C in a file of commands", serve.guarded(played, answer, commands, steps, told, True)
     for judge in (given_up, over_a_dump):
         yield judge.__doc__, serve.guarded(judge, program)
     try:
