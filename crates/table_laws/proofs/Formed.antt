@@ -9,7 +9,7 @@ use Rattle.tree_core.specs.Width.{IsWhole}
 use Rattle.tree_core.specs.Fold.{constant}
 use Rattle.exec_core.specs.Block.{Name, Now}
 use Rattle.list_core.specs.Lists.{IsIn}
-use Rattle.exec_core.specs.Trees.{Row}
+use Rattle.exec_core.specs.Trees.{Row, block_rows, row_at}
 use Rattle.exec_core.specs.Paths.{HasTree, TreeFits, RowChecked}
 use Rattle.exec_core.specs.Whole.{Place}
 use Rattle.exec_core.specs.Design.{Process, moved, signals_of, width_in}
@@ -25,7 +25,7 @@ use Rattle.check_exec.proofs.Instances as instances
 use Rattle.world_core.specs.Sites.{Site, site_body, sites_of, Spot, all_spots}
 use Rattle.world_core.specs.Kept.{block_row, whole_in, enable_tree, name_tree}
 use Rattle.world_laws.proofs.SitesOf.{SiteIs, sites_are, ordered, SpotIs, spot_is}
-use Rattle.world_laws.proofs.Spots.{process_in, scope_known}
+use Rattle.world_laws.proofs.Spots.{process_in, process_widths, scope_known}
 
 mapped_from : {A B : Type 0} (f : A → B) (o : Option A) (b : B) → option_map f o ≡ Some b → (a : A) × ((o ≡ Some a) × (f a ≡ b))
 mapped_from f None b e = absurd (none-some b e)
@@ -60,8 +60,13 @@ module _ (d : Design) (sound : IsSound d) (order : List Place) (ok : Accepted (p
     inside : IsIn (here p.1 site.of p.0) (processes_of d).processes
     inside = process_in d p.1 its.of site.of stands p.0.block site.among
 
+    -- the widths of the statement are those of each process of its block
+    wide : (p.0).widths ≡ width_in (processes_of d) (here p.1 site.of p.0)
+    wide = process_widths d sound p.1 its.of p.0 site stands
+
     checked : (row : Row) → block_row p.0 ≡ Some row → RowChecked (signals_of (processes_of d) (here p.1 site.of p.0)) (width_in (processes_of d) (here p.1 site.of p.0)) (site_body p.0) row
-    checked row is = (process_checked (processes_of d) order ok (here p.1 site.of p.0) inside).each_row p.0.slot row is
+    checked row is = (process_checked (processes_of d) order ok (here p.1 site.of p.0) inside).each_row p.0.slot row
+        (subst (λ w. row_at p.0.slot (block_rows w (site_body p.0)) ≡ Some row) wide is)
 
     pub enable_whole : (T : Whole) → enable_tree d (length order) p ≡ Some T → IsWhole T
     enable_whole T e =
