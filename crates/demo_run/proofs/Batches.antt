@@ -13,10 +13,9 @@ use Rattle.machine_core.specs.declared.turn.Notice.{Notice}
 use Rattle.machine_core.specs.Positions.{position_count, end_place}
 use Rattle.machine_core.specs.Reading.{Reader}
 use Rattle.machine_core.specs.Machine.{Machine, Answer, answer_of}
-use Rattle.machine_core.specs.Journal.{Line, Replied, Ran, behind, turns_from, until_idle, is_bye, batch_from}
+use Rattle.machine_core.specs.Journal.{Line, Replied, Ran, behind, turns_from, until_idle, is_bye, batch_from, told_lines, answered_lines}
 use Rattle.machine_core.proofs.Ends.{batches_end}
 use Rattle.machine_core.proofs.Keeps.{moves_by_turns_alone}
-use Rattle.dbg_core.specs.Answering.{told_lines, answered_lines}
 use Rattle.demo_run.specs.Stops.{Reached, turn_stops, batch_stops}
 use Rattle.demo_run.specs.Laws.{stop_told, line_stop}
 use Rattle.demo_run.specs.Answers.{granted_way, reached_by, told_notes, answered_stops}

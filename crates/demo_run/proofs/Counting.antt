@@ -11,9 +11,8 @@ use Rattle.machine_core.specs.declared.turn.Notice.{Notice}
 use Rattle.machine_core.specs.Positions.{end_place}
 use Rattle.machine_core.specs.Reading.{Reader, IsReader}
 use Rattle.machine_core.specs.Machine.{Machine, answer_of}
-use Rattle.machine_core.specs.Journal.{Line, Replied, Ran, is_bye, batch_from}
+use Rattle.machine_core.specs.Journal.{Line, Replied, Ran, is_bye, batch_from, answered_lines}
 use Rattle.machine_core.proofs.Readers.{some_reader}
-use Rattle.dbg_core.specs.Answering.{answered_lines}
 use Rattle.req_json.specs.Asked.{asked}
 use Rattle.batch_run.specs.Texts.{lines_of, requests_of}
 use Rattle.demo_run.specs.Stops.{Reached, batch_stops, is_forward, is_backward, thread_count, forward_count, backward_count, thread_sum}

@@ -1,5 +1,5 @@
 -- How a demo ends, from what was judged and written.
-use Rattle.std.proofs.Common.{◌≡◌, ◌<◌, ℕ, Bool, true, false, ◌||◌, ◌==◌, List, length, Option, Some, None, Result, Ok, Err, refl, sym, ap, ◌∙◌, subst, IsTrue, ◌⊎◌, inl, inr, arith}
+use Rattle.std.proofs.Common.{◌≡◌, ◌<◌, ℕ, Bool, true, false, ◌||◌, ◌==◌, ◌≤◌, List, [], ◌∷◌, length, Option, Some, None, Result, Ok, Err, refl, sym, ap, ◌∙◌, subst, IsTrue, ◌⊎◌, inl, inr, arith}
 use Rattle.std.specs.Prelude.{IfSome}
 use Rattle.std.proofs.lemmas.Bool.Decides.{nat_tests}
 use Rattle.io_edge.specs.Taken.{Appends, AppendsFront}
@@ -26,8 +26,8 @@ use Rattle.design_judge.proofs.OnePorts.{one_ports}
 use Rattle.machine_core.proofs.Readers.{some_reader}
 use Rattle.batch_run.specs.Texts.{requests_fault}
 use Rattle.demo_run.specs.Chain.{chain_source, chain_stimulus, chain_top, row_count}
-use Rattle.demo_run.specs.Asked.{Given, Contents, IsChain, HasRows, HoldsRequests, RefusesDesign, RefusesStimulus, RefusesRequests, Held, Holds, line_over, line_of, AsksDemo, NoDesign, NoStimulus, NoRequests, Accepted, is_status, TakesDesignLine, TakesStimulusLine, EndsAsAsked, TakesSome, TakesText, Completes}
-use Rattle.demo_run.specs.Judged.{HoldsWalk, Judges, IsWalk, HasText, judged_status, IsTextOf, IsWalkLine, IsTheText, TakesJudged, TakesJudgedFront}
+use Rattle.demo_run.specs.Asked.{Given, Contents, IsChain, HasRows, HoldsRequests, RefusesDesign, RefusesStimulus, RefusesRequests, AsksByStatus, Held, Holds, line_over, line_of, AsksDemo, NoDesign, NoStimulus, NoRequests, Accepted, is_status, TakesDesignLine, TakesStimulusLine, EndsAsAsked, TakesSome, TakesText, Completes}
+use Rattle.demo_run.specs.Judged.{HoldsWalk, Judges, IsWalk, HasText, asked_for, judged_status, IsTextOf, IsWalkLine, IsTheText, TakesJudged, TakesJudgedFront}
 use Rattle.demo_run.specs.declared.walk.Walk.{Walk}
 use Rattle.demo_run.specs.declared.judge.Judged.{Judged}
 use Rattle.demo_run.specs.declared.judge.Judged.TheVariants as judged
@@ -241,6 +241,36 @@ requests_line_taken heard status (judged.NoDesign fault) old new six is t = absu
 requests_line_taken heard status (judged.NoStimulus fault) old new six is t = absurd (let same : 6 ≡ 4 = sym six ∙ is in cc)
 requests_line_taken heard status judged.NoRequests old new six is t = t.taken requests_fault refl
 requests_line_taken heard status (judged.Walked walk) old new six is t = absurd (let same : 6 ≡ 0 = sym six ∙ is in cc)
+
+-- ---- the files that were asked for
+
+no_files : (given : Given) (judged : Judged) (a b : Option (List (List ℕ))) (status : ℕ) → (status ≡ 3) ⊎ (status ≡ 4) → status ≡ judged_status judged → Appends a b (asked_for given judged) → Appends a b []
+no_files given (judged.NoDesign fault) a b status early is p = p
+no_files given (judged.NoStimulus fault) a b status early is p = p
+no_files given judged.NoRequests a b status early is p = elim early [ inl three ↦ absurd (let same : 3 ≡ 6 = sym three ∙ is in cc) | inr four ↦ absurd (let same : 4 ≡ 6 = sym four ∙ is in cc) ]
+no_files given (judged.Walked walk) a b status early is p = elim early [ inl three ↦ absurd (let same : 3 ≡ 0 = sym three ∙ is in cc) | inr four ↦ absurd (let same : 4 ≡ 0 = sym four ∙ is in cc) ]
+
+all_files : (given : Given) (judged : Judged) (a b : Option (List (List ℕ))) (status : ℕ) → (status ≡ 0) ⊎ (status ≡ 6) → status ≡ judged_status judged → Appends a b (asked_for given judged) → Appends a b (given.requests ∷ [])
+all_files given (judged.NoDesign fault) a b status late is p = elim late [ inl zero ↦ absurd (let same : 0 ≡ 3 = sym zero ∙ is in cc) | inr six ↦ absurd (let same : 6 ≡ 3 = sym six ∙ is in cc) ]
+all_files given (judged.NoStimulus fault) a b status late is p = elim late [ inl zero ↦ absurd (let same : 0 ≡ 4 = sym zero ∙ is in cc) | inr six ↦ absurd (let same : 6 ≡ 4 = sym six ∙ is in cc) ]
+all_files given judged.NoRequests a b status late is p = p
+all_files given (judged.Walked walk) a b status late is p = p
+
+early : (m n status : ℕ) → m < 7 → n < 7 → (status ≡ m) ⊎ (status ≡ n) → status < 7
+early m n status a b e = elim e [ inl is ↦ omega (arith, a, is) | inr is ↦ omega (arith, b, is) ]
+
+pub files_asked : (given : Given) (judged : Judged) (status : ℕ) (a b : Option (List (List ℕ))) → Appends a b (asked_for given judged) → (status < 7 → status ≡ judged_status judged) → AsksByStatus given status a b
+files_asked given judged status a b p is = record {
+  none = λ low. no_files given judged a b status low (is (early 3 4 status (omega arith) (omega arith) low)) p;
+  all = λ high. all_files given judged a b status high (is (early 0 6 status (omega arith) (omega arith) high)) p;
+}
+
+-- where the status is late nothing is said of them
+pub files_late : (given : Given) (status : ℕ) (a b : Option (List (List ℕ))) → 7 ≤ status → AsksByStatus given status a b
+files_late given status a b late = record {
+  none = λ low. absurd (omega (arith, late, early 3 4 status (omega arith) (omega arith) low));
+  all = λ high. absurd (omega (arith, late, early 0 6 status (omega arith) (omega arith) high));
+}
 
 -- ---- where the files are told
 

@@ -1,5 +1,5 @@
 -- What a demo asks for: the status and the text that its words and the contents of its file give.
-use Rattle.std.specs.Prelude.{◌≡◌, ◌≢◌, ℕ, ◌<◌, ◌≤◌, ◌==◌, Bool, false, ◌||◌, List, length, Option, Some, None, Result, Ok, Err, ◌⊎◌}
+use Rattle.std.specs.Prelude.{◌≡◌, ◌≢◌, ℕ, ◌<◌, ◌≤◌, ◌==◌, Bool, false, ◌||◌, List, [], ◌∷◌, length, Option, Some, None, Result, Ok, Err, ◌⊎◌}
 use Rattle.bv_core.specs.Value.{Bits}
 use Rattle.exec_core.specs.Block.{Name}
 use Rattle.exec_core.specs.Whole.{Place}
@@ -138,6 +138,11 @@ pub record TakesStimulusLine (old new : Option (List ℕ)) : Type 0 where
   pub fault : StimFault
   pub refuses : fault ≢ stim_faults.NoMemory
   pub taken : Appends old new (stimulus_line fault)
+
+-- the file of requests was asked for, or none where the design or the stimulus is refused
+pub record AsksByStatus (given : Given) (status : ℕ) (asked_old asked_new : Option (List (List ℕ))) : Type 0 where
+  pub none : (status ≡ 3) ⊎ (status ≡ 4) → Appends asked_old asked_new []
+  pub all : (status ≡ 0) ⊎ (status ≡ 6) → Appends asked_old asked_new (given.requests ∷ [])
 
 -- with the text that is asked for, of which the whole was taken
 pub record EndsAsAsked (heard : List Heard) (files : Contents) (given : Given) (status : ℕ) (old new : Option (List ℕ)) : Type 0 where

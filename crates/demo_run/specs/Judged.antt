@@ -1,5 +1,5 @@
 -- A demo, judged, and the text that goes with what was judged.
-use Rattle.std.specs.Prelude.{◌≡◌, ◌≢◌, ◌≤◌, ℕ, false, List, Option, Some, Ok, length}
+use Rattle.std.specs.Prelude.{◌≡◌, ◌≢◌, ◌≤◌, ℕ, false, List, [], ◌∷◌, Option, Some, Ok, length}
 use Rattle.bv_core.specs.Value.{Bits}
 use Rattle.exec_core.specs.Whole.{Place}
 use Rattle.io_edge.specs.Taken.{Appends, AppendsFront}
@@ -39,6 +39,13 @@ Judges files given (judged.NoDesign fault) = RefusesDesign given 3 (design_line 
 Judges files given (judged.NoStimulus fault) = RefusesStimulus given 4 (stimulus_line fault)
 Judges files given judged.NoRequests = RefusesRequests files given 6 requests_fault
 Judges files given (judged.Walked walk) = HoldsWalk files given walk
+
+-- the names that were asked for before it was judged so
+abbrev pub asked_for : Given → Judged → List (List ℕ)
+asked_for given (judged.NoDesign fault) = []
+asked_for given (judged.NoStimulus fault) = []
+asked_for given judged.NoRequests = given.requests ∷ []
+asked_for given (judged.Walked walk) = given.requests ∷ []
 
 -- what is walked is kept so, and the stimulus is one of its ports
 pub record IsWalk (walk : Walk) : Type 0 where

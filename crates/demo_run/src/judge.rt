@@ -1,15 +1,16 @@
 //! Judges the design and the stimulus of a demo, and reads its requests.
 
-ghost use Rattle.std.specs.Prelude.{◌≡◌, ◌≤◌, ◌<◌, [], ◌∷◌, IfOk, IfSome, IsErrOf, IsTrue, length};
+ghost use Rattle.std.specs.Prelude.{◌≡◌, ◌≤◌, ◌<◌, [], ◌∷◌, IfOk, IfSome, OnOk, IsErrOf, IsTrue, length};
 ghost use Rattle.std.specs.Option.{option_map};
 ghost use Rattle.io_edge.specs.Faults.{Rose};
-ghost use Rattle.io_edge.specs.Taken.{AppendsFront};
+ghost use Rattle.io_edge.specs.Taken.{Appends, AppendsFront};
+ghost use Rattle.io_edge.specs.Unread.{StopsAt};
 ghost use Rattle.design_core.specs.DesignView.{design_of};
 ghost use Rattle.design_judge.specs.Accepting.{IsKept, accepting_of};
 ghost use Rattle.design_judge.specs.Judging.{IsFit, IsWhole, JudgesRows, JudgesText};
 ghost use Rattle.demo_run.specs.Chain.{chain_source as the_chain_source, chain_stimulus as the_chain_stimulus, chain_top, row_count};
 ghost use Rattle.demo_run.specs.Asked.{HoldsRequests, IsChain, is_status};
-ghost use Rattle.demo_run.specs.Judged.{HasText, Judges, given_as, judged_status};
+ghost use Rattle.demo_run.specs.Judged.{HasText, Judges, asked_for, given_as, judged_status};
 
 use crate::chain::{chain_given, chain_source, chain_stimulus};
 use crate::walk::Walk;
@@ -81,8 +82,11 @@ fn read_requests<F: Files>(
 ) -> Result<Option<Vec<u8>>, ReadEnd>
     ensures found { IfOk result (λ found. IfSome (F.told files.old) (λ told. HoldsRequests told (given_as demo.now) (option_map (λ bytes. bytes.items) found))) }
     ensures short { IfOk result (λ found. IfSome found (λ bytes. length bytes.items ≤ 16777216)) }
+    ensures same { F.told files.new ≡ F.told files.old }
+    ensures asked { OnOk result (Appends (F.asked files.old) (F.asked files.new) (demo.now.requests.now ∷ [])) }
     ensures front { AppendsFront (F.asked files.old) (F.asked files.new) (demo.now.requests.now ∷ []) }
     ensures failed { IsErrOf result ReadEnd.Failed → Rose (F.fault_count files.old) (F.fault_count files.new) }
+    ensures unread { IsErrOf result ReadEnd.Failed → StopsAt F.asked F.fault_count files.old files.new (demo.now.requests.now ∷ []) }
     ensures later { F.fault_count files.old ≤ F.fault_count files.new }
 {
     read_file(alloc, files, demo.requests, MOST_REQUESTS)
@@ -99,8 +103,11 @@ fn judge_walk<F: Files>(
     requires kept { IsKept (accepting_of accepted) }
     ensures judged { IfOk result (λ judged. IfSome (F.told files.old) (λ told. Judges told (given_as demo.now) judged)) }
     ensures text { IfOk result HasText }
+    ensures same { F.told files.new ≡ F.told files.old }
+    ensures asked { IfOk result (λ judged. Appends (F.asked files.old) (F.asked files.new) (asked_for (given_as demo.now) judged)) }
     ensures front { AppendsFront (F.asked files.old) (F.asked files.new) (demo.now.requests.now ∷ []) }
     ensures failed { IsErrOf result ReadEnd.Failed → Rose (F.fault_count files.old) (F.fault_count files.new) }
+    ensures unread { IsErrOf result ReadEnd.Failed → StopsAt F.asked F.fault_count files.old files.new (demo.now.requests.now ∷ []) }
     ensures later { F.fault_count files.old ≤ F.fault_count files.new }
 {
     let stim = match judge_chain_rows(alloc, &accepted)? {
@@ -127,8 +134,11 @@ pub(crate) fn judge<F: Files>(
 ) -> Result<Judged, ReadEnd>
     ensures judged { IfOk result (λ judged. IfSome (F.told files.old) (λ told. Judges told (given_as demo.now) judged)) }
     ensures text { IfOk result HasText }
+    ensures same { F.told files.new ≡ F.told files.old }
+    ensures asked { IfOk result (λ judged. Appends (F.asked files.old) (F.asked files.new) (asked_for (given_as demo.now) judged)) }
     ensures front { AppendsFront (F.asked files.old) (F.asked files.new) (demo.now.requests.now ∷ []) }
     ensures failed { IsErrOf result ReadEnd.Failed → Rose (F.fault_count files.old) (F.fault_count files.new) }
+    ensures unread { IsErrOf result ReadEnd.Failed → StopsAt F.asked F.fault_count files.old files.new (demo.now.requests.now ∷ []) }
     ensures later { F.fault_count files.old ≤ F.fault_count files.new }
 {
     match judge_chain(alloc, demo.number)? {

@@ -2,9 +2,10 @@
 
 ghost use Rattle.std.specs.Prelude.{◌≡◌, ◌≤◌, ◌<◌, [], ◌∷◌, IfSome, IsTrue, length, map};
 ghost use Rattle.io_edge.specs.Faults.{Rose};
-ghost use Rattle.io_edge.specs.Taken.{Appends, AppendsFront};
+ghost use Rattle.io_edge.specs.Taken.{Appends, AppendsFront, Grows};
+ghost use Rattle.io_edge.specs.Unread.{StopsAt};
 ghost use Rattle.batch_run.specs.Texts.{requests_fault};
-ghost use Rattle.demo_run.specs.Asked.{is_status, TakesDesignLine, TakesStimulusLine, EndsAsAsked, TakesSome, Completes};
+ghost use Rattle.demo_run.specs.Asked.{is_status, AsksByStatus, TakesDesignLine, TakesStimulusLine, EndsAsAsked, TakesSome, Completes};
 ghost use Rattle.demo_run.specs.Judged.{HasText, TakesJudged, TakesJudgedFront, judged_status, given_as};
 
 use crate::judge::{Demo, Judged, judge};
@@ -23,6 +24,8 @@ fn end<S: Sink>(alloc: Global, judged: Judged, listeners: Vec<Box<dyn Listener>>
     ensures no_read { result ≡ 7 → ⊥ }
     ensures write { result ≡ 8 → Rose (S.fault_count out.old) (S.fault_count out.new) }
     ensures front { 7 < result → TakesJudgedFront (map (λ b. heard b) listeners.items) judged (S.taken out.old) (S.taken out.new) }
+    ensures kept { Grows (S.taken out.old) (S.taken out.new) }
+    ensures later { S.fault_count out.old ≤ S.fault_count out.new }
 {
     let status = judged.status();
     match write(alloc, judged, listeners, out) {
@@ -47,6 +50,7 @@ fn end<S: Sink>(alloc: Global, judged: Judged, listeners: Vec<Box<dyn Listener>>
 /// | 7 | the requests were not read | nothing |
 /// | 8 | the output failed | a front of it |
 /// | 9 | memory ran out | nothing, or a front of it |
+#[tactic(auto, using(crate::proofs::Ending::files_late, io_edge::proofs::Stops::grows_not))]
 pub fn run_demo<F: Files, S: Sink>(
     alloc: Global,
     demo: &Demo<'_>,
@@ -69,8 +73,10 @@ pub fn run_demo<F: Files, S: Sink>(
     ensures complete { IfSome (F.told files.old) (λ told. Completes (map (λ b. heard b) listeners.items) told (given_as demo.now) result (S.taken out.old) (S.taken out.new)
         (Rose (F.fault_count files.old) (F.fault_count files.new)) (Rose (S.fault_count out.old) (S.fault_count out.new))) }
 
-    // No other file is asked for than that of the requests.
+    // No other file is asked for than that of the requests; it is, unless the design or the stimulus is refused.
     ensures asked { AppendsFront (F.asked files.old) (F.asked files.new) (demo.now.requests.now ∷ []) }
+    ensures files { AsksByStatus (given_as demo.now) result (F.asked files.old) (F.asked files.new) }
+    ensures unread { result ≡ 7 → StopsAt F.asked F.fault_count files.old files.new (demo.now.requests.now ∷ []) }
 
     // A fault of the files, before anything was written; a fault of the output, or want of memory: a front of the text.
     ensures read { result ≡ 7 → Rose (F.fault_count files.old) (F.fault_count files.new) }
@@ -78,6 +84,12 @@ pub fn run_demo<F: Files, S: Sink>(
     ensures write { result ≡ 8 → Rose (S.fault_count out.old) (S.fault_count out.new) }
     ensures front { 7 < result
         → IfSome (F.told files.old) (λ told. TakesSome (map (λ b. heard b) listeners.items) told (given_as demo.now) (S.taken out.old) (S.taken out.new)) }
+
+    // What stays: what the files tell, the bytes that the sink took before, and no count falls.
+    ensures same { F.told files.new ≡ F.told files.old }
+    ensures kept { Grows (S.taken out.old) (S.taken out.new) }
+    ensures read_later { F.fault_count files.old ≤ F.fault_count files.new }
+    ensures write_later { S.fault_count out.old ≤ S.fault_count out.new }
 {
     match judge(alloc, demo, files) {
         Ok(judged) => end(alloc, judged, listeners, out),

@@ -2,7 +2,7 @@
 
 ghost use Rattle.std.specs.Prelude.{◌≡◌, ◌≤◌, IfOk, OnOk, OnErr, IsErrOf, length, map};
 ghost use Rattle.io_edge.specs.Faults.{Rose};
-ghost use Rattle.io_edge.specs.Taken.{Appends, AppendsFront};
+ghost use Rattle.io_edge.specs.Taken.{Appends, AppendsFront, Grows};
 ghost use Rattle.demo_run.specs.Judged.{HasText, IsWalk, IsTheLine, IsTheText, TakesJudged, TakesJudgedFront};
 
 use crate::judge::Judged;
@@ -66,6 +66,7 @@ fn text_of(
 }
 
 /// Writes the text that goes with what was judged.
+#[tactic(auto, using(io_edge::proofs::Stops::grows_not, io_edge::proofs::Stops::grows_front, io_edge::proofs::Stops::grows_whole))]
 pub(crate) fn write<S: Sink>(
     alloc: Global,
     judged: Judged,
@@ -77,6 +78,8 @@ pub(crate) fn write<S: Sink>(
     ensures ok { OnOk result (TakesJudged (map (λ b. heard b) listeners.items) judged (S.taken out.old) (S.taken out.new)) }
     ensures front { OnErr result (TakesJudgedFront (map (λ b. heard b) listeners.items) judged (S.taken out.old) (S.taken out.new)) }
     ensures failed { IsErrOf result SinkEnd.Failed → Rose (S.fault_count out.old) (S.fault_count out.new) }
+    ensures kept { Grows (S.taken out.old) (S.taken out.new) }
+    ensures later { S.fault_count out.old ≤ S.fault_count out.new }
 {
     let text = text_of(alloc, judged, listeners)?;
     out.put(&text)?;

@@ -3,6 +3,7 @@
 ghost use Rattle.std.specs.Prelude.{◌≡◌, ◌<◌, ◌≤◌, [], ◌∷◌, IfOk, IfSome, OnOk, IsErrOf};
 ghost use Rattle.io_edge.specs.Faults.{Rose};
 ghost use Rattle.io_edge.specs.Taken.{Appends, AppendsFront};
+ghost use Rattle.io_edge.specs.Unread.{StopsAt};
 ghost use Rattle.design_judge.specs.Judging.{IsFit, IsWhole, JudgesRows, JudgesSource, JudgesStimulus};
 
 use crate::source::judge_text;
@@ -32,6 +33,7 @@ pub fn judge_design<F: Files>(
     ensures asked { OnOk result (Appends (F.asked files.old) (F.asked files.new) (name.now ∷ [])) }
     ensures front { AppendsFront (F.asked files.old) (F.asked files.new) (name.now ∷ []) }
     ensures failed { IsErrOf result ReadEnd.Failed → Rose (F.fault_count files.old) (F.fault_count files.new) }
+    ensures unread { IsErrOf result ReadEnd.Failed → StopsAt F.asked F.fault_count files.old files.new (name.now ∷ []) }
     ensures later { F.fault_count files.old ≤ F.fault_count files.new }
 {
     match read_file(alloc, files, name, MOST_SOURCE)? {
@@ -73,6 +75,7 @@ pub fn judge_stimulus<F: Files>(
     ensures asked { OnOk result (Appends (F.asked files.old) (F.asked files.new) (name.now ∷ [])) }
     ensures front { AppendsFront (F.asked files.old) (F.asked files.new) (name.now ∷ []) }
     ensures failed { IsErrOf result ReadEnd.Failed → Rose (F.fault_count files.old) (F.fault_count files.new) }
+    ensures unread { IsErrOf result ReadEnd.Failed → StopsAt F.asked F.fault_count files.old files.new (name.now ∷ []) }
     ensures later { F.fault_count files.old ≤ F.fault_count files.new }
 {
     match read_file(alloc, files, name, MOST_BYTES)? {

@@ -1,3 +1,4 @@
 pub mod Growth
 mod Parts
 pub mod Passing
+pub mod Stops

@@ -3,4 +3,5 @@ pub mod Files
 pub mod MemoryFiles
 pub mod MemorySink
 pub mod Taken
+pub mod Unread
 pub mod Waiting

@@ -13,6 +13,11 @@ pub record AppendsFront {A : Type 0} (old new : Option (List A)) (piece : List A
   pub split : piece ≡ front ++ rest
   pub grown : Appends old new front
 
+-- the new list begins with the old one
+pub record Grows {A : Type 0} (old new : Option (List A)) : Type 0 where
+  pub more : List A
+  pub grown : Appends old new more
+
 -- what the new list has beyond the old one, and then this rest, are all of it
 pub record IsLeft {A : Type 0} (old new : Option (List A)) (rest all : List A) : Type 0 where
   pub done : List A

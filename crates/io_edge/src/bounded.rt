@@ -4,6 +4,7 @@ ghost use Rattle.std.specs.Prelude.{◌≡◌, ◌≤◌, [], ◌∷◌, IfOk, I
 ghost use Rattle.io_edge.specs.Faults.{Rose};
 ghost use Rattle.io_edge.specs.Files.{Finds};
 ghost use Rattle.io_edge.specs.Taken.{Appends, AppendsFront};
+ghost use Rattle.io_edge.specs.Unread.{StopsAt};
 ghost use Rattle.io_edge.specs.declared.bounded.ReadEnd.TheVariants.{NoMemory};
 
 use crate::{FileEnd, Files};
@@ -37,7 +38,7 @@ impl From<text_core::NoMemory> for ReadEnd {
 
 /// The bytes of the file of this name, or None where there are more than `most`. The name is asked for once, unless memory runs out.
 ///
-/// Errors: `Failed`, where the file was not read; and `NoMemory`.
+/// Errors: `Failed`, where the file was not read, and its name is the last that was asked for; and `NoMemory`.
 pub fn read_file<F: Files>(
     alloc: Global,
     files: &mut F,
@@ -50,6 +51,7 @@ pub fn read_file<F: Files>(
     ensures asked { OnOk result (Appends (F.asked files.old) (F.asked files.new) (name.now ∷ [])) }
     ensures front { AppendsFront (F.asked files.old) (F.asked files.new) (name.now ∷ []) }
     ensures failed { IsErrOf result ReadEnd.Failed → Rose (F.fault_count files.old) (F.fault_count files.new) }
+    ensures unread { IsErrOf result ReadEnd.Failed → StopsAt F.asked F.fault_count files.old files.new (name.now ∷ []) }
     ensures later { F.fault_count files.old ≤ F.fault_count files.new }
 {
     match files.read_all(alloc, name, most) {

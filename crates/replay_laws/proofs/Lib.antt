@@ -1,2 +1,3 @@
 mod FirstNamed
 mod Bound
+mod SeekCosts

@@ -2,8 +2,9 @@
 use Rattle.std.proofs.Common.{◌≡◌, ◌<◌, ◌≤◌, ℕ, Bool, true, false, ◌||◌, ◌==◌, List, length, Option, Some, None, Result, Ok, Err, refl, sym, ap, ◌∙◌, subst, IsTrue, ◌⊎◌, inl, inr, arith}
 use Rattle.std.specs.Prelude.{IfSome, OnErr}
 use Rattle.std.proofs.lemmas.Bool.Decides.{nat_tests}
-use Rattle.io_edge.specs.Taken.{Appends, AppendsFront}
+use Rattle.io_edge.specs.Taken.{Appends, AppendsFront, Grows}
 use Rattle.io_edge.proofs.Growth.{no_growth}
+use Rattle.io_edge.proofs.Stops.{grows_whole, grows_front}
 use Rattle.listen.specs.Pairs.{Heard}
 use Rattle.symtab.specs.declared.parts.TableParts.{TableParts}
 use Rattle.symtab_json.specs.declared.fault.TableFault.{TableFault}
@@ -17,9 +18,9 @@ use Rattle.io_edge.specs.Files.{Finds}
 use Rattle.trace_judge.specs.Judgement.{JudgesTrace, told_trace}
 use Rattle.machine_core.proofs.Readers.{some_reader}
 use Rattle.batch_run.specs.Texts.{batch_text, most_requests, requests_fault}
-use Rattle.replay_run.specs.Asked.{Names, Contents, HoldsTable, HoldsTrace, HoldsRequests, AsksReplay, NoTable, NoTrace, NoRequests, Accepted, TakesFileLine, EndsAsAsked, TakesFront, TakesSome, Completes, is_status}
+use Rattle.replay_run.specs.Asked.{Names, Contents, HoldsTable, HoldsTrace, HoldsRequests, AsksReplay, NoTable, NoTrace, NoRequests, Accepted, AsksRefused, AsksByStatus, names_of, TakesFileLine, EndsAsAsked, TakesFront, TakesSome, Completes, is_status}
 use Rattle.batch_run.specs.Batch.{TakesOutput, TakesOutputFront}
-use Rattle.replay_run.specs.Judged.{HasLine, Judges, judged_status, IsTextOf, TakesText, TakesTextFront, TakesWalk, TakesWalkFront}
+use Rattle.replay_run.specs.Judged.{HasLine, Judges, asked_for, judged_status, IsTextOf, TakesText, TakesTextFront, TakesWalk, TakesWalkFront}
 use Rattle.replay_run.specs.declared.judge.Judged.{Judged}
 use Rattle.replay_run.specs.declared.judge.Judged.TheVariants as judged
 
@@ -146,6 +147,60 @@ requests_line_taken heard status (judged.NoTable fault) old new six is t = absur
 requests_line_taken heard status (judged.NoTrace fault) old new six is t = absurd (let same : 6 ≡ 5 = sym six ∙ is in cc)
 requests_line_taken heard status judged.NoRequests old new six is t = t.taken requests_fault refl
 requests_line_taken heard status (judged.Walked walk) old new six is t = absurd (let same : 6 ≡ 0 = sym six ∙ is in cc)
+
+-- ---- the files that were asked for
+
+some_files : (heard : List Heard) (names : Names) (judged : Judged) (a b : Option (List (List ℕ))) (old new : Option (List ℕ)) → 5 ≡ judged_status judged → HasLine judged → Appends a b (asked_for names judged) → TakesText heard judged old new
+    → AsksRefused names a b old new
+some_files heard names (judged.NoTable fault) a b old new is line p t = inl (record { fault = fault; refuses = line; taken = t.taken (table_line fault) refl }, p)
+some_files heard names (judged.NoTrace fault) a b old new is line p t = inr (record { fault = fault; refuses = line; taken = t.taken (trace_line fault) refl }, p)
+some_files heard names judged.NoRequests a b old new is line p t = absurd (let same : 5 ≡ 6 = is in cc)
+some_files heard names (judged.Walked walk) a b old new is line p t = absurd (let same : 5 ≡ 0 = is in cc)
+
+all_files : (names : Names) (judged : Judged) (a b : Option (List (List ℕ))) (status : ℕ) → (status ≡ 0) ⊎ (status ≡ 6) → status ≡ judged_status judged → Appends a b (asked_for names judged) → Appends a b (names_of names)
+all_files names (judged.NoTable fault) a b status late is p = elim late [ inl z ↦ absurd (let same : 0 ≡ 5 = sym z ∙ is in cc) | inr s ↦ absurd (let same : 6 ≡ 5 = sym s ∙ is in cc) ]
+all_files names (judged.NoTrace fault) a b status late is p = elim late [ inl z ↦ absurd (let same : 0 ≡ 5 = sym z ∙ is in cc) | inr s ↦ absurd (let same : 6 ≡ 5 = sym s ∙ is in cc) ]
+all_files names judged.NoRequests a b status late is p = p
+all_files names (judged.Walked walk) a b status late is p = p
+
+early_5 : (status : ℕ) → status ≡ 5 → status < 7
+early_5 status e = omega arith
+
+early_late : (status : ℕ) → (status ≡ 0) ⊎ (status ≡ 6) → status < 7
+early_late status e = elim e [ inl z ↦ omega arith | inr s ↦ omega arith ]
+
+pub files_asked : (heard : List Heard) (names : Names) (judged : Judged) (status : ℕ) (a b : Option (List (List ℕ))) (old new : Option (List ℕ)) → HasLine judged → Appends a b (asked_for names judged)
+    → (status < 7 → status ≡ judged_status judged) → (status < 7 → TakesText heard judged old new) → AsksByStatus names status a b old new
+files_asked heard names judged status a b old new line p is early = record {
+  some = λ five. some_files heard names judged a b old new (sym five ∙ is (early_5 status five)) line p (early (early_5 status five));
+  all = λ late. all_files names judged a b status late (is (early_late status late)) p;
+}
+
+-- where the status is late nothing is said of them
+pub files_late : (names : Names) (status : ℕ) (a b : Option (List (List ℕ))) (old new : Option (List ℕ)) → 7 ≤ status → AsksByStatus names status a b old new
+files_late names status a b old new late = record {
+  some = λ five. absurd (omega (arith, late, early_5 status five));
+  all = λ few. absurd (omega (arith, late, early_late status few));
+}
+
+-- ---- what stays in front
+
+some_text : (heard : List Heard) (judged : Judged) → (text : List ℕ) × IsTextOf heard judged text
+some_text heard (judged.NoTable fault) = (table_line fault, refl)
+some_text heard (judged.NoTrace fault) = (trace_line fault, refl)
+some_text heard judged.NoRequests = (requests_fault, refl)
+some_text heard (judged.Walked walk) = (batch_text some_reader.0 (trace_world walk.table (samples_of walk.trace)) heard walk.requests.items, (some_reader.0, some_reader.1, refl))
+
+pub ends_grown : (heard : List Heard) (judged : Judged) (status : ℕ) (old new : Option (List ℕ)) → IsTrue (is_status status) → (status < 7 → TakesText heard judged old new) → (status ≡ 7 → ⊥)
+    → (7 < status → TakesTextFront heard judged old new) → Grows old new
+ends_grown heard judged status old new known early seven late =
+    let text = some_text heard judged in
+    elim (late_status status known) [
+      | inl h ↦ grows_whole old new text.0 ((early h).taken text.0 text.1)
+      | inr (inl e) ↦ absurd (seven e)
+      | inr (inr (inl e)) ↦ grows_front old new text.0 ((late (omega arith)).taken text.0 text.1)
+      | inr (inr (inr e)) ↦ grows_front old new text.0 ((late (omega arith)).taken text.0 text.1)
+    ]
 
 -- ---- where the files are told
 

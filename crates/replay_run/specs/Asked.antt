@@ -112,6 +112,16 @@ pub record TakesTraceLine (old new : Option (List ℕ)) : Type 0 where
 abbrev pub TakesFileLine : Option (List ℕ) → Option (List ℕ) → Type 0
 TakesFileLine old new = TakesTableLine old new ⊎ TakesTraceLine old new
 
+-- the files that were asked for: the symbol file alone where it is refused, that and the dump file where this is, and else all, in the
+-- order of the words
+abbrev pub AsksRefused : Names → (asked_old asked_new : Option (List (List ℕ))) → (old new : Option (List ℕ)) → Type 0
+AsksRefused names asked_old asked_new old new =
+    (TakesTableLine old new × Appends asked_old asked_new (names.symbols ∷ [])) ⊎ (TakesTraceLine old new × Appends asked_old asked_new (names.symbols ∷ names.dump ∷ []))
+
+pub record AsksByStatus (names : Names) (status : ℕ) (asked_old asked_new : Option (List (List ℕ))) (old new : Option (List ℕ)) : Type 0 where
+  pub some : status ≡ 5 → AsksRefused names asked_old asked_new old new
+  pub all : (status ≡ 0) ⊎ (status ≡ 6) → Appends asked_old asked_new (names_of names)
+
 -- with the text that is asked for, of which the whole was taken
 pub record EndsAsAsked (heard : List Heard) (files : Contents) (names : Names) (status : ℕ) (old new : Option (List ℕ)) : Type 0 where
   pub text : List ℕ

@@ -1,5 +1,5 @@
 -- A replay, judged, and the text that goes with what was judged.
-use Rattle.std.specs.Prelude.{◌≡◌, ◌≢◌, ℕ, List, Option, Some, None, Ok, Err}
+use Rattle.std.specs.Prelude.{◌≡◌, ◌≢◌, ℕ, List, [], ◌∷◌, Option, Some, None, Ok, Err}
 use Rattle.io_edge.specs.Taken.{Appends, AppendsFront}
 use Rattle.listen.specs.Pairs.{Heard}
 use Rattle.symtab.specs.declared.parts.TableParts.{TableParts}
@@ -27,6 +27,16 @@ Judges files names (judged.NoTrace fault) = (parts : TableParts) × HoldsTable f
 Judges files names judged.NoRequests = (parts : TableParts) × HoldsTable files names (Ok parts) × ((samples : Samples) × HoldsTrace files names parts (Ok samples)) × HoldsRequests files names None
 Judges files names (judged.Walked walk) =
     HoldsTable files names (Ok walk.table) × HoldsTrace files names walk.table (Ok (samples_of walk.trace)) × HoldsRequests files names (Some walk.requests.items)
+
+-- the names that were asked for before it was judged so, and those of them behind the symbol file
+abbrev pub asked_behind : Names → Judged → List (List ℕ)
+asked_behind names (judged.NoTable fault) = []
+asked_behind names (judged.NoTrace fault) = names.dump ∷ []
+asked_behind names judged.NoRequests = names.dump ∷ names.requests ∷ []
+asked_behind names (judged.Walked walk) = names.dump ∷ names.requests ∷ []
+
+abbrev pub asked_for : Names → Judged → List (List ℕ)
+asked_for names j = names.symbols ∷ asked_behind names j
 
 -- what was refused has a line
 abbrev pub HasLine : Judged → Type 0

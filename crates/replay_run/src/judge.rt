@@ -2,9 +2,10 @@
 
 ghost use Rattle.std.specs.Prelude.{◌≡◌, ◌≤◌, ◌<◌, [], ◌∷◌, Ok, IfOk, IfSome, IsErrOf, IsTrue, length};
 ghost use Rattle.io_edge.specs.Faults.{Rose};
-ghost use Rattle.io_edge.specs.Taken.{AppendsFront};
+ghost use Rattle.io_edge.specs.Taken.{Appends, AppendsFront};
+ghost use Rattle.io_edge.specs.Unread.{StopsAt};
 ghost use Rattle.replay_run.specs.Asked.{names_of, HoldsTable, is_status};
-ghost use Rattle.replay_run.specs.Judged.{HasLine, Judges, judged_status, names_as};
+ghost use Rattle.replay_run.specs.Judged.{HasLine, Judges, asked_behind, asked_for, judged_status, names_as};
 
 use crate::walk::Walk;
 use io_edge::{Files, MOST_REQUESTS, ReadEnd, read_file};
@@ -58,8 +59,11 @@ fn judge_walk<F: Files>(
 ) -> Result<Judged, ReadEnd>
     ensures judged { IfOk result (λ judged. IfSome (F.told files.old) (λ told. HoldsTable told (names_as replay.now) (Ok table) → Judges told (names_as replay.now) judged)) }
     ensures line { IfOk result HasLine }
+    ensures same { F.told files.new ≡ F.told files.old }
+    ensures asked { IfOk result (λ judged. Appends (F.asked files.old) (F.asked files.new) (asked_behind (names_as replay.now) judged)) }
     ensures front { AppendsFront (F.asked files.old) (F.asked files.new) (replay.now.dump.now ∷ replay.now.requests.now ∷ []) }
     ensures failed { IsErrOf result ReadEnd.Failed → Rose (F.fault_count files.old) (F.fault_count files.new) }
+    ensures unread { IsErrOf result ReadEnd.Failed → StopsAt F.asked F.fault_count files.old files.new (replay.now.dump.now ∷ replay.now.requests.now ∷ []) }
     ensures later { F.fault_count files.old ≤ F.fault_count files.new }
 {
     let trace = match judge_trace(alloc, files, replay.dump, &table, replay.scope)? {
@@ -84,8 +88,11 @@ pub(crate) fn judge<F: Files>(
 ) -> Result<Judged, ReadEnd>
     ensures judged { IfOk result (λ judged. IfSome (F.told files.old) (λ told. Judges told (names_as replay.now) judged)) }
     ensures line { IfOk result HasLine }
+    ensures same { F.told files.new ≡ F.told files.old }
+    ensures asked { IfOk result (λ judged. Appends (F.asked files.old) (F.asked files.new) (asked_for (names_as replay.now) judged)) }
     ensures front { AppendsFront (F.asked files.old) (F.asked files.new) (names_of (names_as replay.now)) }
     ensures failed { IsErrOf result ReadEnd.Failed → Rose (F.fault_count files.old) (F.fault_count files.new) }
+    ensures unread { IsErrOf result ReadEnd.Failed → StopsAt F.asked F.fault_count files.old files.new (names_of (names_as replay.now)) }
     ensures later { F.fault_count files.old ≤ F.fault_count files.new }
 {
     match judge_table(alloc, files, replay.symbols)? {

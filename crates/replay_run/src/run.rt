@@ -2,9 +2,10 @@
 
 ghost use Rattle.std.specs.Prelude.{◌≡◌, ◌≤◌, ◌<◌, IfSome, IsTrue, length, map};
 ghost use Rattle.io_edge.specs.Faults.{Rose};
-ghost use Rattle.io_edge.specs.Taken.{Appends, AppendsFront};
+ghost use Rattle.io_edge.specs.Taken.{Appends, AppendsFront, Grows};
+ghost use Rattle.io_edge.specs.Unread.{StopsAt};
 ghost use Rattle.batch_run.specs.Texts.{requests_fault};
-ghost use Rattle.replay_run.specs.Asked.{names_of, is_status, TakesFileLine, EndsAsAsked, TakesSome, Completes};
+ghost use Rattle.replay_run.specs.Asked.{names_of, is_status, AsksByStatus, TakesFileLine, EndsAsAsked, TakesSome, Completes};
 ghost use Rattle.replay_run.specs.Judged.{TakesText, TakesTextFront, judged_status, names_as};
 
 use crate::judge::{Judged, Replay, judge};
@@ -22,6 +23,7 @@ fn end<S: Sink>(alloc: Global, judged: Judged, listeners: Vec<Box<dyn Listener>>
     ensures no_read { result ≡ 7 → ⊥ }
     ensures write { result ≡ 8 → Rose (S.fault_count out.old) (S.fault_count out.new) }
     ensures front { 7 < result → TakesTextFront (map (λ b. heard b) listeners.items) judged (S.taken out.old) (S.taken out.new) }
+    ensures later { S.fault_count out.old ≤ S.fault_count out.new }
 {
     let status = judged.status();
     match write(alloc, judged, listeners, out) {
@@ -43,6 +45,7 @@ fn end<S: Sink>(alloc: Global, judged: Judged, listeners: Vec<Box<dyn Listener>>
 /// | 7 | a file was not read | nothing |
 /// | 8 | the output failed | a front of it |
 /// | 9 | memory ran out | a front of it |
+#[tactic(auto, using(crate::proofs::Ending::files_late, io_edge::proofs::Stops::grows_not))]
 pub fn run_replay<F: Files, S: Sink>(
     alloc: Global,
     replay: &Replay<'_>,
@@ -63,8 +66,10 @@ pub fn run_replay<F: Files, S: Sink>(
     ensures complete { IfSome (F.told files.old) (λ told. Completes (map (λ b. heard b) listeners.items) told (names_as replay.now) result (S.taken out.old) (S.taken out.new)
         (Rose (F.fault_count files.old) (F.fault_count files.new)) (Rose (S.fault_count out.old) (S.fault_count out.new))) }
 
-    // The files that are asked for are those of the replay, in their order.
+    // The files that are asked for are those of the replay, in their order: up to the one that is refused, or that was not read.
     ensures asked { AppendsFront (F.asked files.old) (F.asked files.new) (names_of (names_as replay.now)) }
+    ensures files { AsksByStatus (names_as replay.now) result (F.asked files.old) (F.asked files.new) (S.taken out.old) (S.taken out.new) }
+    ensures unread { result ≡ 7 → StopsAt F.asked F.fault_count files.old files.new (names_of (names_as replay.now)) }
 
     // A fault of the files, before anything was written; a fault of the output, or want of memory: a front of the text.
     ensures read { result ≡ 7 → Rose (F.fault_count files.old) (F.fault_count files.new) }
@@ -72,6 +77,12 @@ pub fn run_replay<F: Files, S: Sink>(
     ensures write { result ≡ 8 → Rose (S.fault_count out.old) (S.fault_count out.new) }
     ensures front { 7 < result
         → IfSome (F.told files.old) (λ told. TakesSome (map (λ b. heard b) listeners.items) told (names_as replay.now) (S.taken out.old) (S.taken out.new)) }
+
+    // What stays: what the files tell, the bytes that the sink took before, and no count falls.
+    ensures same { F.told files.new ≡ F.told files.old }
+    ensures kept { Grows (S.taken out.old) (S.taken out.new) }
+    ensures read_later { F.fault_count files.old ≤ F.fault_count files.new }
+    ensures write_later { S.fault_count out.old ≤ S.fault_count out.new }
 {
     match judge(alloc, replay, files) {
         Ok(judged) => end(alloc, judged, listeners, out),

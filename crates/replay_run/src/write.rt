@@ -19,6 +19,7 @@ fn write_line<S: Sink>(line: &[u8], out: &mut S) -> Result<(), SinkEnd>
     ensures ok { OnOk result (Appends (S.taken out.old) (S.taken out.new) line.now) }
     ensures front { OnErr result (AppendsFront (S.taken out.old) (S.taken out.new) line.now) }
     ensures failed { IsErrOf result SinkEnd.Failed → Rose (S.fault_count out.old) (S.fault_count out.new) }
+    ensures later { S.fault_count out.old ≤ S.fault_count out.new }
 {
     out.put(line)?;
     Ok(())
@@ -35,6 +36,7 @@ fn write_walk<S: Sink>(
     ensures ok { OnOk result (TakesWalk (map (λ b. heard b) listeners.items) walk.table (samples_of walk.trace) walk.requests.items (S.taken out.old) (S.taken out.new)) }
     ensures front { OnErr result (TakesWalkFront (map (λ b. heard b) listeners.items) walk.table (samples_of walk.trace) walk.requests.items (S.taken out.old) (S.taken out.new)) }
     ensures failed { IsErrOf result SinkEnd.Failed → Rose (S.fault_count out.old) (S.fault_count out.new) }
+    ensures later { S.fault_count out.old ≤ S.fault_count out.new }
 {
     let Walk {
         table,
@@ -55,6 +57,7 @@ pub(crate) fn write<S: Sink>(
     ensures ok { OnOk result (TakesText (map (λ b. heard b) listeners.items) judged (S.taken out.old) (S.taken out.new)) }
     ensures front { OnErr result (TakesTextFront (map (λ b. heard b) listeners.items) judged (S.taken out.old) (S.taken out.new)) }
     ensures failed { IsErrOf result SinkEnd.Failed → Rose (S.fault_count out.old) (S.fault_count out.new) }
+    ensures later { S.fault_count out.old ≤ S.fault_count out.new }
 {
     match judged {
         Judged::NoTable(fault) => write_line(&table_line(alloc, fault)?, out),

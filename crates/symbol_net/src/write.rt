@@ -6,6 +6,9 @@ ghost use Rattle.io_edge.specs.Taken.{Appends, AppendsFront};
 ghost use Rattle.design_core.specs.DesignView.{design_of};
 ghost use Rattle.check_core.specs.Verdict.{verdict};
 ghost use Rattle.place_core.specs.Orders.{TellsOrder};
+ghost use Rattle.net_core.specs.Nets.{NetParts};
+ghost use Rattle.symtab.specs.declared.parts.TableParts.{TableParts};
+ghost use Rattle.trim_core.specs.Trimmed.{IsTrimmed};
 ghost use Rattle.trim_core.specs.KeptTable.{kept_table};
 ghost use Rattle.symbol_net.specs.Line.{symbols_line};
 
@@ -42,6 +45,7 @@ pub fn write_symbols<S: Sink>(
     requires order { TellsOrder (design_of design.now) order.now }
     ensures ok { OnOk result (Appends (S.taken out.old) (S.taken out.new) (symbols_line (kept_table (design_of design.now) (length order.now) mode))) }
     ensures front { OnErr result (AppendsFront (S.taken out.old) (S.taken out.new) (symbols_line (kept_table (design_of design.now) (length order.now) mode))) }
+    ensures compiled { OnOk result ((net : NetParts) × (parts : TableParts) × IsTrimmed (design_of design.now) (length order.now) mode net parts) }
     ensures failed { IsErrOf result SinkEnd.Failed → Rose (S.fault_count out.old) (S.fault_count out.new) }
     ensures later { S.fault_count out.old ≤ S.fault_count out.new }
 {

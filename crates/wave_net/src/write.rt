@@ -6,6 +6,9 @@ ghost use Rattle.io_edge.specs.Taken.{Appends, AppendsFront};
 ghost use Rattle.design_core.specs.DesignView.{design_of};
 ghost use Rattle.check_core.specs.Verdict.{verdict};
 ghost use Rattle.place_core.specs.Orders.{TellsOrder};
+ghost use Rattle.net_core.specs.Nets.{NetParts};
+ghost use Rattle.symtab.specs.declared.parts.TableParts.{TableParts};
+ghost use Rattle.trim_core.specs.Trimmed.{IsTrimmed};
 ghost use Rattle.trim_core.specs.KeptNet.{kept_net};
 ghost use Rattle.verilog_net.specs.Printing.{HasPorts};
 ghost use Rattle.vcd_write.specs.Run.{waves_text};
@@ -36,6 +39,7 @@ pub fn write_waves<S: Sink>(
     requires ports { HasPorts (design_of design.now) stim.ports }
     ensures ok { OnOk result (Appends (S.taken out.old) (S.taken out.new) (waves_text (kept_net (design_of design.now) (length order.now) mode) stim)) }
     ensures front { OnErr result (AppendsFront (S.taken out.old) (S.taken out.new) (waves_text (kept_net (design_of design.now) (length order.now) mode) stim)) }
+    ensures compiled { OnOk result ((net : NetParts) × (parts : TableParts) × IsTrimmed (design_of design.now) (length order.now) mode net parts) }
     ensures failed { IsErrOf result SinkEnd.Failed → Rose (S.fault_count out.old) (S.fault_count out.new) }
     ensures later { S.fault_count out.old ≤ S.fault_count out.new }
 {

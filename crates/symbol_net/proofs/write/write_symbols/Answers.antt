@@ -26,3 +26,6 @@ returns-clause-front g c =
     let text : c.deref.result.now ≡ symbols_line (kept_table (design_of c.args.design.now) (length c.args.order.now) c.args.mode) =
     whole ∙ c.in_ok-line.ensures ∙ ap symbols_line (compiled_tables_are_kept (design_of c.args.design.now) (length c.args.order.now) c.args.mode c.in_ok-compiled.compiled.net c.in_ok-compiled.compiled.table c.in_ok-compiled.ensures.ok) in
     on_err_weaker c.put_all.result (λ taken. subst (λ (l : List ℕ). AppendsFront (g.S.Sink.taken c.args.out.now) (g.S.Sink.taken c.put_all.new.out) l) text taken) c.put_all.ensures.front
+
+pub returns-clause-compiled : goal.returns-clause-compiled
+returns-clause-compiled g c = on_ok_weaker c.put_all.result (λ taken. (c.in_ok-compiled.compiled.net, c.in_ok-compiled.compiled.table, c.in_ok-compiled.ensures.ok)) c.put_all.ensures.ok

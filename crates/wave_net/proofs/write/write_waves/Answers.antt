@@ -50,3 +50,6 @@ returns-clause-front g c =
     let text : waves_text c.in_ok-trace.trace.net c.in_ok-trace.trace.stim ≡ waves_text (kept_net (design_of c.args.design.now) (length c.args.order.now) c.args.mode) c.args.stim =
     (λ i. waves_text (net i) (stim i)) ∙ compiled_waves (design_of c.args.design.now) (length c.args.order.now) c.args.mode c.in_ok-net.field-0.net c.args.stim sound c.in_ok-net.ensures.ok.is_kept in
     on_err_weaker c.write_vcd.result (λ taken. subst (λ (l : List ℕ). AppendsFront (g.S.Sink.taken c.args.out.now) (g.S.Sink.taken c.write_vcd.new.out) l) text taken) c.write_vcd.ensures.front
+
+pub returns-clause-compiled : goal.returns-clause-compiled
+returns-clause-compiled g c = on_ok_weaker c.write_vcd.result (λ taken. (c.in_ok-net.field-0.net, c.in_ok-net.field-0.table, c.in_ok-net.ensures.ok)) c.write_vcd.ensures.ok
