@@ -11,8 +11,7 @@ use Rattle.machine_core.specs.declared.reply.Reply.{Reply}
 use Rattle.machine_core.specs.declared.turn.Notice.{Notice}
 use Rattle.machine_core.specs.Reading.{Reader, IsReader}
 use Rattle.machine_core.specs.Machine.{Machine, Answer, answer_of}
-use Rattle.machine_core.specs.Journal.{Line, Replied, Noticed, Ran, behind, until_idle, is_bye, batch_from, closed, closing_lines}
-use Rattle.dbg_core.specs.Answering.{answered_lines}
+use Rattle.machine_core.specs.Journal.{Line, Replied, Noticed, Ran, behind, until_idle, is_bye, batch_from, closed, closing_lines, answered_lines}
 use Rattle.req_json.specs.Asked.{asked}
 use Rattle.batch_run.specs.Texts.{lines_of, requests_of, line_text, session_text}
 use Rattle.batch_run.specs.Batch.{output_from, TakesBatch, TakesBatchFront}

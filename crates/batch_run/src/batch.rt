@@ -4,10 +4,9 @@ ghost use Rattle.std.specs.Prelude.{◌≡◌, ◌≤◌, ◌++◌, [], IfOk, On
 ghost use Rattle.io_edge.specs.Faults.{Rose};
 ghost use Rattle.io_edge.specs.Taken.{Appends, AppendsFront};
 ghost use Rattle.io_edge.specs.Waiting.{Passes};
-ghost use Rattle.machine_core.specs.Journal.{is_bye, closing_lines};
+ghost use Rattle.machine_core.specs.Journal.{is_bye, closing_lines, answered_lines};
 ghost use Rattle.dbg_core.specs.World.{world_of};
 ghost use Rattle.dbg_core.specs.State.{machine_of};
-ghost use Rattle.dbg_core.specs.Answering.{answered_lines};
 ghost use Rattle.req_json.specs.Asked.{asked};
 ghost use Rattle.batch_run.specs.Texts.{session_text};
 ghost use Rattle.batch_run.specs.Batch.{TakesBatch, TakesBatchFront};

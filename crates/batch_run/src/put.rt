@@ -1,8 +1,7 @@
 //! The lines of a session, behind a text that waits.
 
 ghost use Rattle.std.specs.Prelude.{◌≡◌, ◌++◌, ◌∷◌, [], OnOk, map};
-ghost use Rattle.machine_core.specs.Journal.{Replied, Noticed};
-ghost use Rattle.dbg_core.specs.Answering.{told_lines, answered_lines};
+ghost use Rattle.machine_core.specs.Journal.{Replied, Noticed, told_lines, answered_lines};
 ghost use Rattle.batch_run.specs.Texts.{line_text, session_text};
 
 use dbg_core::{Answered, Notice, Reply};

@@ -1,3 +1,4 @@
+pub mod Ascii
 pub mod Conditions
 pub mod Evaluated
 pub mod FirstPlace
@@ -8,5 +9,7 @@ pub mod Nodes
 pub mod Offsets
 pub mod Refill
 pub mod Sizes
+pub mod Spans
 pub mod Strict
 pub mod Tests
+pub mod Typing

@@ -1,6 +1,6 @@
 -- Names that are found one after another are all found, or the first is refused; and a form at their places is the expression's tree over
 -- them, of the width that is judged.
-use Rattle.std.proofs.Common.{◌≡◌, ◌+◌, ◌<◌, ◌-◌, arith, length, get_or, drop, drop-cons, suc, ℕ, List, [], ◌∷◌, ◌++◌, Option, Some, None, Ok, Err, map, refl, sym, ap, ◌∙◌, append_assoc, append-nil}
+use Rattle.std.proofs.Common.{◌≡◌, ◌+◌, ◌<◌, ◌-◌, arith, length, get_or, drop, drop-cons, suc, ℕ, List, [], ◌∷◌, ◌++◌, Option, Some, None, Ok, Err, map, refl, sym, ap, subst, ◌∙◌, append_assoc, append-nil}
 use Rattle.std.specs.Prelude.{option_map, Result, IfOk, IfErr}
 use Rattle.bv_core.specs.declared.Ref.{Ref}
 use Rattle.bv_core.specs.declared.Binding.{Binding}
@@ -61,6 +61,27 @@ next_found places names i refs more x y o at h is same found told more_is =
     ∙ ap (λ (l : List Ref). found_after places l (drop (suc i) names)) more_is
     ∙ ap (λ (r : Result Ref Refusal). and_then r (λ at. found_after places (refs ++ at ∷ []) (drop (suc i) names))) (sym here)
     ∙ ap (found_after places refs) (sym first)
+
+-- what is refused at once is refused whatever follows
+refused_then : (end : BindEnd) (r : Result Ref Refusal) (f : Ref → Result (List Ref) Refusal) → Refuses end r → Refuses end (and_then r f)
+refused_then (ends.Unknown x) (Ok at) f h = absurd cc
+refused_then (ends.Unknown x) (Err refusal) f h = let same : refusal ≡ not_in_scope x = cc in ap Err same
+refused_then (ends.Removed x) (Ok at) f h = absurd cc
+refused_then (ends.Removed x) (Err refusal) f h = let same : refusal ≡ was_removed x = cc in ap Err same
+refused_then (ends.Unset x) (Ok at) f h = absurd cc
+refused_then (ends.Unset x) (Err refusal) f h = let same : refusal ≡ is_unset x = cc in ap Err same
+refused_then (ends.Width offset) (Ok at) f h = absurd cc
+refused_then (ends.Width offset) (Err refusal) f h = let same : refusal ≡ misfit offset = cc in ap Err same
+refused_then ends.NoMemory r f h = tt
+
+-- the next name is refused
+pub next_refused : (places : Name → Option Binding) (names : List Name) (i : ℕ) (refs : List Ref) (x y : Name) (o : Option Binding) (end : BindEnd)
+    → i < length names → x ≡ get_or names i x → y ≡ x → o ≡ places y → Refuses end (name_ref y o) → Refuses end (found_after places refs (drop i names))
+next_refused places names i refs x y o end h is same found told =
+    let first : drop i names ≡ x ∷ drop (suc i) names = drop-cons names i x h ∙ ap (λ (z : Name). z ∷ drop (suc i) names) (sym is) in
+    let here : name_ref y o ≡ name_ref x (places x) = ap (name_ref y) found ∙ ap (λ (z : Name). name_ref z (places z)) same in
+    subst (λ (l : List Name). Refuses end (found_after places refs l)) (sym first)
+    (refused_then end (name_ref x (places x)) (λ at. found_after places (refs ++ at ∷ []) (drop (suc i) names)) (subst (Refuses end) here told))
 
 -- ---- all of it
 

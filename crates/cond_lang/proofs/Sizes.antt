@@ -29,7 +29,7 @@ plain_behind un_op.Any = refl
 plain_behind un_op.Parity = refl
 
 -- the tokens before the first operand, by whether a mark stands between the two
-abbrev front : Option Mark → ℕ
+abbrev pub front : Option Mark → ℕ
 front (Some m) = 1
 front None = 2
 
@@ -74,7 +74,7 @@ two_long (Some k) A B m n ts rest a b (t1, p, (t2, q, (t3, r, (t4, s, t)))) = om
 two_long None A B m n ts rest a b (t1, p, (t2, q, (t3, r, (t4, s, (t5, t, u))))) =
     omega (arith, one_long _ ts t1 p, one_long _ t1 t2 q, a t2 t3 r, one_long _ t3 t4 s, b t4 t5 t, one_long _ t5 rest u)
 
-prim_expr : (m : Dialect) (e : Expr) (ts rest : List Tok) → SpellsPrim m e ts rest → SpellsExpr m e ts rest
+pub prim_expr : (m : Dialect) (e : Expr) (ts rest : List Tok) → SpellsPrim m e ts rest → SpellsExpr m e ts rest
 prim_expr m (read f) ts rest h = h
 prim_expr m (out f q) ts rest h = h
 prim_expr m (value l) ts rest h = h

@@ -2,17 +2,20 @@
 use Rattle.std.specs.Prelude.{◌≡◌, ℕ, List, [], ◌∷◌, ◌++◌, Option, Some, None, Result, Ok, Err}
 use Rattle.std.specs.Borrow.{Bor}
 use Rattle.std.specs.Fn.{Shared}
-use Rattle.std.specs.Str.{IsUtf8}
+use Rattle.list_core.specs.Lists.{EachOf}
 use Rattle.bv_core.specs.declared.Ref.{Ref}
 use Rattle.bv_core.specs.declared.Binding.{Binding}
 use Rattle.bv_core.specs.declared.Binding.TheVariants as binding
 use Rattle.cond_lang.specs.Names.{Name}
 use Rattle.cond_lang.specs.Judged.{Refusal, not_in_scope, was_removed, is_unset}
 
--- what calls of `find` answer: what each name stands for. A list of bytes that is no text is no name
-pub record Finds {F : Type 0} (calls : Shared F (Bor (List ℕ) × Unit {0}) (Option Binding)) (find : F) (places : Name → Option Binding) : Type 0 where
-  pub says : (name : Bor (List ℕ)) (found : Option Binding) → calls.post find (name, tt) found → found ≡ places name.now
-  pub texts : (x : Name) → (IsUtf8 x → ⊥) → places x ≡ None
+-- what calls of `find` answer for a name: what it stands for
+abbrev pub Says : {F : Type 0} → Shared F (Bor (List ℕ) × Unit {0}) (Option Binding) → F → (Name → Option Binding) → Name → Type 0
+Says calls find places x = (name : Bor (List ℕ)) (found : Option Binding) → name.now ≡ x → calls.post find (name, tt) found → found ≡ places x
+
+-- for each of these names; what is answered for others is nobody's matter
+pub record Finds {F : Type 0} (calls : Shared F (Bor (List ℕ) × Unit {0}) (Option Binding)) (find : F) (places : Name → Option Binding) (names : List Name) : Type 0 where
+  pub each : EachOf (Says calls find places) names
 
 -- where the value of a name is found, or why it has none
 abbrev pub name_ref : Name → Option Binding → Result Ref Refusal

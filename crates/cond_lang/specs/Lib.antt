@@ -15,3 +15,4 @@ pub mod Shown
 pub mod Single
 pub mod Strict
 pub mod TextShown
+pub mod Typed

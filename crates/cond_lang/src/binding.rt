@@ -2,12 +2,15 @@
 //! a value is told whatever does not fit.
 
 ghost use Rattle.std.specs.Prelude.{◌≡◌, Option, Ok, IfOk, IfErr, []};
+ghost use Rattle.std.specs.Str.{IsUtf8};
+ghost use Rattle.list_core.specs.Lists.{EachOf};
 ghost use Rattle.bv_core.specs.declared.Binding as binding;
 ghost use Rattle.cond_lang.specs.Names.{Name};
 ghost use Rattle.cond_lang.specs.Judged.{judged};
+ghost use Rattle.cond_lang.specs.Meaning.{tree_of, leaves};
 ghost use Rattle.cond_lang.specs.Bound.{IsRef, scope_of, bound_by};
 ghost use Rattle.cond_lang.specs.Faults.{Refuses, Makes, TellsFound};
-ghost use Rattle.cond_lang.specs.Found.{Finds, name_ref, found_after};
+ghost use Rattle.cond_lang.specs.Found.{Says, Finds, name_ref, found_after};
 ghost use Rattle.cond_lang.specs.Places.{AreRefs, bound_at};
 ghost use Rattle.cond_lang.specs.Shown.{cond_tree, cond_width};
 ghost use Rattle.cond_lang.specs.TextShown.{text_expr, text_offsets};
@@ -21,10 +24,11 @@ use std::alloc::Global;
 use std::sync::Arc;
 use text_core::Text;
 
-/// What a name stands for. Names are texts, so other bytes stand for nothing.
+/// What a name stands for, which is a text.
 fn found<F: Fn(&str) -> Option<Binding>>(name: &[u8], find: &F) -> Option<Binding>
-    requires { F.IsAlwaysCallable find.now }
-    ensures { (places : Name → Option binding.Binding) → Finds F.Fn find.now places → result ≡ places name.now }
+    requires callable { F.IsAlwaysCallable find.now }
+    requires text { IsUtf8 name.now }
+    ensures { (places : Name → Option binding.Binding) → Says F.Fn find.now places name.now → result ≡ places name.now }
 {
     match std::str::from_utf8(name) {
         Ok(name) => find(name),
@@ -57,9 +61,10 @@ fn refs_of<F: Fn(&str) -> Option<Binding>>(
     names: &[Text],
     find: &F,
 ) -> Result<Vec<Ref>, BindEnd>
-    requires { F.IsAlwaysCallable find.now }
+    requires callable { F.IsAlwaysCallable find.now }
+    requires texts { EachOf (λ name. IsUtf8 name) names.now }
     ensures good { IfOk result (λ refs. AreRefs refs.items) }
-    ensures found { (places : Name → Option binding.Binding) → Finds F.Fn find.now places → TellsFound (λ refs. refs.items) result (found_after places [] names.now) }
+    ensures found { (places : Name → Option binding.Binding) → Finds F.Fn find.now places names.now → TellsFound (λ refs. refs.items) result (found_after places [] names.now) }
 {
     let mut refs = Vec::new(alloc);
     for name in names {
@@ -88,8 +93,8 @@ fn cond_at(text: &CondText, refs: Vec<Ref>) -> Result<Cond, BindEnd>
     }
 }
 
-/// The condition that a text is at a place, where `find` answers what a name stands for there. It is asked once for each name in
-/// the text, in the order in which they first come, however often they stand there.
+/// The condition that a text is at a place, where `find` answers what each name of the text stands for there. It is asked once for each
+/// of them, in the order in which they first come, however often they stand there, and for no other.
 ///
 /// # Errors
 ///
@@ -101,9 +106,9 @@ pub fn bind<F: Fn(&str) -> Option<Binding>>(
     find: &F,
 ) -> Result<Cond, BindEnd>
     requires { F.IsAlwaysCallable find.now }
-    ensures width { (places : Name → Option binding.Binding) → Finds F.Fn find.now places → IfOk result (λ cond. judged (scope_of places) (text_expr text.now) (text_offsets text.now) ≡ Ok (cond_width cond)) }
-    ensures bound { (places : Name → Option binding.Binding) → Finds F.Fn find.now places → IfOk result (λ cond. cond_tree cond ≡ bound_by places (text_expr text.now)) }
-    ensures refused { (places : Name → Option binding.Binding) → Finds F.Fn find.now places → IfErr result (λ end. Refuses end (judged (scope_of places) (text_expr text.now) (text_offsets text.now))) }
+    ensures width { (places : Name → Option binding.Binding) → Finds F.Fn find.now places (leaves (tree_of (text_expr text.now))) → IfOk result (λ cond. judged (scope_of places) (text_expr text.now) (text_offsets text.now) ≡ Ok (cond_width cond)) }
+    ensures bound { (places : Name → Option binding.Binding) → Finds F.Fn find.now places (leaves (tree_of (text_expr text.now))) → IfOk result (λ cond. cond_tree cond ≡ bound_by places (text_expr text.now)) }
+    ensures refused { (places : Name → Option binding.Binding) → Finds F.Fn find.now places (leaves (tree_of (text_expr text.now))) → IfErr result (λ end. Refuses end (judged (scope_of places) (text_expr text.now) (text_offsets text.now))) }
 {
     let refs = refs_of(alloc, &text.names, find)?;
     cond_at(text, refs)

@@ -20,7 +20,7 @@ mod widths;
 pub use binding::bind;
 pub use cond::Cond;
 pub use fault::{BindEnd, CondFault};
-pub use laws::one_answer;
+pub use laws::{one_answer, parts_are_spelled, widths_are_told};
 pub use read::read_cond;
 pub use text::CondText;
 pub use value::{truth, value_of};

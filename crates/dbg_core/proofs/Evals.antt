@@ -37,42 +37,27 @@ use Rattle.machine_core.specs.declared.reply.Body.TheVariants as body
 use Rattle.machine_core.specs.Reading.{Reading, Condition, NoCondition, Reader, IsReader}
 use Rattle.machine_core.specs.Matching.{value_there}
 use Rattle.machine_core.specs.Machine.{sample_of, threads_at}
-use Rattle.slot_sched.specs.Arm.{is_ascii, ascii_binding}
 use Rattle.slot_sched.specs.Waiting.{cycle_samples, IsSet, IsValue, IsNodeOf}
 use Rattle.slot_sched.proofs.Matches.{shown_told}
-use Rattle.slot_sched.proofs.Names.{AreAscii, names_ascii}
 use Rattle.slot_sched.proofs.Readings.{read_never}
-use Rattle.slot_sched.proofs.Scopes.{judged_told, judged_alike, bound_alike}
+use Rattle.slot_sched.proofs.Scopes.{judged_told}
 use Rattle.slot_sched.proofs.Tests.{each_weaker, wide}
 use Rattle.slot_sched.proofs.Values.{bound_value_is, value_told, node_of}
 use Rattle.slot_sched.specs.Scan.{total_of}
 use Rattle.dbg_core.specs.World.{world_of}
 use Rattle.dbg_core.specs.Answering.{judged_body, read_body, eval_body}
-use Rattle.dbg_core.specs.Eval.{is_refused_so, is_unread_so, value_or, AreFound, text_body, table_body}
+use Rattle.dbg_core.specs.Eval.{is_refused_so, is_unread_so, value_or, text_body, table_body}
 use Rattle.dbg_core.proofs.Positions.{slots_told}
 use Rattle.dbg_core.proofs.Threads.{cycle_inside, slot_inside}
 use Rattle.dbg_core.proofs.Values.{any_in}
 
--- ---- names
-
-ascii_all : (bytes : List ℕ) → AreAscii bytes → list_all is_ascii bytes ≡ true
-ascii_all [] h = refl
-ascii_all (byte ∷ bytes) h = ap₂ (λ a b. a && b) (lt-ltb byte 128 h.0) (ascii_all bytes h.1)
-
-found_each : (parts : TableParts) (k i : ℕ) (xs : List Name) → EachOf AreAscii xs → EachOf (λ x. ascii_binding parts k i x ≡ binding_of parts k i x) xs
-found_each parts k i [] h = tt
-found_each parts k i (x ∷ xs) h = (ap (λ b. if b then binding_of parts k i x else None) (ascii_all x h.0), found_each parts k i xs h.1)
-
-pub read_found : (parts : TableParts) (k i : ℕ) (bytes : List ℕ) (text : CondText) → Reads bytes (text_expr text) (text_offsets text) → AreFound parts k i text
-read_found parts k i bytes text h = found_each parts k i (leaves (tree_of (text_expr text))) (names_ascii bytes h.tokens (text_expr text) h.are h.spelled)
-
 -- ---- nodes
 
 -- those of a condition that was bound may be asked for, and have their widths
-pub nodes_own : (parts : TableParts) → IsTable parts → (s : Samples) → FitsTable parts s → (k i : ℕ) (text : CondText) → AreFound parts k i text → (tree : Tree Ref)
-    → tree ≡ bound_by (ascii_binding parts k i) (text_expr text) → EachNode (IsNodeOf s) tree
-nodes_own parts table s fits k i text found tree e =
-    subst (EachNode (IsNodeOf s)) (sym (e ∙ bound_alike (ascii_binding parts k i) (binding_of parts k i) (text_expr text) found))
+pub nodes_own : (parts : TableParts) → IsTable parts → (s : Samples) → FitsTable parts s → (k i : ℕ) (text : CondText) (tree : Tree Ref)
+    → tree ≡ bound_by (binding_of parts k i) (text_expr text) → EachNode (IsNodeOf s) tree
+nodes_own parts table s fits k i text tree e =
+    subst (EachNode (IsNodeOf s)) (sym e)
     (each_place (IsNodeOf s) (λ x. ref_or_nought (binding_of parts k i x)) (λ x. node_of parts table s fits k i x (binding_of parts k i x) refl) (tree_of (text_expr text)))
 
 pub each_asked_for : (s : Samples) (Q : NodeId → ℕ → Type 0) (tree : Tree Ref) → EachNode (IsNodeOf s) tree → ((n : NodeId) (w : ℕ) → n.0 < s.nodes → Q n w) → EachNode Q tree
@@ -93,13 +78,10 @@ sample_is (Known b) (Some c) e = ap Known (let f : b ≡ c = cc in f)
 sample_is Unknown None e = refl
 sample_is Unknown (Some c) e = cc
 
-pub bound_body : (parts : TableParts) (samples : ℕ → Sample) (k i : ℕ) (text : CondText) (value : Sample) (width : ℕ) (tree : Tree Ref) → AreFound parts k i text
-    → judged (scope_of (ascii_binding parts k i)) (text_expr text) (text_offsets text) ≡ Ok width → tree ≡ bound_by (ascii_binding parts k i) (text_expr text)
+pub bound_body : (parts : TableParts) (samples : ℕ → Sample) (k i : ℕ) (text : CondText) (value : Sample) (width : ℕ) (tree : Tree Ref)
+    → judged (scope_of (binding_of parts k i)) (text_expr text) (text_offsets text) ≡ Ok width → tree ≡ bound_by (binding_of parts k i) (text_expr text)
     → bound.known value ≡ bound_value (λ node. samples node.0) tree → body.Eval value ≡ text_body parts samples k i text
-bound_body parts samples k i text value width tree found fits e known =
-    let own : judged (scope_of (binding_of parts k i)) (text_expr text) (text_offsets text) ≡ Ok width =
-    sym (judged_alike (ascii_binding parts k i) (binding_of parts k i) (text_expr text) (text_offsets text) found) ∙ fits in
-    let same : tree ≡ bound_by (binding_of parts k i) (text_expr text) = e ∙ bound_alike (ascii_binding parts k i) (binding_of parts k i) (text_expr text) found in
+bound_body parts samples k i text value width tree own same known =
     let is : bound.known value ≡ cond.value_by (λ x. world.value_by samples (binding_of parts k i x)) (text_expr text) =
     known ∙ ap (bound_value (λ node. samples node.0)) same ∙ bound_value_is samples (binding_of parts k i) (text_expr text) (text_offsets text) own in
     ap body.Eval (sample_is value _ is) ∙ ap (value_or samples (binding_of parts k i) k (text_expr text)) (sym own)
@@ -113,11 +95,10 @@ refused_ok : (r : Result Body NoMemory) (j : Result ℕ Refusal) (samples : ℕ 
 refused_ok (Ok told) j samples places k e h = refused_is samples places k e j told h
 refused_ok (Err end) j samples places k e h = h
 
-pub unbound_body : (parts : TableParts) (samples : ℕ → Sample) (k i : ℕ) (text : CondText) (r : Result Body NoMemory) → AreFound parts k i text
-    → IfOk r (is_refused_so k (judged (scope_of (ascii_binding parts k i)) (text_expr text) (text_offsets text))) → IfOk r (λ told. told ≡ text_body parts samples k i text)
-unbound_body parts samples k i text r found h =
-    refused_ok r (judged (scope_of (binding_of parts k i)) (text_expr text) (text_offsets text)) samples (binding_of parts k i) k (text_expr text)
-    (subst (λ j. IfOk r (is_refused_so k j)) (judged_alike (ascii_binding parts k i) (binding_of parts k i) (text_expr text) (text_offsets text) found) h)
+pub unbound_body : (parts : TableParts) (samples : ℕ → Sample) (k i : ℕ) (text : CondText) (r : Result Body NoMemory)
+    → IfOk r (is_refused_so k (judged (scope_of (binding_of parts k i)) (text_expr text) (text_offsets text))) → IfOk r (λ told. told ≡ text_body parts samples k i text)
+unbound_body parts samples k i text r h =
+    refused_ok r (judged (scope_of (binding_of parts k i)) (text_expr text) (text_offsets text)) samples (binding_of parts k i) k (text_expr text) h
 
 -- a text that is none
 pub unread_body : (parts : TableParts) (samples : ℕ → Sample) (k i : ℕ) (read : Reader) → IsReader read → (text : List ℕ) (fault : CondFault) (r : Result Body NoMemory) → IsCause text fault

@@ -16,12 +16,12 @@ use Rattle.machine_core.specs.declared.reply.At.{At}
 use Rattle.machine_core.specs.declared.reply.At.TheVariants.{Start, End, Position}
 use Rattle.machine_core.specs.declared.reply.Body.TheVariants as body
 use Rattle.machine_core.specs.Positions.{position_count, cycle_at, slot_at, at_place}
-use Rattle.machine_core.specs.Machine.{told, shown_there, names_at, threads_at}
+use Rattle.machine_core.specs.Machine.{told, shown_there, names_at, threads_at, threads_of, values_of}
 use Rattle.slot_sched.specs.Waiting.{cycle_samples, is_thread, any_steps}
 use Rattle.slot_sched.specs.Scan.{total_of}
 use Rattle.slot_sched.proofs.Matches.{number_told, shown_told}
 use Rattle.dbg_core.specs.World.{world_of}
-use Rattle.dbg_core.specs.Answering.{threads_of, values_of, thread_there}
+use Rattle.dbg_core.specs.Answering.{thread_there}
 use Rattle.dbg_core.specs.Shown.{names_of, row_shown}
 use Rattle.dbg_core.proofs.Own.{any_listed}
 use Rattle.dbg_core.proofs.Positions.{slots_told, place_behind, stands_at, stands_so}

@@ -1,5 +1,5 @@
 -- What the answer to a request rests on, part by part, and what it leaves.
-use Rattle.std.specs.Prelude.{ℕ, zero, suc, ◌+◌, ◌-◌, Bool, true, false, List, [], ◌∷◌, ◌++◌, map, Option, Some, None, Result, Ok, Err, nat_eq, set, if◌then◌else◌}
+use Rattle.std.specs.Prelude.{ℕ, ◌+◌, ◌-◌, List, [], ◌∷◌, ◌++◌, map, Option, Some, None, Result, Ok, Err, nat_eq, set, if◌then◌else◌}
 use Rattle.std.specs.List.{list_any}
 use Rattle.listen.specs.Pairs.{Heard}
 use Rattle.exec_core.specs.Block.{Name}
@@ -10,17 +10,15 @@ use Rattle.world_core.specs.World.{World}
 use Rattle.cond_lang.specs.Judged.{Refusal, judged}
 use Rattle.machine_core.specs.declared.reply.Body.{Body}
 use Rattle.machine_core.specs.declared.reply.Body.TheVariants as body
-use Rattle.machine_core.specs.declared.reply.Shown.{Shown}
 use Rattle.machine_core.specs.declared.turn.Motion.{Motion}
 use Rattle.machine_core.specs.declared.turn.Motion.TheVariants.{Idle, Running}
-use Rattle.machine_core.specs.declared.turn.Notice.{Notice}
 use Rattle.machine_core.specs.Positions.{cycle_at, slot_at, at_place}
 use Rattle.machine_core.specs.Reading.{Reading, Condition, NoCondition}
 use Rattle.machine_core.specs.Matching.{Breakpoint, value_there}
 use Rattle.machine_core.specs.Arming.{instance_named, scope_at, refusal_at}
-use Rattle.machine_core.specs.Machine.{Machine, Answer, way_going, position_of, line_at, threads_at, gens_at, names_at, thread_paths, shown_there, sample_of}
 use Rattle.machine_core.specs.declared.reply.Reply.{Reply}
-use Rattle.machine_core.specs.Journal.{Line, Replied, Noticed}
+use Rattle.machine_core.specs.Journal.{Replied, Ran, behind, after_answer}
+use Rattle.machine_core.specs.Machine.{Machine, Answer, way_going, position_of, line_at, threads_at, gens_at, names_at, thread_paths, shown_there, sample_of}
 
 -- a machine that answers with this
 abbrev pub answered : Machine → Option ℕ → Body → Answer
@@ -28,33 +26,14 @@ answered m id told = record { after = m; reply = record { seq = m.ordinal; id = 
 
 -- ---- turns
 
-abbrev pub is_running : Motion → Bool
-is_running Idle = false
-is_running (Running way want) = true
-
 -- how many of so many positions lie ahead of a place
 abbrev pub left_ahead : ℕ → Way → ℕ → ℕ
 left_ahead total Forward place = total - place
 left_ahead total Backward place = place - 1
 
--- the threads at a place; there are none at the start or the end
-abbrev pub threads_of : World → ℕ → List ℕ
-threads_of w zero = []
-threads_of w (suc p) = threads_at w p
-
--- what the names in scope at a place show in a thread
-abbrev pub values_of : World → ℕ → ℕ → List (Name × Shown)
-values_of w zero i = []
-values_of w (suc p) i = map (shown_there w p i) (names_at w (slot_at w p))
-
--- a notice as a line, if there is one
-abbrev pub told_lines : Option Notice → List Line
-told_lines None = []
-told_lines (Some notice) = Noticed notice ∷ []
-
--- a reply, and what is told behind it
-abbrev pub answered_lines : Reply → Option Notice → List Line
-answered_lines reply notice = Replied reply ∷ told_lines notice
+-- a reply, and what is told of the turns behind it, until the machine is idle; the last reply alone
+abbrev pub followed : World → Reply → Machine → Ran
+followed w reply m = behind (Replied reply ∷ []) (after_answer w (record { after = m; reply = reply }) (λ left. record { after = left; lines = [] }))
 
 -- ---- where it stands
 

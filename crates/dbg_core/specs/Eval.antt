@@ -3,7 +3,6 @@ use Rattle.std.specs.Prelude.{◌≡◌, ℕ, List, Option, Result, Ok, Err}
 use Rattle.bv_core.specs.declared.reference.Binding.{Binding}
 use Rattle.bv_core.specs.declared.reference.Sample.{Sample}
 use Rattle.exec_core.specs.Block.{Name}
-use Rattle.list_core.specs.Lists.{EachOf}
 use Rattle.gen_tree.specs.Tree.{Expr}
 use Rattle.symtab.specs.declared.parts.TableParts.{TableParts}
 use Rattle.symtab.specs.Lookups.{binding_of}
@@ -14,14 +13,12 @@ use Rattle.cond_lang.specs.declared.fault.CondFault.TheVariants as cond_faults
 use Rattle.cond_lang.specs.Bound.{scope_of}
 use Rattle.cond_lang.specs.Judged.{Refusal, judged}
 use Rattle.cond_lang.specs.Meaning as cond
-use Rattle.cond_lang.specs.Meaning.{tree_of, leaves}
 use Rattle.cond_lang.specs.TextShown.{text_expr, text_offsets}
 use Rattle.machine_core.specs.declared.reply.Body.{Body}
 use Rattle.machine_core.specs.declared.reply.Body.TheVariants as body
 use Rattle.machine_core.specs.Reading.{Reading, Condition, NoCondition}
 use Rattle.machine_core.specs.Arming.{refusal_at}
 use Rattle.machine_core.specs.Machine.{sample_of}
-use Rattle.slot_sched.specs.Arm.{ascii_binding}
 
 -- what is answered where it has no value
 abbrev pub is_refused_so : ℕ → Result ℕ Refusal → Body → Type 0
@@ -40,10 +37,6 @@ value_or samples places k e (Ok width) = body.Eval (sample_of (cond.value_by (λ
 
 abbrev pub expr_body : (ℕ → Sample) → (Name → Option Binding) → ℕ → Expr → List ℕ → Body
 expr_body samples places k e offsets = value_or samples places k e (judged (scope_of places) e offsets)
-
--- the names of a text that was read are ASCII, so they are found as they are looked up
-abbrev pub AreFound : TableParts → (slot instance : ℕ) → CondText → Type 0
-AreFound parts k i text = EachOf (λ x. ascii_binding parts k i x ≡ binding_of parts k i x) (leaves (tree_of (text_expr text)))
 
 -- of a text that was read, and of one by its reading
 abbrev pub text_body : TableParts → (ℕ → Sample) → (slot instance : ℕ) → CondText → Body

@@ -1,19 +1,17 @@
-//! How a breakpoint is armed for a request, and what is answered. Where its answer finds no memory, the breakpoint is taken back, its
-//! number too.
+//! How a breakpoint is armed for a request, and what is answered. Its answer is made before it is armed, so nothing is armed for which
+//! the answer finds no memory.
 
-ghost use Rattle.std.specs.Prelude.{◌≡◌, ◌<◌, ◌+◌, ◌++◌, List, [], ◌∷◌, Some, IfOk, OnOk, OnErr, length, map, option_map};
-ghost use Rattle.symtab.specs.declared.parts.TableParts.{TableParts};
+ghost use Rattle.std.specs.Prelude.{◌≡◌, Some, IfOk, OnErr, length, map, option_map};
 ghost use Rattle.trace_core.specs.Samples.{Samples};
-ghost use Rattle.machine_core.specs.Arming.{breakpoint_on};
-ghost use Rattle.machine_core.specs.Matching.{Breakpoint};
+ghost use Rattle.machine_core.specs.Arming.{breakpoint_on, limit_refusal, unless_refused};
 ghost use Rattle.machine_core.specs.Reading.{Reader, IsReader};
-ghost use Rattle.slot_sched.specs.Arm.{answer_for};
+ghost use Rattle.slot_sched.specs.Arm.{answer_for, as_breakpoint, IsArmable};
 ghost use Rattle.slot_sched.specs.Armed.{breakpoints, next_number, AreOf};
 ghost use Rattle.dbg_core.specs.World.{world_of};
 ghost use Rattle.dbg_core.specs.Answering.{broken};
 
 use machine_core::Body;
-use slot_sched::{ArmFault, Schedule};
+use slot_sched::{ArmFault, Schedule, Unarmed, prepare};
 use std::alloc::Global;
 use symtab::Table;
 use text_core::{Listed, NoMemory};
@@ -34,32 +32,23 @@ fn refusal(fault: ArmFault) -> Result<Body, NoMemory>
     }
 }
 
-/// The slots of the breakpoint that was armed last.
-fn last_slots(alloc: Global, schedule: &Schedule) -> Result<Listed<u32>, NoMemory>
-    ensures { (front : List Breakpoint) (last : Breakpoint) → breakpoints schedule.now ≡ front ++ last ∷ [] → IfOk result (λ slots. slots ≡ last.slots) }
+/// Arms what was prepared. Gives what is answered, a refusal too. For want of memory all is as before.
+fn commit_asked(
+    alloc: Global,
+    schedule: &mut Schedule,
+    table: &Table,
+    unarmed: Unarmed,
+) -> Result<Body, NoMemory>
+    requires armable { IsArmable table.now unarmed }
+    ensures body { IfOk result (λ body. (breakpoints schedule.new, next_number schedule.new, body) ≡ broken (unless_refused (limit_refusal (length (breakpoints schedule.old)) (next_number schedule.old)) (as_breakpoint (next_number schedule.old) unarmed)) (breakpoints schedule.old) (next_number schedule.old)) }
+    ensures kept { OnErr result (breakpoints schedule.new ≡ breakpoints schedule.old) }
+    ensures same { OnErr result (next_number schedule.new ≡ next_number schedule.old) }
+    ensures own { AreOf table.now schedule.old → AreOf table.now schedule.new }
 {
-    match schedule.slots(schedule.len().saturating_sub(1)) {
-        Some(slots) => Ok(Listed::new(slots.to_vec(alloc)?)),
-        None => Ok(Listed::new(Vec::new(alloc))),
-    }
-}
-
-/// What is answered to a breakpoint that was armed under this number. For want of memory it is taken back.
-fn armed(alloc: Global, schedule: &mut Schedule, bp: u64) -> Result<Body, NoMemory>
-    requires given { 1 < next_number schedule.old }
-    ensures body { (front : List Breakpoint) (last : Breakpoint) → breakpoints schedule.old ≡ front ++ last ∷ [] → IfOk result (λ body. body ≡ Body.Break bp last.slots) }
-    ensures breakpoints { OnOk result (breakpoints schedule.new ≡ breakpoints schedule.old) }
-    ensures next { OnOk result (next_number schedule.new ≡ next_number schedule.old) }
-    ensures taken { OnErr result ((front : List Breakpoint) (last : Breakpoint) → breakpoints schedule.old ≡ front ++ last ∷ [] → breakpoints schedule.new ≡ front) }
-    ensures back { OnErr result (next_number schedule.new + 1 ≡ next_number schedule.old) }
-    ensures own { (parts : TableParts) → AreOf parts schedule.old → AreOf parts schedule.new }
-{
-    match last_slots(alloc, schedule) {
-        Ok(slots) => Ok(Body::Break { bp, slots }),
-        Err(NoMemory) => {
-            schedule.take_back();
-            Err(NoMemory)
-        }
+    let slots = Listed::new(unarmed.slots().to_vec(alloc)?);
+    match schedule.commit(table, unarmed) {
+        Ok(bp) => Ok(Body::Break { bp, slots }),
+        Err(limit) => refusal(limit),
     }
 }
 
@@ -78,8 +67,8 @@ pub(crate) fn break_asked(
     ensures same { OnErr result (next_number schedule.new ≡ next_number schedule.old) }
     ensures own { AreOf table.now schedule.old → AreOf table.now schedule.new }
 {
-    match schedule.arm(table, line, path, text) {
-        Ok(bp) => armed(alloc, schedule, bp),
+    match prepare(alloc, table, line, path, text) {
+        Ok(unarmed) => commit_asked(alloc, schedule, table, unarmed),
         Err(fault) => refusal(fault),
     }
 }

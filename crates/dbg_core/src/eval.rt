@@ -1,7 +1,6 @@
 //! What an expression comes to in a thread.
 
 ghost use Rattle.std.specs.Prelude.{◌≡◌, ◌<◌, ℕ, Contains, IfOk, Result};
-ghost use Rattle.std.specs.List.{list_all};
 ghost use Rattle.symtab.specs.Lookups.{instances_of};
 ghost use Rattle.trace_world.specs.Fitting.{FitsTable};
 ghost use Rattle.cond_lang.specs.Bound.{EachNode, known, bound_value};
@@ -9,40 +8,17 @@ ghost use Rattle.cond_lang.specs.Faults.{Refuses};
 ghost use Rattle.cond_lang.specs.Judged.{Refusal, judged};
 ghost use Rattle.cond_lang.specs.Shown.{cond_tree};
 ghost use Rattle.machine_core.specs.Reading.{Reader, IsReader};
-ghost use Rattle.slot_sched.specs.Arm.{is_ascii, ascii_binding};
 ghost use Rattle.slot_sched.specs.Waiting.{cycle_samples, IsSet, IsValue, IsNodeOf};
-ghost use Rattle.dbg_core.specs.Eval.{AreFound, text_body, table_body, is_refused_so, is_unread_so};
+ghost use Rattle.dbg_core.specs.Eval.{text_body, table_body, is_refused_so, is_unread_so};
 
-use bv_core::{Binding, NodeId, Sample};
+use bv_core::{NodeId, Sample};
 use cond_lang::{BindEnd, Cond, CondFault, CondText, bind, read_cond, value_of};
 use machine_core::Body;
+use slot_sched::sample_at;
 use std::alloc::Global;
 use symtab::Table;
 use text_core::NoMemory;
 use trace_core::Trace;
-
-/// Whether each byte is ASCII, as each of an expression's names is.
-fn is_ascii(name: &str) -> bool
-    ensures { result ≡ list_all is_ascii name.now }
-{
-    for byte in name.as_bytes() {
-        if *byte >= 128 {
-            return false;
-        }
-    }
-    true
-}
-
-/// What a name of an expression stands for at a slot of an instance.
-fn binding_of(table: &Table, slot: u32, instance: u32, name: &str) -> Option<Binding>
-    requires { Contains (instances_of table.now slot) instance }
-    ensures { result ≡ ascii_binding table.now slot instance name.now }
-{
-    if !is_ascii(name) {
-        return None;
-    }
-    table.binding(slot, instance, name)
-}
 
 /// Why an expression has no value at a slot, by the end of its binding there.
 fn refusal(end: BindEnd, slot: u32) -> Result<Body, NoMemory>
@@ -65,20 +41,6 @@ fn unread(fault: CondFault) -> Result<Body, NoMemory>
         CondFault::At { offset } => Ok(Body::BadCondAt { offset }),
         CondFault::NoMemory => Err(NoMemory),
     }
-}
-
-/// The sample of a node.
-fn sample_at<T: Trace>(trace: &T, node: NodeId) -> Sample
-    requires set { IsSet (T.samples trace.now) (T.cursor trace.now) }
-    requires node { node.0 < (T.samples trace.now).nodes }
-    ensures sample { result ≡ cycle_samples (T.samples trace.now) (T.cursor trace.now) node.0 }
-    ensures value { IsValue result }
-{
-    let sample = trace.value(node);
-    if let Sample::Known(value) = sample {
-        let _width = value.width();
-    }
-    sample
 }
 
 /// What a condition comes to, in the cycle at which the trace stands.
@@ -108,14 +70,13 @@ fn bound<T: Trace>(
     requires fits { FitsTable table.now (T.samples trace.now) }
     requires set { IsSet (T.samples trace.now) (T.cursor trace.now) }
     requires there { Contains (instances_of table.now slot) instance }
-    requires found { AreFound table.now slot instance text.now }
     ensures { IfOk result (λ body. body ≡ text_body table.now (cycle_samples (T.samples trace.now) (T.cursor trace.now)) slot instance text.now) }
 {
     let _parts = table.parts();
     match bind(
         alloc,
         text,
-        &|name: &str| binding_of(table, slot, instance, name),
+        &|name: &str| table.binding(slot, instance, name),
     ) {
         Ok(cond) => Ok(Body::Eval {
             value: come_to(trace, &cond),

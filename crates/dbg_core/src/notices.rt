@@ -2,9 +2,8 @@
 
 ghost use Rattle.std.specs.Prelude.{◌≡◌, Some, IfOk};
 ghost use Rattle.trace_world.specs.Fitting.{FitsTable};
-ghost use Rattle.machine_core.specs.Journal.{notices_of};
+ghost use Rattle.machine_core.specs.Journal.{notices_of, told_lines};
 ghost use Rattle.dbg_core.specs.World.{world_of};
-ghost use Rattle.dbg_core.specs.Answering.{told_lines};
 
 use crate::position::{gens_at, paths_of, threads_in};
 use listen::StopNote;

@@ -3,7 +3,7 @@
 
 ghost use Rattle.std.specs.Prelude.{◌≡◌, ◌<◌, ◌^◌, true, All, Contains, IfOk, Some, length, option_map, slice_get};
 ghost use Rattle.symtab.specs.Lookups.{instances_of, row_of};
-ghost use Rattle.trace_core.specs.Known.{known, is_one};
+ghost use Rattle.trace_core.specs.Known.{known};
 ghost use Rattle.trace_world.specs.TraceWorld.{found_by};
 ghost use Rattle.trace_world.specs.Fitting.{FitsTable};
 ghost use Rattle.slot_sched.specs.Waiting.{cycle_samples, IsSet, any_steps, is_thread};
@@ -11,20 +11,11 @@ ghost use Rattle.dbg_core.specs.Shown.{IsAmong, IsCellAmong, slot_threads, cell_
 
 use bv_core::{Binding, Ref, Sample};
 use machine_core::Shown;
+use slot_sched::is_thread;
 use std::alloc::Global;
 use symtab::{Cells, Table};
 use text_core::{NoMemory, Text};
 use trace_core::Trace;
-
-/// Whether a sample is known and is 1.
-fn is_one(sample: Sample) -> bool
-    ensures { result ≡ is_one (known sample) }
-{
-    match sample {
-        Sample::Known(value) => value.value() == 1,
-        Sample::Unknown => false,
-    }
-}
 
 /// What is found here: a node's sample, or a literal.
 fn found<T: Trace>(trace: &T, at: Ref) -> Sample
@@ -36,16 +27,6 @@ fn found<T: Trace>(trace: &T, at: Ref) -> Sample
         Ref::Node(node, _) => trace.value(node),
         Ref::Const(value) => Sample::Known(value),
     }
-}
-
-/// Whether an instance has a slot as a thread.
-fn is_thread<T: Trace>(table: &Table, trace: &T, slot: u32, instance: u32) -> bool
-    requires fits { FitsTable table.now (T.samples trace.now) }
-    requires set { IsSet (T.samples trace.now) (T.cursor trace.now) }
-    requires instance { Contains (instances_of table.now slot) instance }
-    ensures { result ≡ is_thread table.now (cycle_samples (T.samples trace.now) (T.cursor trace.now)) slot instance }
-{
-    is_one(found(trace, table.enable(slot, instance)))
 }
 
 /// Whether this instance is a thread of a slot.

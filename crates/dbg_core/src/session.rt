@@ -39,10 +39,10 @@ pub struct Session<T: Trace> {
 impl<T: Trace> Session<T> {
     ghost use Rattle.listen.specs.Pairs.{Heard};
     ghost use Rattle.machine_core.specs.declared.turn.Motion.TheVariants.{Running};
-    ghost use Rattle.machine_core.specs.Machine.{Turn, opening, stopped_at, edge_turn, moved_turn, turn_of};
-    ghost use Rattle.machine_core.specs.Journal.{Ran, notices_of, until_idle};
+    ghost use Rattle.machine_core.specs.Machine.{Turn, opening, stopped_at, edge_turn, moved_turn, turn_of, is_running, threads_of, values_of};
+    ghost use Rattle.machine_core.specs.Journal.{Ran, notices_of, until_idle, told_lines};
     ghost use Rattle.dbg_core.specs.World.{world_of};
-    ghost use Rattle.dbg_core.specs.Answering.{is_running, left_ahead, threads_of, values_of, told_lines};
+    ghost use Rattle.dbg_core.specs.Answering.{left_ahead};
     ghost use Rattle.dbg_core.specs.State.{machine_of};
 
     /// A session at the start, idle, with no breakpoint, over a table and a trace that fits it. Takes no memory.

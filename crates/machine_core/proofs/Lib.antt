@@ -1,4 +1,5 @@
 pub mod Keeps
 pub mod Ends
 pub mod Nearest
+pub mod Numbers
 pub mod Readers

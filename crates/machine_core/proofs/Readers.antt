@@ -1,5 +1,5 @@
 -- Each text is read in one way.
-use Rattle.std.proofs.Common.{◌≡◌, ℕ, zero, suc, ◌+◌, ◌-◌, ◌<◌, ◌≤◌, ◌==◌, ◌&&◌, ◌||◌, Bool, true, false, not, List, [], ◌∷◌, ◌++◌, length, length-append, append-nil, Option, Some, None, Result, Ok, Err, refl, sym, ap, ap₂, ◌∙◌, arith, if◌then◌else◌}
+use Rattle.std.proofs.Common.{◌≡◌, ℕ, zero, suc, ◌+◌, ◌<◌, ◌≤◌, ◌==◌, ◌&&◌, ◌||◌, Bool, true, false, not, List, [], ◌∷◌, length, length-append, append-nil, Option, Some, None, Result, Ok, Err, refl, sym, ap, ap₂, arith, if◌then◌else◌}
 use Rattle.std.specs.Prelude.{min, position}
 use Rattle.gen_token.specs.Bytes.{is_text_byte, is_blank, begins}
 use Rattle.gen_token.specs.Spelling.{IsTokenOf}
@@ -9,9 +9,8 @@ use Rattle.gen_token.proofs.Beginnings.{text_begins}
 use Rattle.gen_token.proofs.ReadToken.{exact}
 use Rattle.gen_tree.specs.Tree.{Expr}
 use Rattle.cond_lang.specs.declared.fault.CondFault.TheVariants as cond_faults
-use Rattle.cond_lang.specs.Faults.{IsFormCause}
 use Rattle.cond_lang.specs.Reader.{cond_at}
-use Rattle.cond_lang.specs.Reading.{start, offset_behind, offsets_from, offset_of, Reads, ReadsForm, IsFirstPlace, IsFirstForm, AreTaken}
+use Rattle.cond_lang.specs.Reading.{start, offset_behind, offsets_from, offset_of, ReadsForm, IsFirstForm, AreTaken}
 use Rattle.cond_lang.proofs.FirstPlace as first
 use Rattle.machine_core.specs.Reading.{Reading, Condition, NoCondition, IsReading, Reader, IsReader}
 

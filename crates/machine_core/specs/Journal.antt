@@ -1,5 +1,5 @@
 -- What a session puts out: for a journal of requests and turns, and for a batch of requests each of which is waited for.
-use Rattle.std.specs.Prelude.{ℕ, zero, suc, ◌+◌, Bool, true, false, List, [], ◌∷◌, ◌++◌, map, Option, Some, None, if◌then◌else◌}
+use Rattle.std.specs.Prelude.{◌≡◌, ◌⊎◌, ℕ, zero, suc, ◌+◌, Bool, true, false, List, [], ◌∷◌, ◌++◌, map, Option, Some, None, if◌then◌else◌}
 use Rattle.std.specs.List.{enumerate_from, flat_map}
 use Rattle.listen.specs.Pairs.{Heard}
 use Rattle.world_core.specs.World.{World, path_in}
@@ -28,6 +28,15 @@ notices_of w turned.Moved = []
 notices_of w (turned.Stopped note) = Noticed (notice.Stopped note (gens_at w note.slot) (map (path_in w) (w.threads note.cycle note.slot))) ∷ []
 notices_of w turned.AtEnd = Noticed notice.Ended ∷ []
 notices_of w turned.AtStart = Noticed notice.Start ∷ []
+
+-- what is told, if there is something
+abbrev pub told_lines : Option Notice → List Line
+told_lines None = []
+told_lines (Some notice) = Noticed notice ∷ []
+
+-- a reply, and what is told behind it
+abbrev pub answered_lines : Reply → Option Notice → List Line
+answered_lines reply notice = Replied reply ∷ told_lines notice
 
 -- the closing lines: one for each listener that remains, with its pairs
 abbrev pub closing_line : ℕ × Option Heard → List Line
@@ -100,3 +109,10 @@ batch_from read w (asked ∷ rest) m =
 -- the output of a batch over a world, as it is seen, from listeners that mean this
 abbrev pub batch_output : Reader → World → List Heard → List Asked → List Line
 batch_output read w heard requests = closed (batch_from read (seen w) requests (opening heard))
+
+-- ---- what is left where memory ran out
+
+-- a request that was to be answered, with the turns behind it, as a batch of it alone: all is as before, or as they leave it, and what is
+-- lost is what they tell
+abbrev pub IsLeft : Reader → World → Asked → (old new : Machine) → Type 0
+IsLeft read w asked old new = (new ≡ old) ⊎ (new ≡ (batch_from read w (asked ∷ []) old).after)

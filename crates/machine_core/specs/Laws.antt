@@ -1,16 +1,19 @@
 -- Laws of the machine.
-use Rattle.std.specs.Prelude.{◌≡◌, ℕ, ◌+◌, ◌-◌, ◌^◌, ◌≤◌, min, List, Option, Some, None, find}
+use Rattle.std.specs.Prelude.{◌≡◌, ℕ, ◌+◌, ◌-◌, ◌^◌, ◌≤◌, min, List, [], ◌∷◌, ◌++◌, Option, Some, None, find}
+use Rattle.list_core.specs.Lists.{from}
 use Rattle.listen.specs.Pairs.{Heard}
 use Rattle.world_core.specs.World.{World, AreSame}
 use Rattle.machine_core.specs.declared.request.Asked.{Asked}
+use Rattle.machine_core.specs.declared.reply.Body.TheVariants as body
 use Rattle.machine_core.specs.declared.turn.Motion.TheVariants.{Idle, Running}
 use Rattle.trace_core.specs.declared.scan.Way.{Way}
 use Rattle.trace_core.specs.declared.scan.Want.{Want}
 use Rattle.machine_core.specs.Positions.{position_count, end_place, ahead}
 use Rattle.machine_core.specs.Reading.{Reading, IsReading, Reader, IsReader}
-use Rattle.machine_core.specs.Machine.{Machine, Turn, stopped_at, edge_turn, Refused, asked_outcome, answer_of, counted}
-use Rattle.machine_core.specs.Journal.{Entry, journal_output, batch_output, until_idle, notices_of}
+use Rattle.machine_core.specs.Machine.{Machine, opening, Turn, stopped_at, edge_turn, Refused, asked_outcome, answer_of, counted}
+use Rattle.machine_core.specs.Journal.{Entry, Ran, journal_from, journal_output, batch_output, until_idle, notices_of}
 use Rattle.machine_core.specs.Matching.{matches}
+use Rattle.machine_core.specs.Numbers.{AreRising, armed_numbers, numbers_given, GivesInOrder}
 
 -- over worlds that differ in nothing that can be seen every journal and every batch has one output
 pub record AnswersAlike : Type 0 where
@@ -47,3 +50,24 @@ RunsToTheNearest = (w : World) (m : Machine) (way : Way) (want : Want) → m.mot
 pub record HaveOneReading : Type 0 where
   pub some : (read : Reader) × IsReader read
   pub one : (text : List ℕ) (r s : Reading) → IsReading text r → IsReading text s → r ≡ s
+
+-- ---- numbers of breakpoints
+
+-- over every journal the numbers 1, 2, 3 and so on are given, in this order and each once; those of the breakpoints that are armed rise, and
+-- are below the next one, which is the one behind all that were given
+pub record IsNumbered (ran : Ran) : Type 0 where
+  pub given : numbers_given ran.lines ≡ from 1 (ran.after.next - 1)
+  pub some : 1 ≤ ran.after.next
+  pub armed : AreRising 1 (armed_numbers ran.after) ran.after.next
+
+-- an accepted `break` arms its breakpoint behind the others, under the number that was next
+pub record TakesTheNext (m : Machine) (number : ℕ) (left : Machine) : Type 0 where
+  pub number_is : number ≡ m.next
+  pub next : left.next ≡ m.next + 1
+  pub armed : armed_numbers left ≡ armed_numbers m ++ number ∷ []
+
+pub record NumbersAreGivenOnce : Type 0 where
+  pub journals : (read : Reader) (w : World) (heard : List Heard) (journal : List Entry) → IsNumbered (journal_from read w (opening heard) journal)
+  pub onwards : (read : Reader) (w : World) (m : Machine) (journal : List Entry) → GivesInOrder m (journal_from read w m journal)
+  pub answers : (read : Reader) (w : World) (m : Machine) (asked : Asked) (number : ℕ) (slots : List ℕ) → (answer_of read w m asked).reply.body ≡ body.Break number slots
+      → TakesTheNext m number (answer_of read w m asked).after

@@ -4,6 +4,7 @@ pub mod Matching
 pub mod Arming
 pub mod Machine
 pub mod Journal
+pub mod Numbers
 pub mod Sample
 pub mod Laws
 pub mod SampleBatch

@@ -1,5 +1,5 @@
 -- The machine of a debugger over a world: its state, its turns, and its answers to requests.
-use Rattle.std.specs.Prelude.{ℕ, zero, suc, ◌+◌, ◌-◌, ◌^◌, ◌==◌, not, min, Bool, List, [], ◌∷◌, ◌++◌, length, map, filter, Option, Some, None, Result, Ok, Err, find, take, option_map, is_some, slice_get, slice_index_or, set, nat_eq, nat_lt, unwrap_or, if◌then◌else◌}
+use Rattle.std.specs.Prelude.{ℕ, zero, suc, ◌+◌, ◌-◌, ◌^◌, ◌==◌, not, min, Bool, true, false, List, [], ◌∷◌, ◌++◌, length, map, filter, Option, Some, None, Result, Ok, Err, find, take, option_map, is_some, slice_get, slice_index_or, set, nat_eq, nat_lt, unwrap_or, if◌then◌else◌}
 use Rattle.std.specs.List.{list_any, enumerate_from}
 use Rattle.bv_core.specs.Value.{Bits}
 use Rattle.bv_core.specs.declared.reference.Sample.{Sample}
@@ -122,6 +122,10 @@ abbrev pub going_of : Motion → Going
 going_of Idle = going.Idle
 going_of (Running way want) = way_going way
 
+abbrev pub is_running : Motion → Bool
+is_running Idle = false
+is_running (Running way want) = true
+
 -- what needs an idle machine is refused while it runs
 abbrev pub if_idle : Motion → Outcome → Outcome
 if_idle Idle outcome = outcome
@@ -160,6 +164,11 @@ step w m way granted (Some path) = named_step m way granted path (instance_named
 abbrev pub position_of : World → ℕ → Option ℕ
 position_of w zero = None
 position_of w (suc p) = if nat_lt p (position_count w) then Some p else None
+
+-- the threads at a place; there are none at the start or the end
+abbrev pub threads_of : World → ℕ → List ℕ
+threads_of w zero = []
+threads_of w (suc p) = threads_at w p
 
 abbrev pub no_stop : World → Machine → Outcome
 no_stop w m = Refused (body.NoStop (at_place w m.place))
@@ -201,6 +210,11 @@ told world.Removed = shown.Removed
 
 abbrev pub shown_there : World → (position instance : ℕ) → Name → Name × Shown
 shown_there w p i x = (x, told (w.shown (cycle_at w p) (slot_at w p) i x))
+
+-- what the names in scope at a place show in a thread
+abbrev pub values_of : World → ℕ → ℕ → List (Name × Shown)
+values_of w zero i = []
+values_of w (suc p) i = map (shown_there w p i) (names_at w (slot_at w p))
 
 abbrev pub values : World → Machine → (position instance : ℕ) → Outcome
 values w m p i = Accepted m (body.Values (map (shown_there w p i) (names_at w (slot_at w p))))

@@ -1,6 +1,6 @@
 //! Laws of the machine, over the definitions alone.
 
-ghost use Rattle.machine_core.specs.Laws.{AnswersAlike, RefusedChangeNothing, MovesByTurnsAlone, BatchesEnd, RunsToTheNearest, HaveOneReading};
+ghost use Rattle.machine_core.specs.Laws.{AnswersAlike, RefusedChangeNothing, MovesByTurnsAlone, BatchesEnd, RunsToTheNearest, HaveOneReading, NumbersAreGivenOnce};
 ghost use Rattle.machine_core.specs.Sample.{table_f_is_debugged};
 ghost use Rattle.machine_core.specs.SampleBatch.{batch_a_is_debugged};
 
@@ -36,6 +36,13 @@ pub fn runs_to_the_nearest()
 /// nothing.
 pub fn texts_have_one_reading()
     ensures { HaveOneReading }
+{}
+
+/// The law that over every list of requests and turns no number of a breakpoint is given twice: they are given one after another, from 1 on,
+/// an accepted `break` answers the one that was next, and those of the breakpoints that are armed rise and are below the next one.
+/// Computes nothing.
+pub fn numbers_are_given_once()
+    ensures { NumbersAreGivenOnce }
 {}
 
 /// A session over a small world, from the definitions, as it was worked by hand. Computes nothing.

@@ -2,7 +2,7 @@
 //!
 //! The machine walks the positions of a world. It is defined in `specs/`: `Positions` has the positions and those that lie ahead,
 //! `Matching` what a position matches, `Arming` when a breakpoint is armed, `Machine` its state, its turns and its answers, and
-//! `Journal` what a list of requests and turns puts out. It knows nothing of where a world comes from, and nothing of the texts of
+//! `Journal` what a list of requests and turns puts out, and `Numbers` which numbers breakpoints get. It knows nothing of where a world comes from, and nothing of the texts of
 //! requests and replies.
 #![tactic(auto)]
 
@@ -13,8 +13,9 @@ mod turn;
 mod utf8;
 
 pub use laws::{
-    batch_a_is_debugged, batches_end, moves_by_turns_alone, refused_requests_change_nothing,
-    runs_to_the_nearest, same_worlds_answer_alike, table_f_is_debugged, texts_have_one_reading,
+    batch_a_is_debugged, batches_end, moves_by_turns_alone, numbers_are_given_once,
+    refused_requests_change_nothing, runs_to_the_nearest, same_worlds_answer_alike,
+    table_f_is_debugged, texts_have_one_reading,
 };
 pub use reply::{At, Body, Going, Reply, Shown};
 pub use request::{Asked, BadText, Cmd, Request};

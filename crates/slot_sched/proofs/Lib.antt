@@ -1,9 +1,7 @@
 pub mod Any
 pub mod Arming
-pub mod Ascii
 pub mod Firsts
 pub mod Matches
-pub mod Names
 pub mod Nearest
 pub mod Order
 pub mod Readings

@@ -1,10 +1,12 @@
 -- Lists of breakpoints from which one is taken.
-use Rattle.std.proofs.Common.{◌≡◌, ℕ, ◌+◌, ◌≤◌, ◌==◌, ◌||◌, Bool, true, false, cond, not, List, [], ◌∷◌, ◌++◌, map, filter, refl, sym, ap, ◌∙◌, subst, arith}
+use Rattle.std.proofs.Common.{◌≡◌, ℕ, ◌+◌, ◌==◌, ◌||◌, Bool, true, false, cond, not, List, [], ◌∷◌, ◌++◌, map, filter, refl, sym, ap, ◌∙◌, subst}
 use Rattle.std.specs.List.{list_any}
 use Rattle.machine_core.specs.Matching.{Breakpoint}
 use Rattle.machine_core.specs.Machine.{has_number}
 use Rattle.slot_sched.specs.declared.armed.Armed.{Armed}
-use Rattle.slot_sched.specs.Armed.{breakpoint_of, AreRising}
+use Rattle.machine_core.specs.Numbers.{AreRising}
+use Rattle.machine_core.proofs.Numbers.{rising_more}
+use Rattle.slot_sched.specs.Armed.{breakpoint_of}
 
 abbrev pub others : ℕ → Armed → Bool
 others bp a = not (a.number == bp)
@@ -26,22 +28,6 @@ all_others bp (b ∷ bs) e = by_test (has_number bp b) (list_any (has_number bp)
     by_test false rest e xs h = ap (λ l. b ∷ l) (h e)
 
 -- ---- rising numbers
-
-rising_from : (low least : ℕ) (xs : List ℕ) (next : ℕ) → low ≤ least → AreRising least xs next → AreRising low xs next
-rising_from low least [] next l h = omega (arith, l, h)
-rising_from low least (x ∷ xs) next l h = (omega (arith, l, h.0), h.1)
-
-pub rising_kept : (test : Breakpoint → Bool) (least : ℕ) (bs : List Breakpoint) (next : ℕ) → AreRising least (map (λ b. b.number) bs) next → AreRising least (map (λ b. b.number) (filter test bs)) next
-rising_kept test least [] next h = h
-rising_kept test least (b ∷ bs) next h = by_test (test b) (filter test bs) (rising_kept test (b.number + 1) bs next h.1)
-  where
-    by_test : (t : Bool) (xs : List Breakpoint) → AreRising (b.number + 1) (map (λ c. c.number) xs) next → AreRising least (map (λ c. c.number) (cond t (b ∷ xs) xs)) next
-    by_test true xs more = (h.0, more)
-    by_test false xs more = rising_from least (b.number + 1) (map (λ c. c.number) xs) next (omega (arith, h.0)) more
-
-pub rising_more : (least : ℕ) (xs : List ℕ) (next : ℕ) → AreRising least xs next → AreRising least (xs ++ next ∷ []) (next + 1)
-rising_more least [] next h = (h, omega arith)
-rising_more least (x ∷ xs) next h = (h.0, rising_more (x + 1) xs next h.1)
 
 numbers_more : (armed : List Armed) (a : Armed) → map (λ b. b.number) (map breakpoint_of (armed ++ a ∷ [])) ≡ map (λ b. b.number) (map breakpoint_of armed) ++ a.number ∷ []
 numbers_more [] a = refl

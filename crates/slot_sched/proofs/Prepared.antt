@@ -1,11 +1,10 @@
 -- What is armed on a line of a table is what the machine arms there, in the world that the table and a trace tell, as it is seen.
-use Rattle.std.proofs.Common.{◌≡◌, ℕ, ◌+◌, ◌<◌, ◌&&◌, true, List, [], ◌∷◌, ◌++◌, length, map, filter, take, get_or, All, Contains, Option, Some, None, Result, Ok, Err, option_map, if◌then◌else◌, refl, sym, ap, ap₂, ◌∙◌, subst, lt-ltb, append_assoc}
-use Rattle.std.specs.List.{list_all}
+use Rattle.std.proofs.Common.{◌≡◌, ℕ, ◌+◌, ◌<◌, List, [], ◌∷◌, ◌++◌, length, map, filter, take, get_or, All, Contains, Option, Some, None, Result, Ok, Err, option_map, refl, sym, ap, ap₂, ◌∙◌, subst, append_assoc}
+use Rattle.std.specs.Prelude.{IfOk}
 use Rattle.std.proofs.lemmas.List.{map-append}
 use Rattle.std.proofs.lemmas.List.Elements.{All-nil, All-head, All-tail, All-append, All-map, All-filter, All-weaker, All-contains_itself, All-push, All-same, filter-append}
 use Rattle.list_core.proofs.Growing.{more_of}
 use Rattle.std.proofs.lemmas.Option.{slice_get-get_or, same_Some}
-use Rattle.list_core.specs.Lists.{EachOf}
 use Rattle.exec_core.specs.Block.{Name}
 use Rattle.gen_tree.specs.Tree.{Expr}
 use Rattle.symtab.specs.declared.parts.TableParts.{TableParts}
@@ -16,9 +15,9 @@ use Rattle.trace_core.specs.Samples.{Samples}
 use Rattle.world_core.specs.World.{World}
 use Rattle.cond_lang.specs.declared.cond.Cond.{Cond}
 use Rattle.cond_lang.specs.declared.text.CondText.{CondText}
-use Rattle.cond_lang.specs.Bound.{scope_of}
+use Rattle.cond_lang.specs.Bound.{scope_of, bound_by}
 use Rattle.cond_lang.specs.Judged.{judged}
-use Rattle.cond_lang.specs.Meaning.{tree_of, leaves}
+use Rattle.cond_lang.specs.Shown.{cond_tree, cond_width}
 use Rattle.cond_lang.specs.TextShown.{text_expr, text_offsets}
 use Rattle.machine_core.specs.declared.reply.Body.{Body}
 use Rattle.machine_core.specs.declared.reply.Body.TheVariants as body
@@ -29,44 +28,21 @@ use Rattle.slot_sched.specs.declared.armed.Trap.{Trap}
 use Rattle.slot_sched.specs.declared.arm.Unarmed.{Unarmed}
 use Rattle.slot_sched.specs.declared.fault.ArmFault.{ArmFault}
 use Rattle.slot_sched.specs.Armed.{traps_of, trap_place, IsTrap, IsBoundAt}
-use Rattle.slot_sched.specs.Arm.{answer_for, IsRefusal, IsTold, TellsNone, as_read, reading_made, text_parts, asked_instance, named_has, is_ascii, HasAsciiNames, ascii_binding, ascii_refused, IsAsciiBound, IsBoundBy, IsAsciiTrap, traps_in, IsSpot, IsFor}
+use Rattle.slot_sched.specs.Arm.{answer_for, IsRefusal, IsTold, TellsNone, as_read, reading_made, text_parts, asked_instance, named_has, refused_at, traps_in, IsSpot, IsFor}
 use Rattle.slot_sched.proofs.Arming.{slots_told, instance_told, kept_told, spots_told}
 use Rattle.slot_sched.proofs.Firsts.{first_more}
 use Rattle.slot_sched.proofs.Matches.{told}
-use Rattle.slot_sched.proofs.Scopes.{judged_told, judged_alike, bound_alike}
+use Rattle.slot_sched.proofs.Scopes.{judged_told}
 
--- ---- names of ASCII
+-- ---- a condition that was bound
 
-passes : (bytes : List ℕ) → EachOf (λ byte. byte < 128) bytes → list_all is_ascii bytes ≡ true
-passes [] h = refl
-passes (byte ∷ bytes) h = ap₂ (λ a b. a && b) (lt-ltb byte 128 h.0) (passes bytes h.1)
-
-same_bindings : (parts : TableParts) (k i : ℕ) (xs : List Name) → EachOf (EachOf (λ byte. byte < 128)) xs → EachOf (λ x. ascii_binding parts k i x ≡ binding_of parts k i x) xs
-same_bindings parts k i [] h = tt
-same_bindings parts k i (x ∷ xs) h = (ap (λ b. if b then binding_of parts k i x else None) (passes x h.0), same_bindings parts k i xs h.1)
-
-module _ (parts : TableParts) (text : CondText) (ascii : EachOf (EachOf (λ byte. byte < 128)) (leaves (tree_of (text_expr text)))) where
-  judged_same : (k i : ℕ) → judged (scope_of (ascii_binding parts k i)) (text_expr text) (text_offsets text) ≡ judged (scope_of (binding_of parts k i)) (text_expr text) (text_offsets text)
-  judged_same k i = judged_alike (ascii_binding parts k i) (binding_of parts k i) (text_expr text) (text_offsets text) (same_bindings parts k i (leaves (tree_of (text_expr text))) ascii)
-
-  bound_same : (k i : ℕ) (cond : Cond) → IsBoundBy (ascii_binding parts k i) text cond → IsBoundAt parts k i (Some text) (Some cond)
-  bound_same k i cond h = (
-    h.0,
-    h.1 ∙ bound_alike (ascii_binding parts k i) (binding_of parts k i) (text_expr text) (same_bindings parts k i (leaves (tree_of (text_expr text))) ascii),
-    sym (judged_same k i) ∙ h.2,
-  )
-
-trap_bound : (parts : TableParts) (k i : ℕ) (text : Option CondText) (c : Option Cond) → HasAsciiNames text → IsAsciiBound parts k i text c → IsBoundAt parts k i text c
-trap_bound parts k i None None ascii h = tt
-trap_bound parts k i None (Some c) ascii h = absurd h
-trap_bound parts k i (Some text) None ascii h = absurd h
-trap_bound parts k i (Some text) (Some c) ascii h = bound_same parts text ascii k i c h
-
-trap_is : (parts : TableParts) (text : Option CondText) → HasAsciiNames text → (t : Trap) → IsAsciiTrap parts text t → IsTrap parts text t
-trap_is parts text ascii t h = record { slot = h.slot; instance = h.instance; bound = trap_bound parts t.slot t.instance text t.cond ascii h.bound }
-
-pub traps_are : (parts : TableParts) (text : Option CondText) → HasAsciiNames text → (traps : List Trap) → All (IsAsciiTrap parts text) traps → All (IsTrap parts text) traps
-traps_are parts text ascii traps h = All-weaker (IsAsciiTrap parts text) (IsTrap parts text) (trap_is parts text ascii) traps h
+-- it has width 1
+pub bound_made : (r : Result Cond ArmFault) (cond : Cond) (parts : TableParts) (k i : ℕ) (text : CondText)
+    → IfOk r (λ made. (cond_tree made ≡ cond_tree cond) × (cond_width made ≡ cond_width cond)) → IfOk r (λ made. cond_width made ≡ 1)
+    → judged (scope_of (binding_of parts k i)) (text_expr text) (text_offsets text) ≡ Ok (cond_width cond) → cond_tree cond ≡ bound_by (binding_of parts k i) (text_expr text)
+    → IfOk r (λ made. IsBoundAt parts k i (Some text) (Some made))
+bound_made (Ok made) cond parts k i text same bit width tree = (bit, same.0 ∙ tree, width ∙ ap (λ n. Ok n) (sym same.1 ∙ bit))
+bound_made (Err end) cond parts k i text same bit width tree = same
 
 -- ---- the spots of slots
 
@@ -97,36 +73,36 @@ slot_more parts named k old now after is n i below at so step =
 pub same_item : {X : Type 0} (xs : List X) (i : ℕ) (d : X) → i < length xs → get_or xs i d ≡ get_or xs i (get_or xs i d)
 same_item xs i d below = same_Some (get_or xs i d) (get_or xs i (get_or xs i d)) (sym (slice_get-get_or xs i d below) ∙ slice_get-get_or xs i (get_or xs i d) below)
 
-ascii_trap : (parts : TableParts) (text : Option CondText) (t : Trap) (spot : ℕ × ℕ) → trap_place t ≡ spot → IsSpot parts spot → IsAsciiBound parts spot.0 spot.1 text t.cond → IsAsciiTrap parts text t
-ascii_trap parts text t spot e h b = record {
+trap_there : (parts : TableParts) (text : Option CondText) (t : Trap) (spot : ℕ × ℕ) → trap_place t ≡ spot → IsSpot parts spot → IsBoundAt parts spot.0 spot.1 text t.cond → IsTrap parts text t
+trap_there parts text t spot e h b = record {
   slot = subst (λ (p : ℕ × ℕ). p.0 < length parts.slots) (sym e) h.slot;
   instance = subst (λ (p : ℕ × ℕ). Contains (instances_of parts p.0) p.1) (sym e) h.instance;
-  bound = subst (λ (p : ℕ × ℕ). IsAsciiBound parts p.0 p.1 text t.cond) (sym e) b;
+  bound = subst (λ (p : ℕ × ℕ). IsBoundAt parts p.0 p.1 text t.cond) (sym e) b;
 }
 
 -- so far as the first spots: a trap at each, and none refused
 abbrev pub ArmedUpTo : TableParts → Option CondText → List (ℕ × ℕ) → List Trap → Type 0
-ArmedUpTo parts text spots traps = (map trap_place traps ≡ spots) × All (IsAsciiTrap parts text) traps × (first_of (map (ascii_refused parts text) spots) ≡ None)
+ArmedUpTo parts text spots traps = (map trap_place traps ≡ spots) × All (IsTrap parts text) traps × (first_of (map (refused_at parts text) spots) ≡ None)
 
 -- one trap more
 pub trap_more : (parts : TableParts) (text : Option CondText) (spots : List (ℕ × ℕ)) (i : ℕ) (spot : ℕ × ℕ) (traps items : List Trap) (t : Trap) → i < length spots → spot ≡ get_or spots i spot → IsSpot parts spot
-    → items ≡ traps ++ t ∷ [] → trap_place t ≡ spot → IsAsciiBound parts spot.0 spot.1 text t.cond → ascii_refused parts text spot ≡ None
+    → items ≡ traps ++ t ∷ [] → trap_place t ≡ spot → IsBoundAt parts spot.0 spot.1 text t.cond → refused_at parts text spot ≡ None
     → ArmedUpTo parts text (take i spots) traps → ArmedUpTo parts text (take (i + 1) spots) items
 trap_more parts text spots i spot traps items t below at is_spot grown place bound granted so = (
   ap (map trap_place) grown ∙ map-append trap_place traps (t ∷ []) ∙ ap₂ (λ (l : List (ℕ × ℕ)) (p : ℕ × ℕ). l ++ p ∷ []) so.0 place ∙ sym (more_of spots i spot below at),
-  All-same (IsAsciiTrap parts text) items (traps ++ t ∷ []) grown (All-push (IsAsciiTrap parts text) traps t so.1 (ascii_trap parts text t spot place is_spot bound)),
-  first_more (ascii_refused parts text) spots i spot below at so.2 granted,
+  All-same (IsTrap parts text) items (traps ++ t ∷ []) grown (All-push (IsTrap parts text) traps t so.1 (trap_there parts text t spot place is_spot bound)),
+  first_more (refused_at parts text) spots i spot below at so.2 granted,
 )
 
 -- ---- conditions at the spots
 
-refusals_told : (parts : TableParts) → IsTable parts → (s : Samples) (text : CondText) → HasAsciiNames (Some text) → (spots : List (ℕ × ℕ)) → All (IsSpot parts) spots
-    → map (spot_refusal (told parts s) (text_expr text) (text_offsets text)) spots ≡ map (ascii_refused parts (Some text)) spots
-refusals_told parts table s text ascii [] h = refl
-refusals_told parts table s text ascii (spot ∷ spots) h =
+refusals_told : (parts : TableParts) → IsTable parts → (s : Samples) (text : CondText) (spots : List (ℕ × ℕ)) → All (IsSpot parts) spots
+    → map (spot_refusal (told parts s) (text_expr text) (text_offsets text)) spots ≡ map (refused_at parts (Some text)) spots
+refusals_told parts table s text [] h = refl
+refusals_told parts table s text (spot ∷ spots) h =
     ap₂ (λ o l. o ∷ l)
-    (ap (bit_refusal spot.0) (judged_told parts table s spot.0 spot.1 (All-head (IsSpot parts) spot spots h).instance (text_expr text) (text_offsets text) ∙ sym (judged_same parts text ascii spot.0 spot.1)))
-    (refusals_told parts table s text ascii spots (All-tail (IsSpot parts) spot spots h))
+    (ap (bit_refusal spot.0) (judged_told parts table s spot.0 spot.1 (All-head (IsSpot parts) spot spots h).instance (text_expr text) (text_offsets text)))
+    (refusals_told parts table s text spots (All-tail (IsSpot parts) spot spots h))
 
 -- ---- steps that may be refused
 
@@ -143,7 +119,7 @@ none_refused (Some refusal) found x h = ap (λ o. unless_refused o x) h
 
 -- ---- a text as a condition
 
-none_first : (spots : List (ℕ × ℕ)) (parts : TableParts) → first_of (map (ascii_refused parts None) spots) ≡ None
+none_first : (spots : List (ℕ × ℕ)) (parts : TableParts) → first_of (map (refused_at parts None) spots) ≡ None
 none_first [] parts = refl
 none_first (spot ∷ spots) parts = none_first spots parts
 
@@ -161,13 +137,13 @@ bad_text (Some refusal) read w spots None h = cc
 bad_text (Some refusal) read w spots (Some t) h = bad_reading (Some refusal) w spots (read t) h
 
 module _ (parts : TableParts) (table : IsTable parts) (s : Samples) (spots : List (ℕ × ℕ)) (are : All (IsSpot parts) spots) where
-  good_reading : (r : Reading) (ct : Option CondText) → HasAsciiNames ct → reading_made r ≡ Ok (option_map text_parts ct)
-      → condition_at (told parts s) spots r ≡ unless_refused (first_of (map (ascii_refused parts ct) spots)) (option_map text_expr ct)
-  good_reading (NoCondition offset) ct ascii e = cc
-  good_reading (Condition e offsets) None ascii same = cc
-  good_reading (Condition e offsets) (Some ct) ascii same =
+  good_reading : (r : Reading) (ct : Option CondText) → reading_made r ≡ Ok (option_map text_parts ct)
+      → condition_at (told parts s) spots r ≡ unless_refused (first_of (map (refused_at parts ct) spots)) (option_map text_expr ct)
+  good_reading (NoCondition offset) ct e = cc
+  good_reading (Condition e offsets) None same = cc
+  good_reading (Condition e offsets) (Some ct) same =
       (λ j. unless_refused (first_of (map (spot_refusal (told parts s) (expr_same j) (offsets_same j)) spots)) (Some (expr_same j)))
-      ∙ ap (λ l. unless_refused (first_of l) (Some (text_expr ct))) (refusals_told parts table s ct ascii spots are)
+      ∙ ap (λ l. unless_refused (first_of l) (Some (text_expr ct))) (refusals_told parts table s ct spots are)
     where
       pair_same : (let p : Expr × List ℕ = (e, offsets) in p) ≡ text_parts ct
       pair_same = cc
@@ -178,11 +154,11 @@ module _ (parts : TableParts) (table : IsTable parts) (s : Samples) (spots : Lis
       offsets_same : offsets ≡ text_offsets ct
       offsets_same = ap (λ (p : Expr × List ℕ). p.1) pair_same
 
-  pub good_text : (read : Reader) (text : Option (List ℕ)) (ct : Option CondText) → HasAsciiNames ct → as_read read text ≡ Ok (option_map text_parts ct)
-      → condition_of read (told parts s) spots text ≡ unless_refused (first_of (map (ascii_refused parts ct) spots)) (option_map text_expr ct)
-  good_text read None (Some ct) ascii e = cc
-  good_text read None None ascii e = ap (λ o. unless_refused o None) (sym (none_first spots parts))
-  good_text read (Some t) ct ascii e = good_reading (read t) ct ascii e
+  pub good_text : (read : Reader) (text : Option (List ℕ)) (ct : Option CondText) → as_read read text ≡ Ok (option_map text_parts ct)
+      → condition_of read (told parts s) spots text ≡ unless_refused (first_of (map (refused_at parts ct) spots)) (option_map text_expr ct)
+  good_text read None (Some ct) e = cc
+  good_text read None None e = ap (λ o. unless_refused o None) (sym (none_first spots parts))
+  good_text read (Some t) ct e = good_reading (read t) ct e
 
 -- ---- the whole
 
@@ -236,14 +212,14 @@ module _ (read : Reader) (parts : TableParts) (s : Samples) (armed next line : �
       pub no_text : (o : Option Body) → IsRefusal o (as_read read text) → IsRefusal o made
       no_text o h = subst (IsRefusal o) (sym made_named) (refused_first o _ (last all named) (bad_text o read (told parts s) (traps_of parts named (kept all named)) text h))
 
-      module _ (table : IsTable parts) (ct : Option CondText) (ascii : HasAsciiNames ct) (are : All (IsSpot parts) (traps_of parts named (kept all named))) (is_read : as_read read text ≡ Ok (option_map text_parts ct)) where
-        made_read : made ≡ (unless_refused (first_of (map (ascii_refused parts ct) (traps_of parts named (kept all named)))) (option_map text_expr ct) >>= last all named)
-        made_read = made_named ∙ ap (λ x. x >>= last all named) (good_text parts table s (traps_of parts named (kept all named)) are read text ct ascii is_read)
+      module _ (table : IsTable parts) (ct : Option CondText) (are : All (IsSpot parts) (traps_of parts named (kept all named))) (is_read : as_read read text ≡ Ok (option_map text_parts ct)) where
+        made_read : made ≡ (unless_refused (first_of (map (refused_at parts ct) (traps_of parts named (kept all named)))) (option_map text_expr ct) >>= last all named)
+        made_read = made_named ∙ ap (λ x. x >>= last all named) (good_text parts table s (traps_of parts named (kept all named)) are read text ct is_read)
 
-        pub no_bit : (o : Option Body) → IsTold o (first_of (map (ascii_refused parts ct) (traps_of parts named (kept all named)))) → IsRefusal o made
+        pub no_bit : (o : Option Body) → IsTold o (first_of (map (refused_at parts ct) (traps_of parts named (kept all named)))) → IsRefusal o made
         no_bit o h = subst (IsRefusal o) (sym made_read) (refused_first o _ (last all named) (none_refused o _ (option_map text_expr ct) h))
 
-        pub is_made : first_of (map (ascii_refused parts ct) (traps_of parts named (kept all named))) ≡ None → made ≡ last all named (option_map text_expr ct)
+        pub is_made : first_of (map (refused_at parts ct) (traps_of parts named (kept all named))) ≡ None → made ≡ last all named (option_map text_expr ct)
         is_made h = made_read ∙ ap (λ o. unless_refused o (option_map text_expr ct) >>= last all named) h
 
 -- the same of a call that ended so

@@ -1,5 +1,5 @@
 -- What a condition at a slot of an instance is judged by rests on its names alone, and is what the machine judges by.
-use Rattle.std.proofs.Common.{◌≡◌, ℕ, suc, ◌+◌, ◌<◌, ◌&&◌, ◌||◌, Bool, true, false, cond, not, lt-ltb, List, [], ◌∷◌, ◌++◌, length, drop, map, Option, Some, None, Ok, Contains, option_map, position, bytes_eq, if◌then◌else◌, refl, sym, ap, ap₂, ◌∙◌, arith}
+use Rattle.std.proofs.Common.{◌≡◌, ℕ, suc, ◌+◌, ◌<◌, ◌&&◌, ◌||◌, Bool, true, false, cond, not, lt-ltb, List, [], ◌∷◌, length, map, Option, Some, None, Contains, option_map, position, bytes_eq, if◌then◌else◌, refl, sym, ap, ap₂, ◌∙◌, arith}
 use Rattle.std.specs.Prelude.{slice_get, nat_eq, option_and_then}
 use Rattle.std.specs.List.{list_any, position_or_len}
 use Rattle.std.proofs.lemmas.Option.{slice_get-map, slice_get-get_or}
@@ -23,78 +23,10 @@ use Rattle.trace_world.specs.TraceWorld.{status_by, shows_by}
 use Rattle.machine_core.specs.Arming.{as_status, scope_at, instances_of}
 use Rattle.bv_core.specs.declared.Binding.{Binding}
 use Rattle.bv_core.specs.declared.Binding.TheVariants as binding
-use Rattle.tree_core.specs.Tree.{Tree, Const, Leaf, One, Two, Mux}
-use Rattle.list_core.specs.Lists.{EachOf}
-use Rattle.gen_tree.specs.Tree.{Expr, read, out, value, unary, binary, mux, zext, slice}
-use Rattle.cond_lang.specs.Names.{Name, number}
-use Rattle.cond_lang.specs.Meaning.{tree_of, leaves, unary_of, binary_of}
-use Rattle.bv_core.specs.Operators.{width1_of, width2_of}
-use Rattle.bv_core.specs.declared.Op1.TheVariants as op1
-use Rattle.cond_lang.specs.Bound.{status_of, scope_of, ref_or_nought, mapped, bound_by}
-use Rattle.cond_lang.specs.Judged.{Scope, ◌>>=◌, fitting, fits_one, fits_two, fits_choice, fam_tokens, tokens_before, width_in, refused_name, or_else, first_refused, status_width, width_or_misfit, unless_refused, judged}
-
--- ---- parts of lists
-
-each_front : {A : Type 0} (P : A → Type 0) (xs ys : List A) → EachOf P (xs ++ ys) → EachOf P xs
-each_front P [] ys h = tt
-each_front P (x ∷ xs) ys h = (h.0, each_front P xs ys h.1)
-
-each_back : {A : Type 0} (P : A → Type 0) (xs ys : List A) → EachOf P (xs ++ ys) → EachOf P ys
-each_back P [] ys h = h
-each_back P (x ∷ xs) ys h = each_back P xs ys h.1
-
--- ---- places that are the same for each name
-
-first_alike : (f g : Scope) (xs : List Name) → EachOf (λ x. f x ≡ g x) xs → first_refused f xs ≡ first_refused g xs
-first_alike f g [] h = refl
-first_alike f g (x ∷ xs) h = ap₂ (λ o rest. or_else (refused_name x o) rest) h.0 (first_alike f g xs h.1)
-
-width_alike : (v w : Name → ℕ) (e : Expr) (from : List ℕ) → EachOf (λ x. v x ≡ w x) (leaves (tree_of e)) → width_in v e from ≡ width_in w e from
-width_alike v w (read f) from h = ap (λ n. Ok (n, drop (fam_tokens f) from)) h.0
-width_alike v w (out f q) from h = ap (λ n. Ok (n, drop (fam_tokens f + 2) from)) h.0
-width_alike v w (value l) from h = refl
-width_alike v w (unary o e) from h =
-    (λ j. width_alike v w e (drop 2 from) h j >>= λ a. fitting (fits_one (unary_of o) a.0) (width1_of (unary_of o) a.0) from (drop 1 a.1))
-width_alike v w (binary o e f) from h =
-    let first = each_front _ (leaves (tree_of e)) (leaves (tree_of f)) h in
-    let second = each_back _ (leaves (tree_of e)) (leaves (tree_of f)) h in
-    (λ j. width_alike v w e (drop (tokens_before o) from) first j >>= λ a. width_alike v w f (drop 1 a.1) second j >>= λ b. fitting (fits_two (binary_of o) a.0 b.0) (width2_of (binary_of o) a.0 b.0) from (drop 1 b.1))
-width_alike v w (mux e f g) from h =
-    let first = each_front _ (leaves (tree_of e)) (leaves (tree_of f) ++ leaves (tree_of g)) h in
-    let behind = each_back _ (leaves (tree_of e)) (leaves (tree_of f) ++ leaves (tree_of g)) h in
-    let second = each_front _ (leaves (tree_of f)) (leaves (tree_of g)) behind in
-    let third = each_back _ (leaves (tree_of f)) (leaves (tree_of g)) behind in
-    (λ j. width_alike v w e (drop 2 from) first j >>= λ c. width_alike v w f (drop 1 c.1) second j >>= λ a. width_alike v w g (drop 1 a.1) third j >>= λ b. fitting (fits_choice c.0 a.0 b.0) a.0 from (drop 1 b.1))
-width_alike v w (zext e n) from h =
-    (λ j. width_alike v w e (drop 2 from) h j >>= λ a. fitting (fits_one (op1.Zext (number n)) a.0) (width1_of (op1.Zext (number n)) a.0) from (drop 3 a.1))
-width_alike v w (slice e hi lo) from h =
-    (λ j. width_alike v w e from h j >>= λ a. fitting (fits_one (op1.Slice (number hi) (number lo)) a.0) (width1_of (op1.Slice (number hi) (number lo)) a.0) from (drop 5 a.1))
-
-each_status : (f g : Scope) (xs : List Name) → EachOf (λ x. f x ≡ g x) xs → EachOf (λ x. status_width (f x) ≡ status_width (g x)) xs
-each_status f g [] h = tt
-each_status f g (x ∷ xs) h = (ap status_width h.0, each_status f g xs h.1)
-
-each_scope : (p q : Name → Option Binding) (xs : List Name) → EachOf (λ x. p x ≡ q x) xs → EachOf (λ x. scope_of p x ≡ scope_of q x) xs
-each_scope p q [] h = tt
-each_scope p q (x ∷ xs) h = (ap (option_map status_of) h.0, each_scope p q xs h.1)
-
-pub judged_alike : (p q : Name → Option Binding) (e : Expr) (offsets : List ℕ) → EachOf (λ x. p x ≡ q x) (leaves (tree_of e)) → judged (scope_of p) e offsets ≡ judged (scope_of q) e offsets
-judged_alike p q e offsets h =
-    let scopes = each_scope p q (leaves (tree_of e)) h in
-    ap₂ (λ o r. unless_refused o (width_or_misfit r)) (first_alike (scope_of p) (scope_of q) (leaves (tree_of e)) scopes)
-    (width_alike (λ x. status_width (scope_of p x)) (λ x. status_width (scope_of q x)) e offsets (each_status (scope_of p) (scope_of q) (leaves (tree_of e)) scopes))
-
-mapped_alike : (p q : Name → Option Binding) (t : Tree Name) → EachOf (λ x. p x ≡ q x) (leaves t) → mapped (λ x. ref_or_nought (p x)) t ≡ mapped (λ x. ref_or_nought (q x)) t
-mapped_alike p q (Const b) h = refl
-mapped_alike p q (Leaf x) h = ap (λ o. Leaf (ref_or_nought o)) h.0
-mapped_alike p q (One o a) h = ap (One o) (mapped_alike p q a h)
-mapped_alike p q (Two o a b) h = ap₂ (Two o) (mapped_alike p q a (each_front _ (leaves a) (leaves b) h)) (mapped_alike p q b (each_back _ (leaves a) (leaves b) h))
-mapped_alike p q (Mux c a b) h =
-    let behind = each_back _ (leaves c) (leaves a ++ leaves b) h in
-    (λ j. Mux (mapped_alike p q c (each_front _ (leaves c) (leaves a ++ leaves b) h) j) (mapped_alike p q a (each_front _ (leaves a) (leaves b) behind) j) (mapped_alike p q b (each_back _ (leaves a) (leaves b) behind) j))
-
-pub bound_alike : (p q : Name → Option Binding) (e : Expr) → EachOf (λ x. p x ≡ q x) (leaves (tree_of e)) → bound_by p e ≡ bound_by q e
-bound_alike p q e h = mapped_alike p q (tree_of e) h
+use Rattle.gen_tree.specs.Tree.{Expr}
+use Rattle.cond_lang.specs.Names.{Name}
+use Rattle.cond_lang.specs.Bound.{status_of, scope_of}
+use Rattle.cond_lang.specs.Judged.{judged}
 
 -- ---- what the machine judges by
 

@@ -6,7 +6,7 @@ use Rattle.std.proofs.lemmas.Bool.{and_from, and_parts, and_left, or_parts, or_f
 use Rattle.std.proofs.lemmas.Option.{slice_get_cases}
 use Rattle.std.proofs.lemmas.Bool.Decides.{nat_tests}
 use Rattle.list_core.specs.Lists.{EachOf}
-use Rattle.list_core.proofs.Lists.{each_map, each_append, each_from, each_member, each_take}
+use Rattle.list_core.proofs.Lists.{each_map, each_append, each_from, each_member}
 use Rattle.list_core.proofs.Listing.{either_true, get_last, filter_from}
 use Rattle.list_core.proofs.Options.{some_same}
 use Rattle.symtab.specs.declared.parts.TableParts.{TableParts}
@@ -131,10 +131,6 @@ within_filtered spans test armed items is e =
     let P = λ (b : Armed). WaitBelow (length spans) b.traps.items in
     subst (λ (l : List Armed). AllWaitBelow (length spans) l) (sym is)
     (each_from P (filter test armed) (λ x i. each_member P armed (spanned_within spans 0 armed e) x (filter_from test armed x i).0))
-
-pub within_taken : (spans : List Span) (n : ℕ) (armed items : List Armed) → items ≡ take n armed → are_spanned spans 0 armed ≡ true → AllWaitBelow (length spans) items
-within_taken spans n armed items is e =
-    subst (λ (l : List Armed). AllWaitBelow (length spans) l) (sym is) (each_take (λ (b : Armed). WaitBelow (length spans) b.traps.items) n armed (spanned_within spans 0 armed e))
 
 -- ---- what no instance offers
 pub none_offered : {A : Type 0} (p q : A → Bool) (xs : List A) → list_any p xs ≡ false → list_any (λ x. p x && q x) xs ≡ false

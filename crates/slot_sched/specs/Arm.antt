@@ -1,27 +1,21 @@
 -- What is found in a table where a breakpoint is armed, and what the answers other than Ok say.
-use Rattle.std.specs.Prelude.{◌≡◌, ℕ, Bool, true, List, [], ◌∷◌, ◌++◌, Option, Some, None, Result, Ok, Err, position, bytes_eq, nat_eq, nat_lt, ◌<◌, length, map, filter, option_map, All, Contains, if◌then◌else◌}
-use Rattle.std.specs.List.{list_any, list_all}
+use Rattle.std.specs.Prelude.{◌≡◌, ℕ, Bool, true, List, [], ◌∷◌, ◌++◌, Option, Some, None, Result, Ok, Err, position, bytes_eq, nat_eq, ◌<◌, length, map, filter, option_map, All, Contains, if◌then◌else◌}
+use Rattle.std.specs.List.{list_any}
 use Rattle.std.specs.List.Sorted.{IsNonDecreasingBy}
-use Rattle.bv_core.specs.declared.Binding.{Binding}
 use Rattle.exec_core.specs.Block.{Name}
 use Rattle.gen_tree.specs.Tree.{Expr}
 use Rattle.symtab.specs.declared.parts.TableParts.{TableParts}
 use Rattle.symtab.specs.Shape.{paths_of}
 use Rattle.symtab.specs.Lookups.{instances_of, binding_of}
-use Rattle.cond_lang.specs.declared.cond.Cond.{Cond}
 use Rattle.cond_lang.specs.declared.text.CondText.{CondText}
-use Rattle.cond_lang.specs.Bound.{scope_of, bound_by}
+use Rattle.cond_lang.specs.Bound.{scope_of}
 use Rattle.cond_lang.specs.Judged.{judged}
-use Rattle.cond_lang.specs.Shown.{cond_tree, cond_width}
 use Rattle.cond_lang.specs.TextShown.{text_expr, text_offsets}
 use Rattle.machine_core.specs.declared.reply.Body.{Body}
 use Rattle.machine_core.specs.declared.reply.Body.TheVariants as body
 use Rattle.machine_core.specs.Arming.{bit_refusal, limit_refusal, unless_refused}
 use Rattle.machine_core.specs.Reading.{Reader, Reading, Condition, NoCondition}
 use Rattle.machine_core.specs.Matching.{Breakpoint, is_wanted}
-use Rattle.list_core.specs.Lists.{EachOf}
-use Rattle.cond_lang.specs.Meaning.{tree_of, leaves}
-use Rattle.slot_sched.specs.declared.armed.Trap.{Trap}
 use Rattle.slot_sched.specs.declared.arm.Unarmed.{Unarmed}
 use Rattle.slot_sched.specs.Armed.{trap_place, traps_of, IsTrap}
 use Rattle.slot_sched.specs.declared.fault.ArmFault.{ArmFault}
@@ -91,39 +85,10 @@ as_read read (Some text) = reading_made (read text)
 abbrev pub text_parts : CondText → Expr × List ℕ
 text_parts t = (text_expr t, text_offsets t)
 
--- bytes below 128; a condition has names of these alone
-abbrev pub is_ascii : ℕ → Bool
-is_ascii byte = nat_lt byte 128
-
--- a text whose names are of these alone, if there is one
-abbrev pub HasAsciiNames : Option CondText → Type 0
-HasAsciiNames None = Unit {0}
-HasAsciiNames (Some text) = EachOf (EachOf (λ byte. byte < 128)) (leaves (tree_of (text_expr text)))
-
--- what such a name stands for at a slot of an instance
-abbrev pub ascii_binding : TableParts → (slot instance : ℕ) → Name → Option Binding
-ascii_binding parts k i x = if list_all is_ascii x then binding_of parts k i x else None
-
 -- why a condition is none at a slot of an instance
-abbrev pub ascii_refused : TableParts → Option CondText → ℕ × ℕ → Option Body
-ascii_refused parts None at = None
-ascii_refused parts (Some text) at = bit_refusal at.0 (judged (scope_of (ascii_binding parts at.0 at.1)) (text_expr text) (text_offsets text))
-
--- a condition of width 1 is the text's, with its names found at these places
-abbrev pub IsBoundBy : (Name → Option Binding) → CondText → Cond → Type 0
-IsBoundBy places text cond =
-    (cond_width cond ≡ 1) × (cond_tree cond ≡ bound_by places (text_expr text)) × (judged (scope_of places) (text_expr text) (text_offsets text) ≡ Ok 1)
-
-abbrev pub IsAsciiBound : TableParts → (slot instance : ℕ) → Option CondText → Option Cond → Type 0
-IsAsciiBound parts k i None None = Unit {0}
-IsAsciiBound parts k i None (Some cond) = ⊥
-IsAsciiBound parts k i (Some text) None = ⊥
-IsAsciiBound parts k i (Some text) (Some cond) = IsBoundBy (ascii_binding parts k i) text cond
-
-pub record IsAsciiTrap (parts : TableParts) (text : Option CondText) (t : Trap) : Type 0 where
-  pub slot : t.slot < length parts.slots
-  pub instance : Contains (instances_of parts t.slot) t.instance
-  pub bound : IsAsciiBound parts t.slot t.instance text t.cond
+abbrev pub refused_at : TableParts → Option CondText → ℕ × ℕ → Option Body
+refused_at parts None at = None
+refused_at parts (Some text) at = bit_refusal at.0 (judged (scope_of (binding_of parts at.0 at.1)) (text_expr text) (text_offsets text))
 
 -- the instances that have a slot; where one was named, that one alone
 abbrev pub traps_in : TableParts → Option ℕ → ℕ → List (ℕ × ℕ)

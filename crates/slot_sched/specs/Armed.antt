@@ -1,5 +1,5 @@
 -- The breakpoints that a schedule holds, and when they are those of a table.
-use Rattle.std.specs.Prelude.{◌≡◌, ℕ, ◌+◌, ◌<◌, ◌≤◌, ◌==◌, Bool, List, [], ◌∷◌, length, map, filter, Option, Some, None, Ok, option_map, All, Contains}
+use Rattle.std.specs.Prelude.{◌≡◌, ℕ, ◌+◌, ◌<◌, ◌==◌, Bool, List, length, map, filter, Option, Some, None, Ok, option_map, All, Contains}
 use Rattle.std.specs.List.{flat_map}
 use Rattle.symtab.specs.declared.parts.TableParts.{TableParts}
 use Rattle.symtab.specs.Lookups.{instances_of, binding_of}
@@ -10,6 +10,7 @@ use Rattle.cond_lang.specs.Judged.{judged}
 use Rattle.cond_lang.specs.Shown.{cond_tree, cond_width}
 use Rattle.cond_lang.specs.TextShown.{text_expr, text_offsets}
 use Rattle.machine_core.specs.Matching.{Breakpoint, is_wanted}
+use Rattle.machine_core.specs.Numbers.{AreRising}
 use Rattle.slot_sched.specs.declared.armed.Trap.{Trap}
 use Rattle.slot_sched.specs.declared.armed.Armed.{Armed}
 use Rattle.slot_sched.specs.declared.schedule.Schedule.{Schedule}
@@ -30,14 +31,15 @@ next_number s = s.given + 1
 abbrev pub is_number : ℕ → Armed → Bool
 is_number bp a = a.number == bp
 
--- numbers that rise, from the least on and below the next
-abbrev pub AreRising : (least : ℕ) → List ℕ → (next : ℕ) → Type 0
-AreRising least [] next = least ≤ next
-AreRising least (x ∷ xs) next = (least ≤ x) × AreRising (x + 1) xs next
-
 -- the numbers of the breakpoints rise, from 1 on, and are below that of the next one; so no number is given twice
 abbrev pub AreInOrder : Schedule → Type 0
 AreInOrder s = AreRising 1 (map (λ b. b.number) (breakpoints s)) (next_number s)
+
+-- what is armed, where each breakpoint waits, and the next number are as they were: so it holds the same breakpoints, in the same order, and
+-- they are of the tables that they were of
+pub record IsAsBefore (old new : Schedule) : Type 0 where
+  pub armed : new.armed.items ≡ old.armed.items
+  pub given : next_number new ≡ next_number old
 
 -- ---- of a table
 

@@ -1,26 +1,26 @@
-//! What a breakpoint is armed for, and why it is refused.
+//! What a breakpoint is armed for, and why it is refused: the first of the two steps in which one is armed. It takes all the memory that
+//! finding and binding take, and changes nothing.
 
 ghost use Rattle.std.specs.Prelude.{◌≡◌, ◌<◌, ◌++◌, [], ◌∷◌, ℕ, All, IfOk, OnOk, Contains, length, filter, map, option_map, Some, Ok, Err, Result};
-ghost use Rattle.std.specs.List.{list_any, list_all};
+ghost use Rattle.std.specs.List.{list_any};
 ghost use Rattle.cond_lang.specs.Faults.{Refuses};
 ghost use Rattle.cond_lang.specs.Bound.{scope_of};
 ghost use Rattle.cond_lang.specs.Judged.{Refusal, judged};
 ghost use Rattle.cond_lang.specs.TextShown.{text_expr, text_offsets};
 ghost use Rattle.machine_core.specs.Matching.{is_wanted};
-ghost use Rattle.slot_sched.specs.Armed.{trap_place, traps_of, IsTrap};
+ghost use Rattle.slot_sched.specs.Armed.{trap_place, traps_of, IsBoundAt, IsTrap};
 ghost use Rattle.cond_lang.specs.Shown.{cond_tree, cond_width};
 ghost use Rattle.machine_core.specs.Arming.{bit_refusal, first_of, breakpoint_on};
-ghost use Rattle.symtab.specs.Lookups.{instances_of};
+ghost use Rattle.symtab.specs.Lookups.{instances_of, binding_of};
 ghost use Rattle.machine_core.specs.Reading.{Reader, IsReader};
 ghost use Rattle.world_core.specs.Seen.{seen};
 ghost use Rattle.trace_core.specs.Samples.{Samples};
 ghost use Rattle.trace_world.specs.TraceWorld.{trace_world};
-ghost use Rattle.slot_sched.specs.Arm.{answer_for, IsTold, TellsMade, TellsNone, has_slot, named_has, asked_instance, as_read, text_parts, is_ascii, HasAsciiNames, ascii_binding, ascii_refused, IsBoundBy, IsAsciiBound, IsAsciiTrap, traps_in, IsSpot, IsFor, IsArmable};
+ghost use Rattle.slot_sched.specs.Arm.{answer_for, IsTold, TellsMade, TellsNone, has_slot, named_has, asked_instance, as_read, text_parts, refused_at, traps_in, IsSpot, IsFor, IsArmable};
 
 use crate::armed::Trap;
 use crate::fault::ArmFault;
 use crate::sampled::is_wanted;
-use bv_core::Binding;
 use cond_lang::{BindEnd, Cond, CondFault, CondText, bind, read_cond};
 use std::alloc::{AllocError, Global};
 use symtab::Table;
@@ -28,11 +28,20 @@ use text_core::{NoMemory, Text};
 
 /// What is armed as a breakpoint, but for its number.
 #[derive(Drop)]
-pub(crate) struct Unarmed {
+pub struct Unarmed {
     pub(crate) slots: Vec<u32>,
     pub(crate) instance: Option<u32>,
     pub(crate) text: Option<CondText>,
     pub(crate) traps: Vec<Trap>,
+}
+
+impl Unarmed {
+    /// Its slots, rising. Takes no memory.
+    pub fn slots(&self) -> &[u32]
+        ensures { result.now ≡ self.now.slots.items }
+    {
+        &self.slots
+    }
 }
 
 /// Whether an instance has a slot.
@@ -114,8 +123,7 @@ pub(crate) fn slots_for(
 
 /// The condition that a text is, if one was given.
 pub(crate) fn read_text(alloc: Global, cond: Option<&[u8]>) -> Result<Option<CondText>, ArmFault>
-    ensures read { (read : Reader) → IsReader read → TellsMade (option_map text_parts) result (as_read read (option_map (λ t. t.now) cond.entry)) }
-    ensures ascii { IfOk result HasAsciiNames }
+    ensures { (read : Reader) → IsReader read → TellsMade (option_map text_parts) result (as_read read (option_map (λ t. t.now) cond.entry)) }
 {
     let Some(text) = cond else {
         return Ok(None);
@@ -125,29 +133,6 @@ pub(crate) fn read_text(alloc: Global, cond: Option<&[u8]>) -> Result<Option<Con
         Err(CondFault::At { offset }) => Err(ArmFault::BadCondAt { offset }),
         Err(CondFault::NoMemory) => Err(ArmFault::NoMemory),
     }
-}
-
-/// Whether each byte is ASCII, as each of a condition's names is.
-fn is_ascii(name: &str) -> bool
-    ensures { result ≡ list_all is_ascii name.now }
-{
-    for byte in name.as_bytes() {
-        if *byte >= 128 {
-            return false;
-        }
-    }
-    true
-}
-
-/// What a name of a condition stands for at a slot of an instance.
-fn found(table: &Table, slot: u32, instance: u32, name: &str) -> Option<Binding>
-    requires { Contains (instances_of table.now slot) instance }
-    ensures { result ≡ ascii_binding table.now slot instance name.now }
-{
-    if !is_ascii(name) {
-        return None;
-    }
-    table.binding(slot, instance, name)
 }
 
 /// Why a text is no condition at a slot, by the end of its binding there.
@@ -184,13 +169,13 @@ fn bound(
     text: &CondText,
 ) -> Result<Cond, ArmFault>
     requires { Contains (instances_of table.now slot) instance }
-    ensures tells { TellsNone result (bit_refusal slot (judged (scope_of (ascii_binding table.now slot instance)) (text_expr text.now) (text_offsets text.now))) }
-    ensures made { IfOk result (IsBoundBy (ascii_binding table.now slot instance) text.now) }
+    ensures tells { TellsNone result (bit_refusal slot (judged (scope_of (binding_of table.now slot instance)) (text_expr text.now) (text_offsets text.now))) }
+    ensures made { IfOk result (λ cond. IsBoundAt table.now slot instance (Some text.now) (Some cond)) }
 {
     match bind(
         alloc,
         text,
-        &|name: &str| found(table, slot, instance, name),
+        &|name: &str| table.binding(slot, instance, name),
     ) {
         Ok(cond) => bit(cond),
         Err(end) => Err(fault_of(end, slot)),
@@ -206,9 +191,9 @@ fn trap_at(
     text: &Option<CondText>,
 ) -> Result<Trap, ArmFault>
     requires { Contains (instances_of table.now slot) instance }
-    ensures tells { TellsNone result (ascii_refused table.now text.now (slot, instance)) }
+    ensures tells { TellsNone result (refused_at table.now text.now (slot, instance)) }
     ensures place { IfOk result (λ t. trap_place t ≡ (slot, instance)) }
-    ensures bound { IfOk result (λ t. IsAsciiBound table.now slot instance text.now t.cond) }
+    ensures bound { IfOk result (λ t. IsBoundAt table.now slot instance text.now t.cond) }
 {
     let cond = match text {
         Some(text) => Some(bound(alloc, table, slot, instance, text)?),
@@ -277,9 +262,9 @@ fn traps_at(
     text: &Option<CondText>,
 ) -> Result<Vec<Trap>, ArmFault>
     requires { All (IsSpot table.now) spots.now }
-    ensures tells { TellsNone result (first_of (map (ascii_refused table.now text.now) spots.now)) }
+    ensures tells { TellsNone result (first_of (map (refused_at table.now text.now) spots.now)) }
     ensures places { IfOk result (λ traps. map trap_place traps.items ≡ spots.now) }
-    ensures each { IfOk result (λ traps. All (IsAsciiTrap table.now text.now) traps.items) }
+    ensures each { IfOk result (λ traps. All (IsTrap table.now text.now) traps.items) }
 {
     let mut traps = Vec::new(alloc);
     for spot in spots {
@@ -298,9 +283,8 @@ fn traps_for(
     named: Option<u32>,
     text: &Option<CondText>,
 ) -> Result<Vec<Trap>, ArmFault>
-    requires within { All (λ k. k < length table.now.slots) slots.now }
-    requires ascii { HasAsciiNames text.now }
-    ensures tells { TellsNone result (first_of (map (ascii_refused table.now text.now) (traps_of table.now named slots.now))) }
+    requires { All (λ k. k < length table.now.slots) slots.now }
+    ensures tells { TellsNone result (first_of (map (refused_at table.now text.now) (traps_of table.now named slots.now))) }
     ensures places { IfOk result (λ traps. map trap_place traps.items ≡ traps_of table.now named slots.now) }
     ensures each { IfOk result (λ traps. All (IsTrap table.now text.now) traps.items) }
 {
@@ -308,8 +292,9 @@ fn traps_for(
     traps_at(alloc, table, &spots, text)
 }
 
-/// What is armed on a line, or why nothing is.
-pub(crate) fn prepared(
+/// What is armed on a line: in one instance alone, if a path is given; where a condition holds, if a text is given. Or why nothing is, in
+/// the order in which `Schedule::arm` refuses, but for the number of breakpoints.
+pub fn prepare(
     alloc: Global,
     table: &Table,
     line: u64,
@@ -317,7 +302,7 @@ pub(crate) fn prepared(
     cond: Option<&[u8]>,
 ) -> Result<Unarmed, ArmFault>
     ensures told { (read : Reader) (s : Samples) (armed next : ℕ) → IsReader read → IsFor armed next result (breakpoint_on read (seen (trace_world table.now s)) armed next line (option_map (λ p. p.now) path.entry) (option_map (λ t. t.now) cond.entry)) }
-    ensures traps { IfOk result (IsArmable table.now) }
+    ensures armable { IfOk result (IsArmable table.now) }
 {
     let _parts = table.parts();
     let all = table.slots_on(line);

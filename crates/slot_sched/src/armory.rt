@@ -1,4 +1,6 @@
-//! How breakpoints are armed and disarmed. Which of them may wait at a slot is brought up to date with each.
+//! How breakpoints are armed and disarmed. Which of them may wait at a slot is brought up to date with each. One is armed in two steps:
+//! what it waits for is prepared, and then put behind the others under the next number. So whoever tells of it takes the memory for
+//! that between the two, and nothing that is armed is ever taken back.
 
 ghost use Rattle.std.specs.Prelude.{◌≡◌, ◌<◌, ◌+◌, ◌-◌, ◌/◌, not, true, false, List, [], ◌∷◌, ◌++◌, length, filter, slice_get, option_map, Some, IfOk, OnOk, OnErr};
 ghost use Rattle.std.specs.List.{list_any};
@@ -12,9 +14,9 @@ ghost use Rattle.machine_core.specs.Arming.{limit_refusal, breakpoint_on};
 ghost use Rattle.machine_core.specs.Reading.{Reader, IsReader};
 ghost use Rattle.trace_core.specs.Samples.{Samples};
 ghost use Rattle.slot_sched.specs.Arm.{Arms, TellsNone, as_breakpoint, IsArmable};
-ghost use Rattle.slot_sched.specs.Armed.{breakpoints, next_number, is_number, AreOf, AreInOrder};
+ghost use Rattle.slot_sched.specs.Armed.{breakpoints, next_number, is_number, AreOf, AreInOrder, IsAsBefore};
 
-use crate::arm::{Unarmed, prepared};
+use crate::arm::{Unarmed, prepare};
 use crate::armed::Armed;
 use crate::fault::ArmFault;
 use crate::schedule::Schedule;
@@ -81,15 +83,17 @@ impl Schedule {
         Ok(())
     }
 
-    /// Arms a breakpoint of a table under the next number.
-    fn add(&mut self, table: &Table, unarmed: Unarmed) -> Result<u64, ArmFault>
+    /// Arms under the next number what was prepared from this table. Gives that number, from 1 on, that of the one before and one.
+    ///
+    /// Refused where 1,024 breakpoints are armed, or the number 2^64 - 1 was given. After a refusal all is as before, and so it is for want
+    /// of memory.
+    pub fn commit(&mut self, table: &Table, unarmed: Unarmed) -> Result<u64, ArmFault>
         requires armable { IsArmable table.now unarmed }
         ensures made { IfOk result (λ number. number ≡ next_number self.old) }
         ensures breakpoints { OnOk result (breakpoints self.new ≡ breakpoints self.old ++ as_breakpoint (next_number self.old) unarmed ∷ []) }
         ensures next { OnOk result (next_number self.new ≡ next_number self.old + 1) }
         ensures refused { TellsNone result (limit_refusal (length (breakpoints self.old)) (next_number self.old)) }
-        ensures kept { OnErr result (breakpoints self.new ≡ breakpoints self.old) }
-        ensures same { OnErr result (next_number self.new ≡ next_number self.old) }
+        ensures kept { OnErr result (IsAsBefore self.old self.new) }
         ensures own { (parts : TableParts) → IsArmable parts unarmed → AreOf parts self.old → AreOf parts self.new }
         ensures order { AreInOrder self.old → AreInOrder self.new }
     {
@@ -123,25 +127,12 @@ impl Schedule {
     ) -> Result<u64, ArmFault>
         ensures armed { (read : Reader) (s : Samples) → IsReader read → Arms result (breakpoint_on read (seen (trace_world table.now s)) (length (breakpoints self.old)) (next_number self.old) line (option_map (λ p. p.now) instance.entry) (option_map (λ t. t.now) cond.entry)) (breakpoints self.old) (breakpoints self.new) }
         ensures next { OnOk result (next_number self.new ≡ next_number self.old + 1) }
-        ensures kept { OnErr result (breakpoints self.new ≡ breakpoints self.old) }
-        ensures same { OnErr result (next_number self.new ≡ next_number self.old) }
+        ensures kept { OnErr result (IsAsBefore self.old self.new) }
         ensures own { AreOf table.now self.old → AreOf table.now self.new }
         ensures order { AreInOrder self.old → AreInOrder self.new }
     {
-        let unarmed = prepared(self.alloc, table, line, instance, cond)?;
-        self.add(table, unarmed)
-    }
-
-    /// Takes back what was armed last, its number too. Takes no memory.
-    pub fn take_back(&mut self)
-        requires given { 1 < next_number self.old }
-        ensures breakpoints { (front : List Breakpoint) (last : Breakpoint) → breakpoints self.old ≡ front ++ last ∷ [] → breakpoints self.new ≡ front }
-        ensures next { next_number self.new + 1 ≡ next_number self.old }
-        ensures own { (parts : TableParts) → AreOf parts self.old → AreOf parts self.new }
-    {
-        self.armed.pop();
-        rebuild(&mut self.spans, &self.armed);
-        self.given -= 1;
+        let unarmed = prepare(self.alloc, table, line, instance, cond)?;
+        self.commit(table, unarmed)
     }
 
     /// Whether a breakpoint of this number is armed.

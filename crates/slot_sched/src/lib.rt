@@ -2,6 +2,7 @@
 //!
 //! A search looks at as many positions as one turn of a session. What it looks for is defined in `machine_core`, over the world
 //! that a table and a trace tell; `specs/Waiting.antt` has what this crate looks at instead, slot by slot.
+//! A breakpoint is armed in two steps, `prepare` and `Schedule::commit`; `Schedule::arm` is both.
 #![tactic(auto)]
 
 mod arm;
@@ -17,7 +18,9 @@ mod spans;
 mod spot;
 mod stops;
 
+pub use arm::{Unarmed, prepare};
 pub use fault::ArmFault;
 pub use found::Found;
 pub use laws::{sample_is_searched, turns_by_search};
+pub use sampled::{is_thread, sample_at};
 pub use schedule::Schedule;

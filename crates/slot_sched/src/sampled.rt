@@ -1,4 +1,4 @@
-//! What a trace shows in the cycle at which it stands.
+//! What a trace shows in the cycle at which it stands; a session asks for it too.
 
 ghost use Rattle.std.specs.Prelude.{◌≡◌, ◌<◌, Contains};
 ghost use Rattle.symtab.specs.Lookups.{instances_of};
@@ -12,8 +12,8 @@ use cond_lang::{Cond, truth};
 use symtab::Table;
 use trace_core::Trace;
 
-/// The sample of a node.
-fn sample_at<T: Trace>(trace: &T, node: NodeId) -> Sample
+/// The sample of a node. Takes no memory.
+pub fn sample_at<T: Trace>(trace: &T, node: NodeId) -> Sample
     requires set { IsSet (T.samples trace.now) (T.cursor trace.now) }
     requires node { node.0 < (T.samples trace.now).nodes }
     ensures sample { result ≡ cycle_samples (T.samples trace.now) (T.cursor trace.now) node.0 }
@@ -46,8 +46,8 @@ pub(crate) fn is_wanted(named: Option<u32>, instance: u32) -> bool
     }
 }
 
-/// Whether an instance has a slot as a thread.
-pub(crate) fn is_thread<T: Trace>(table: &Table, trace: &T, slot: u32, instance: u32) -> bool
+/// Whether an instance has a slot as a thread. Takes no memory.
+pub fn is_thread<T: Trace>(table: &Table, trace: &T, slot: u32, instance: u32) -> bool
     requires fits { FitsTable table.now (T.samples trace.now) }
     requires set { IsSet (T.samples trace.now) (T.cursor trace.now) }
     requires instance { Contains (instances_of table.now slot) instance }

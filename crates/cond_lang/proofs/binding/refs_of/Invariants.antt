@@ -8,4 +8,4 @@ use Rattle.cond_lang.proofs.binding.refs_of.Given as goal
 abbrev pub invariant-loop-name : goal.invariant-loop-name
 invariant-loop-name g l =
     AreRefs l.refs.items
-    × ((places : Name → Option binding.Binding) → Finds g.F.Fn l.find places → found_after places l.refs.items (drop l.name-index l.names) ≡ found_after places [] l.names)
+    × ((places : Name → Option binding.Binding) → Finds g.F.Fn l.find places l.names → found_after places l.refs.items (drop l.name-index l.names) ≡ found_after places [] l.names)

@@ -6,11 +6,8 @@ use Rattle.cond_lang.specs.TextShown.{text_expr, text_offsets}
 use Rattle.slot_sched.specs.Waiting.{cycle_samples}
 use Rattle.slot_sched.proofs.Readings.{read_once}
 use Rattle.dbg_core.specs.Eval.{table_body}
-use Rattle.dbg_core.proofs.Evals.{read_found, unread_body}
+use Rattle.dbg_core.proofs.Evals.{unread_body}
 use Rattle.dbg_core.proofs.eval.eval_in.Goals as goal
-
-pub bound-requires-clause-found : goal.bound-requires-clause-found
-bound-requires-clause-found g c = read_found c.args.table.now c.args.slot c.args.instance c.as_bytes.result.now c.in-Ok.text c.in-Ok.ensures.found
 
 pub returns-in-Ok : goal.returns-in-Ok
 returns-in-Ok g c = λ read reader.

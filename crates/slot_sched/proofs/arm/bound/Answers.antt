@@ -1,27 +1,30 @@
 use Rattle.std.proofs.Common.{rules, sym, subst}
+use Rattle.symtab.specs.Lookups.{binding_of}
 use Rattle.cond_lang.specs.Bound.{scope_of}
 use Rattle.cond_lang.specs.Judged.{judged}
+use Rattle.cond_lang.specs.Meaning.{tree_of, leaves}
 use Rattle.cond_lang.specs.TextShown.{text_expr, text_offsets}
+use Rattle.cond_lang.proofs.Ascii.{finds_each}
 use Rattle.machine_core.specs.Arming.{bit_refusal}
-use Rattle.slot_sched.specs.Arm.{TellsNone, ascii_binding}
-use Rattle.slot_sched.proofs.Ascii.{finds_ascii, bound_made}
+use Rattle.slot_sched.specs.Arm.{TellsNone}
+use Rattle.slot_sched.proofs.Prepared.{bound_made}
 use Rattle.slot_sched.proofs.arm.bound.Goals as goal
 
 pub returns-in-Ok-clause-tells : goal.returns-in-Ok-clause-tells
 returns-in-Ok-clause-tells c =
-    let places = ascii_binding c.args.table.now c.args.slot c.args.instance in
-    let width = c.in-Ok.ensures.width places (finds_ascii _ _ c.args.table.now c.args.slot c.args.instance (λ name found post. search rules)) in
+    let places = binding_of c.args.table.now c.args.slot c.args.instance in
+    let width = c.in-Ok.ensures.width places (finds_each _ _ places (leaves (tree_of (text_expr c.args.text.now))) (λ name found post. search rules)) in
     subst (λ j. TellsNone c.bit.result (bit_refusal c.args.slot j)) (sym width) (c.bit.ensures.tells c.args.slot)
 
 pub returns-in-Ok-clause-made : goal.returns-in-Ok-clause-made
 returns-in-Ok-clause-made c =
-    let places = ascii_binding c.args.table.now c.args.slot c.args.instance in
-    let width = c.in-Ok.ensures.width places (finds_ascii _ _ c.args.table.now c.args.slot c.args.instance (λ name found post. search rules)) in
-    let tree = c.in-Ok.ensures.bound places (finds_ascii _ _ c.args.table.now c.args.slot c.args.instance (λ name found post. search rules)) in
-    bound_made c.bit.result c.in-Ok.cond places c.args.text.now c.bit.ensures.same c.bit.ensures.bit width tree
+    let places = binding_of c.args.table.now c.args.slot c.args.instance in
+    let width = c.in-Ok.ensures.width places (finds_each _ _ places (leaves (tree_of (text_expr c.args.text.now))) (λ name found post. search rules)) in
+    let tree = c.in-Ok.ensures.bound places (finds_each _ _ places (leaves (tree_of (text_expr c.args.text.now))) (λ name found post. search rules)) in
+    bound_made c.bit.result c.in-Ok.cond c.args.table.now c.args.slot c.args.instance c.args.text.now c.bit.ensures.same c.bit.ensures.bit width tree
 
 pub returns-in-Err-clause-tells : goal.returns-in-Err-clause-tells
 returns-in-Err-clause-tells c =
-    let places = ascii_binding c.args.table.now c.args.slot c.args.instance in
+    let places = binding_of c.args.table.now c.args.slot c.args.instance in
     c.fault_of.ensures (judged (scope_of places) (text_expr c.args.text.now) (text_offsets c.args.text.now))
-    (c.in-Err.ensures.refused places (finds_ascii _ _ c.args.table.now c.args.slot c.args.instance (λ name found post. search rules)))
+    (c.in-Err.ensures.refused places (finds_each _ _ places (leaves (tree_of (text_expr c.args.text.now))) (λ name found post. search rules)))

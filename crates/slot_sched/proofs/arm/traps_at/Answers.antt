@@ -1,7 +1,7 @@
 use Rattle.std.proofs.Common.{Err, get_or, ap, ◌∙◌}
 use Rattle.std.proofs.lemmas.List.Elements.{All-get_or}
 use Rattle.std.proofs.lemmas.Result.{err_from_is_err_and}
-use Rattle.slot_sched.specs.Arm.{answer_for, ascii_refused, IsSpot}
+use Rattle.slot_sched.specs.Arm.{answer_for, refused_at, IsSpot}
 use Rattle.slot_sched.proofs.Firsts.{first_told}
 use Rattle.slot_sched.proofs.Prepared.{same_item, trap_more, told_end}
 use Rattle.slot_sched.proofs.arm.traps_at.Goals as goal
@@ -13,7 +13,7 @@ returns-in_err-trap-clause-tells c =
     let end = c.in_err-trap.field-0.0 in
     let p = err_from_is_err_and c.from_residual.result c.from_residual.ensures.1 in
     told_end c.from_residual.result end _ (p.1 ∙ ap (λ x. Err x) p.2)
-    (first_told (answer_for end) (ascii_refused c.args.table.now c.args.text.now) spots i (get_or spots i (0, 0)) c.loop-spot-test.true (same_item spots i (0, 0) c.loop-spot-test.true) c.loop-spot.invariant.2 c.in_err-trap.ensures.tells)
+    (first_told (answer_for end) (refused_at c.args.table.now c.args.text.now) spots i (get_or spots i (0, 0)) c.loop-spot-test.true (same_item spots i (0, 0) c.loop-spot-test.true) c.loop-spot.invariant.2 c.in_err-trap.ensures.tells)
 
 pub loop-spot-preserved : goal.loop-spot-preserved
 loop-spot-preserved c =

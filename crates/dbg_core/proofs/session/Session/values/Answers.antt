@@ -3,7 +3,7 @@ use Rattle.std.specs.Prelude.{IfOk, nat_eq}
 use Rattle.std.specs.List.{list_any}
 use Rattle.machine_core.specs.declared.reply.At.TheVariants.{Start, End}
 use Rattle.dbg_core.specs.World.{world_of}
-use Rattle.dbg_core.specs.Answering.{threads_of}
+use Rattle.machine_core.specs.Machine.{threads_of}
 use Rattle.dbg_core.proofs.Values.{instance_here, cycle_here, values_here, no_threads, none_in}
 use Rattle.dbg_core.proofs.session.Session.values.Goals as goal
 

@@ -1,4 +1,4 @@
 use Rattle.slot_sched.proofs.schedule.Schedule.arm.Goals as goal
 
 pub returns-clause-own : goal.returns-clause-own
-returns-clause-own c = λ own. c.add.ensures.own c.args.table.now c.in_ok-unarmed.ensures.traps own
+returns-clause-own c = λ own. c.commit.ensures.own c.args.table.now c.in_ok-unarmed.ensures.armable own

@@ -4,9 +4,11 @@ use Rattle.std.proofs.lemmas.List.Elements.{All-filter}
 use Rattle.machine_core.specs.Matching.{Breakpoint}
 use Rattle.machine_core.specs.Machine.{has_number}
 use Rattle.slot_sched.specs.declared.armed.Armed.{Armed}
-use Rattle.slot_sched.specs.Armed.{breakpoint_of, breakpoints, AreRising, IsArmed}
+use Rattle.slot_sched.specs.Armed.{breakpoint_of, breakpoints, IsArmed}
+use Rattle.machine_core.specs.Numbers.{AreRising}
+use Rattle.machine_core.proofs.Numbers.{rising_kept}
 use Rattle.slot_sched.proofs.Any.{any_mapped}
-use Rattle.slot_sched.proofs.Order.{others, others_mapped, all_others, rising_kept}
+use Rattle.slot_sched.proofs.Order.{others, others_mapped, all_others}
 use Rattle.slot_sched.proofs.Spanning.{within_filtered}
 use Rattle.slot_sched.proofs.schedule.Schedule.disarm.Goals as goal
 

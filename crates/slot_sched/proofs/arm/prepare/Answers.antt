@@ -6,10 +6,10 @@ use Rattle.symtab.specs.Shape.{lines_of}
 use Rattle.cond_lang.specs.TextShown.{text_expr}
 use Rattle.machine_core.specs.Arming.{first_of, unless_refused, limit_refusal}
 use Rattle.slot_sched.specs.Armed.{traps_of}
-use Rattle.slot_sched.specs.Arm.{answer_for, named_has, IsRefusal, IsTold, ascii_refused, asked_instance}
+use Rattle.slot_sched.specs.Arm.{answer_for, named_has, IsRefusal, IsTold, refused_at, asked_instance}
 use Rattle.slot_sched.proofs.Prepared.{no_site, no_instance, no_text, no_bit, is_made, refused_end, spots_are}
 use Rattle.slot_sched.proofs.Rising.{waits_in_order}
-use Rattle.slot_sched.proofs.arm.prepared.Goals as goal
+use Rattle.slot_sched.proofs.arm.prepare.Goals as goal
 
 pub returns-then-is_empty-clause-told : goal.returns-then-is_empty-clause-told
 returns-then-is_empty-clause-told c = λ read s armed next reader.
@@ -33,10 +33,10 @@ returns-in_err-text-clause-told c = λ read s armed next reader.
     let path = option_map (λ p. p.now) c.args.path in
     refused_end armed next c.from_residual-in_err-text.result end _ (p.1 ∙ ap (λ x. Err x) p.2)
     (no_text read c.args.table.now s armed next c.args.line path _ (λ z. some (ap (λ (l : List ℕ). length l) c.slots_on-all.ensures.slots ∙ z)) c.in_ok-instance.instance
-    (sym (ap (λ (l : List ℕ). asked_instance c.args.table.now l path) c.slots_on-all.ensures.slots) ∙ c.in_ok-instance.ensures) (answer_for end) (c.in_err-text.ensures.read read reader))
+    (sym (ap (λ (l : List ℕ). asked_instance c.args.table.now l path) c.slots_on-all.ensures.slots) ∙ c.in_ok-instance.ensures) (answer_for end) (c.in_err-text.ensures read reader))
 
-pub traps_for-requires-clause-within : goal.traps_for-requires-clause-within
-traps_for-requires-clause-within c =
+pub traps_for-requires : goal.traps_for-requires
+traps_for-requires c =
     subst (λ (l : List ℕ). All (λ k. k < length c.args.table.now.slots) l) (sym (c.deref.ensures.value ∙ c.in_ok-slots.ensures.slots))
     (All-filter (named_has c.args.table.now c.in_ok-instance.instance) (λ k. k < length c.args.table.now.slots) c.slots_on-all.result.now c.slots_on-all.ensures.within)
 
@@ -55,9 +55,9 @@ returns-in_err-traps-clause-told c = λ read s armed next reader.
     refused_end armed next c.from_residual-in_err-traps.result end _ (p.1 ∙ ap (λ x. Err x) p.2)
     (no_bit read parts s armed next c.args.line path _ (λ z. some (ap (λ (l : List ℕ). length l) c.slots_on-all.ensures.slots ∙ z)) named
     (sym (ap (λ (l : List ℕ). asked_instance parts l path) c.slots_on-all.ensures.slots) ∙ c.in_ok-instance.ensures)
-    c.parts-parts.ensures.table ct c.in_ok-text.ensures.ascii (spots_are parts named _ (All-filter (named_has parts named) (λ k. k < length parts.slots) _ within))
-    (c.in_ok-text.ensures.read read reader) (answer_for end)
-    (subst (λ (l : List ℕ). IsTold (answer_for end) (first_of (map (ascii_refused parts ct) (traps_of parts named l)))) kept c.in_err-traps.ensures.tells))
+    c.parts-parts.ensures.table ct (spots_are parts named _ (All-filter (named_has parts named) (λ k. k < length parts.slots) _ within))
+    (c.in_ok-text.ensures read reader) (answer_for end)
+    (subst (λ (l : List ℕ). IsTold (answer_for end) (first_of (map (refused_at parts ct) (traps_of parts named l)))) kept c.in_err-traps.ensures.tells))
 
 pub returns-clause-told : goal.returns-clause-told
 returns-clause-told c = λ read s armed next reader.
@@ -71,13 +71,13 @@ returns-clause-told c = λ read s armed next reader.
     let within = subst (λ (l : List ℕ). All (λ k. k < length parts.slots) l) c.slots_on-all.ensures.slots c.slots_on-all.ensures.within in
     is_made read parts s armed next c.args.line path _ (λ z. some (ap (λ (l : List ℕ). length l) c.slots_on-all.ensures.slots ∙ z)) named
     (sym (ap (λ (l : List ℕ). asked_instance parts l path) c.slots_on-all.ensures.slots) ∙ c.in_ok-instance.ensures)
-    c.parts-parts.ensures.table ct c.in_ok-text.ensures.ascii (spots_are parts named _ (All-filter (named_has parts named) (λ k. k < length parts.slots) _ within))
-    (c.in_ok-text.ensures.read read reader)
-    (sym (ap (λ (l : List ℕ). first_of (map (ascii_refused parts ct) (traps_of parts named l))) (c.deref.ensures.value ∙ items)) ∙ c.in_ok-traps.ensures.tells)
+    c.parts-parts.ensures.table ct (spots_are parts named _ (All-filter (named_has parts named) (λ k. k < length parts.slots) _ within))
+    (c.in_ok-text.ensures read reader)
+    (sym (ap (λ (l : List ℕ). first_of (map (refused_at parts ct) (traps_of parts named l))) (c.deref.ensures.value ∙ items)) ∙ c.in_ok-traps.ensures.tells)
     ∙ ap (λ (l : List ℕ). unless_refused (limit_refusal armed next) (record { number = next; slots = l; instance = named; condition = option_map text_expr ct })) (sym items)
 
-pub returns-clause-traps : goal.returns-clause-traps
-returns-clause-traps c =
+pub returns-clause-armable : goal.returns-clause-armable
+returns-clause-armable c =
     let named = c.in_ok-instance.instance in
     let parts = c.args.table.now in
     let places_at = c.in_ok-traps.ensures.places ∙ ap (traps_of parts named) c.deref.ensures.value in

@@ -5,7 +5,7 @@ use Rattle.std.proofs.lemmas.List.Elements.{All-push, All-same}
 use Rattle.slot_sched.specs.Armed.{IsArmed}
 use Rattle.slot_sched.proofs.Order.{order_more}
 use Rattle.slot_sched.proofs.Spanning.{spanned_kept, trap_below, within_push}
-use Rattle.slot_sched.proofs.schedule.Schedule.add.Goals as goal
+use Rattle.slot_sched.proofs.schedule.Schedule.commit.Goals as goal
 
 pub invariant_of-self : goal.invariant_of-self
 invariant_of-self c = record { few = c.args.self.now.few; spanned = spanned_kept _ _ c.grown.ensures.keeps 0 c.args.self.now.armed.items c.args.self.now.spanned; gaps = c.grown.ensures.gaps c.args.self.now.gaps }

@@ -1,7 +1,0 @@
-use Rattle.std.proofs.Common.{◌≡◌, true, take}
-use Rattle.std.specs.List.{list_all}
-use Rattle.slot_sched.specs.Arm.{is_ascii}
-use Rattle.slot_sched.proofs.arm.is_ascii.Given as goal
-
-abbrev pub invariant-loop-byte : goal.invariant-loop-byte
-invariant-loop-byte l = list_all is_ascii (take l.byte-index l.name) ≡ true
