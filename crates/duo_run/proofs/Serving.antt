@@ -9,9 +9,8 @@ use Rattle.world_core.specs.World.{World}
 use Rattle.machine_core.specs.declared.reply.Reply.{Reply}
 use Rattle.machine_core.specs.declared.turn.Turned.{Turned}
 use Rattle.machine_core.specs.Reading.{Reader, IsReader}
-use Rattle.machine_core.specs.Machine.{Machine, Answer, answer_of, Turn, turn_of}
+use Rattle.machine_core.specs.Machine.{Machine, Answer, answer_of, Turn, turn_of, is_running}
 use Rattle.machine_core.specs.Journal.{Line, Replied, notices_of, closing_lines, closed, is_bye}
-use Rattle.dbg_core.specs.Answering.{is_running}
 use Rattle.req_json.specs.Asked.{asked}
 use Rattle.machine_core.specs.declared.request.Asked.{Asked}
 use Rattle.text_core.specs.declared.memory.NoMemory.{NoMemory}

@@ -2,9 +2,8 @@
 use Rattle.std.specs.Prelude.{ℕ, Bool, true, false, not, ◌&&◌, ◌||◌, List, [], ◌∷◌, ◌++◌, if◌then◌else◌}
 use Rattle.world_core.specs.World.{World}
 use Rattle.machine_core.specs.Reading.{Reader}
-use Rattle.machine_core.specs.Machine.{Machine, turn_of, Answer, answer_of}
+use Rattle.machine_core.specs.Machine.{Machine, turn_of, Answer, answer_of, is_running}
 use Rattle.machine_core.specs.Journal.{Line, Replied, notices_of, is_bye}
-use Rattle.dbg_core.specs.Answering.{is_running}
 use Rattle.req_json.specs.Asked.{asked}
 
 pub data Deed : Type 0 where

@@ -2,8 +2,7 @@
 
 ghost use Rattle.std.specs.Prelude.{◌≡◌, ◌≢◌, ◌≤◌, ◌<◌, ◌++◌, [], ◌∷◌, List, ℕ, None, Some, true, false, IfOk, OnErr, OnOk, IfSome, IfNone, OnSome, ◌⊎◌, IsTrue, IsFalse, MatchOption, map, is_some, length, vec_len, vec_capacity, ◌||◌};
 ghost use Rattle.link_edge.specs.Links.{Meaning};
-ghost use Rattle.machine_core.specs.Journal.{Line, Replied, Noticed, is_bye};
-ghost use Rattle.dbg_core.specs.Answering.{told_lines};
+ghost use Rattle.machine_core.specs.Journal.{Line, Replied, Noticed, is_bye, told_lines};
 ghost use Rattle.req_json.specs.Asked.{asked};
 ghost use Rattle.req_json.specs.Replies.{reply_text};
 

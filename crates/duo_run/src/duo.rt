@@ -137,8 +137,8 @@ fn serve_over<R: Threads + Wait + Sync, T: Trace + Send + Drop, L: Link, G: Gate
 /// places each. It ends as in lock step, or at once where there is no memory for the rings; where no thread can be started, it is
 /// served in lock step.
 ///
-/// A side whose ring is full, or that has had nothing to do, lets other threads run and tries again: neither side sleeps. Each line is
-/// copied once, as it goes through the ring.
+/// A side whose ring is full lets other threads run and tries again. One that has had nothing to do for a while sleeps a millisecond at most
+/// between two tries. Each line is copied once, as it goes through the ring.
 ///
 /// Where the link is silent, it waits, and may never return.
 pub fn serve_duo<R: Threads + Wait + Sync, T: Trace + Send + Drop, L: Link, G: Gate>(

@@ -5,7 +5,7 @@
 //!
 //! In two threads one holds the link (`pump`) and one the session (`side`), with two rings between them (`rings`). The session's side
 //! is served in lock step too, with its ends of the rings as its link (`ends`); once the thread was joined, `gather` puts the sides
-//! together. So the same is promised of both ways.
+//! together. So the same is promised of both ways. A loop that has nothing to do rests (`rest`).
 //!
 //! `specs/` has the definitions: `Texts` the text of a line, `Deeds` what is done with a session one by one, `Polls` what the polls of
 //! a link come to, `Journals` the journal, `Connections` what a served connection is, and `Desks` what holds while it is served; for two
@@ -25,6 +25,7 @@ mod laws;
 mod lockstep;
 mod outlet;
 mod pump;
+mod rest;
 mod rings;
 mod served;
 mod side;

@@ -9,6 +9,7 @@ ghost use Rattle.dbg_core.specs.State.{machine_of};
 ghost use Rattle.duo_run.specs.Connections.{Carries, Applies, InLockStep};
 
 use crate::desk::Desk;
+use crate::rest::Rest;
 use crate::served::Served;
 use dbg_core::{Listeners, Session};
 use link_edge::{Gate, Link};
@@ -19,7 +20,8 @@ use trace_core::Trace;
 
 /// Serves a link from a new session in lock step. Each round polls once, applies a message, and makes one turn, behind the gate, if the
 /// session runs and its client has not left; each line is sent as it is made. It ends at an accepted `bye`, where the link is closed
-/// or broken, and where memory ran out; then come the last lines of the listeners that remain. At most one message is not applied.
+/// or broken, and where memory ran out; then come the last lines of the listeners that remain. At most one message is not applied. After
+/// rounds in which there was nothing to do, it rests.
 ///
 /// Where the link is silent, it waits, and may never return.
 pub fn serve_lockstep<R: Wait, T: Trace + Drop, L: Link, G: Gate>(
@@ -45,12 +47,15 @@ pub fn serve_lockstep<R: Wait, T: Trace + Drop, L: Link, G: Gate>(
     let mut listeners = listeners;
     let mut desk = Desk::new(alloc, link);
     desk.make_room();
+    let mut rest = Rest::new();
     for _ in rt.forever() {
         if desk.is_over() {
             break;
         }
+        rest.step(rt);
         match desk.hear() {
             Some((text, asked)) => {
+                rest.end();
                 let reply = session.request(&asked, &mut listeners);
                 desk.answer(text, reply);
                 drop(asked);
@@ -58,6 +63,7 @@ pub fn serve_lockstep<R: Wait, T: Trace + Drop, L: Link, G: Gate>(
             None => {}
         }
         if session.running() && desk.is_ready() {
+            rest.end();
             gate.before_turn();
             let turned = session.turn(&mut listeners);
             let notice = session.notice(turned);

@@ -21,8 +21,7 @@ impl<L: Link> Outlet<L> {
     ghost use Rattle.std.specs.Prelude.{◌≡◌, ◌≢◌, ◌++◌, [], ◌∷◌, List, ℕ, None, Some, false, IfOk, IfSome, IfNone, OnSome, map};
     ghost use Rattle.io_edge.specs.Taken.{Appends};
     ghost use Rattle.link_edge.specs.Links.{Meaning};
-    ghost use Rattle.machine_core.specs.Journal.{Line, Noticed};
-    ghost use Rattle.dbg_core.specs.Answering.{told_lines};
+    ghost use Rattle.machine_core.specs.Journal.{Line, Noticed, told_lines};
     ghost use Rattle.duo_run.specs.Texts.{texts_of};
     ghost use Rattle.duo_run.specs.Desks.{Delivered, Lasts, polled_without};
 

@@ -6,12 +6,12 @@ ghost use Rattle.duo_run.specs.Rings.{finishes};
 
 use crate::cause::Cause;
 use crate::outlet::Outlet;
+use crate::rest::Rest;
 use crate::rings::{FromLink, ToLink};
 use link_edge::Link;
 use rtrb::{Consumer, Producer, PushError};
 use std::alloc::Global;
 use std::sync::Wait;
-use std::thread;
 use text_core::Listed;
 
 /// What a step came to.
@@ -162,7 +162,7 @@ impl<L: Link> Pump<L> {
         taken
     }
 
-    /// Serves the link, until the session is over. After a step in which there was nothing to do, it lets other threads run.
+    /// Serves the link, until the session is over. After steps in which there was nothing to do, it rests.
     ///
     /// Where the session goes on, it waits, and may never return.
     pub(crate) fn serve<R: Wait>(
@@ -181,11 +181,12 @@ impl<L: Link> Pump<L> {
         ensures lines { SameConsumer lines result.lines }
     {
         let mut side = Pump::new(alloc, link, messages, lines);
+        let mut rest = Rest::new();
         for _ in rt.forever() {
             match side.step() {
                 Stepped::Over => return side,
-                Stepped::Worked => {}
-                Stepped::Idle => thread::yield_now(),
+                Stepped::Worked => rest.end(),
+                Stepped::Idle => rest.step(rt),
             }
         }
         unreachable!()

@@ -152,7 +152,7 @@ where
     let mut out = KeptSink::new(StdSink::new(rt));
     let status = serve(rt, alloc, words, &mut files, &mut out, &mut door, sets).status;
     explain(rt, words, status, files.missed(), out.front());
-    explain_address(rt, address, out.front(), door.listens());
+    explain_address(rt, address, door.refused());
     Ok(status)
 }
 

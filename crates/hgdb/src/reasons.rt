@@ -5,14 +5,13 @@
 //! regular one: a pipe would be waited for.
 
 use advice::{
-    Assigned, Declared, Fault, advice_on, assigns, declared_as, declared_line, fault_of, line_at,
-    line_of_offset, sentence_on, signs_of,
+    Advice, Assigned, Declared, Fault, advice_on, assigns, declared_as, declared_line, fault_of,
+    line_at, line_of_offset, sentence_on, signs_of,
 };
 use io_edge::{Files as Read, StdFiles, Words};
 use std::alloc::Global;
-use std::fs;
-use std::net::{Net, TcpListener};
 use std::rt::Files;
+use std::{fs, io};
 
 /// How many bytes of a source and of a stimulus are read again at most.
 const SOURCE: usize = 1048576;
@@ -212,26 +211,46 @@ fn show_stimulus<R: Files + Eprint + AllocGlobal>(rt: &R, name: &str, fault: &Fa
     say_fields(rt, fault.fields);
 }
 
-/// Explains the refusal of a source or a stimulus, whose line is the first of what was printed.
-fn explain_refusal<R: Files + Eprint + AllocGlobal>(rt: &R, words: &Words, front: &[u8]) {
-    let Some(fault) = first_line(front).and_then(|line| fault_of(line)) else {
+/// Shows where the file that is refused is so, which the words name.
+fn show_refused<R: Files + Eprint + AllocGlobal>(rt: &R, words: &Words, fault: &Fault<'_>) {
+    let is_design = fault.kind == "design";
+    let Some(name) = word(words, if is_design { 2 } else { 3 }) else {
         return;
     };
-    let Some(advice) = advice_on(fault.kind, fault.number) else {
-        return;
-    };
-    let _ = eprintln!(rt; "error[{}] {}: {}", fault.number, advice.name, advice.means);
-    if fault.kind == "design" {
-        if let Some(name) = word(words, 2) {
-            show_design(rt, name, &fault);
-        }
-    } else if let Some(name) = word(words, 3) {
-        show_stimulus(rt, name, &fault);
+    if is_design {
+        show_design(rt, name, fault);
+    } else {
+        show_stimulus(rt, name, fault);
     }
+}
+
+/// Says what a refusal is.
+fn say_refusal(rt: &impl Eprint, fault: &Fault<'_>, advice: &Advice) {
+    let _ = eprintln!(rt; "error[{}] {}: {}", fault.number, advice.name, advice.means);
+}
+
+/// Says what to do about it.
+fn say_todo(rt: &impl Eprint, advice: &Advice) {
     let _ = eprintln!(rt; "  = {}", advice.todo);
     let _ = eprintln!(rt;
         "  = docs/FAULTS.md has every refusal, docs/LANGUAGE.md an example of each"
     );
+}
+
+/// Explains a refusal of which something is known.
+fn explain_fault<R: Files + Eprint + AllocGlobal>(rt: &R, words: &Words, fault: &Fault<'_>) {
+    if let Some(advice) = advice_on(fault.kind, fault.number) {
+        say_refusal(rt, fault, &advice);
+        show_refused(rt, words, fault);
+        say_todo(rt, &advice);
+    }
+}
+
+/// Explains the refusal of a source or a stimulus, whose line is the first of what was printed.
+fn explain_refusal<R: Files + Eprint + AllocGlobal>(rt: &R, words: &Words, front: &[u8]) {
+    if let Some(fault) = first_line(front).and_then(|line| fault_of(line)) {
+        explain_fault(rt, words, &fault);
+    }
 }
 
 /// Says which file was not read, and what the system says of it.
@@ -274,13 +293,9 @@ pub fn explain<R: Files + Eprint + AllocGlobal>(
     }
 }
 
-/// Says on standard error why nobody could listen at the address of a service, where its first connection did not come about and its door does not
-/// listen: then the system does not let anybody listen there now either.
-pub fn explain_address<R: Net + Eprint>(rt: &R, address: &str, front: &[u8], listens: bool) {
-    if listens || !front.starts_with(b"connection 0 door failed\n") {
-        return;
-    }
-    if let Err(error) = TcpListener::bind(rt, address) {
+/// Says on standard error what the system said where it let nobody listen at the address of a service.
+pub fn explain_address(rt: &impl Eprint, address: &str, refused: Option<&io::Error>) {
+    if let Some(error) = refused {
         let _ = eprintln!(rt; "hgdb: nobody can listen at {address}: {error}");
     }
 }

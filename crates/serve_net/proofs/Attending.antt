@@ -16,7 +16,7 @@ module _ {L : Type 0} (meant : L → Meaning) (shows : Over → Type 0) (sets se
   -- a connection that was kept is a visit, unless memory ran out
   pub attended : (s : Served L) (result : Result Visit NoMemory) → sets_new ≡ behind_next sets → ((over : Over) → shows over → IsMember meant over (next_of sets) s) → TakesLink l0 l1 f0 f1 → Keeps old new s result
       → IfOk result (λ visit. (over : Over) → shows over → Attends meant over sets sets_new old new l0 l1 f0 f1 visit)
-  attended s (Ok visit) left is takes kept = λ over sh. linked s (kept.1) left (record { member = is over sh; kept = kept.0 }) takes
+  attended s (Ok visit) left is takes kept = λ over sh. linked s kept.1 left kept.2 (record { member = is over sh; kept = kept.0 }) takes
   attended s (Err e) left is takes kept = tt
 
   pub broken : (s : Served L) (result : Result Visit NoMemory) → ((over : Over) → shows over → IsMember meant over (next_of sets) s) → TakesLink l0 l1 f0 f1 → Keeps old new s result

@@ -1,7 +1,8 @@
 -- A service on its way: what came of the times that the door was asked so far, and what the next time adds.
-use Rattle.std.proofs.Common.{arith, ◌≡◌, ◌+◌, ◌≤◌, ◌<◌, inl, inr, ℕ, List, [], ◌∷◌, ◌++◌, length, map, add-zero, Option, None, Some, refl, sym, ◌∙◌, ap, subst, append_assoc, append-nil}
+use Rattle.std.proofs.Common.{arith, ◌≡◌, ◌+◌, ◌≤◌, ◌<◌, inl, inr, ℕ, List, [], ◌∷◌, ◌++◌, All, length, map, add-zero, Option, None, Some, refl, sym, ◌∙◌, ap, subst, append_assoc, append-nil}
 use Rattle.std.specs.Option.{option_map}
 use Rattle.std.proofs.lemmas.List.{length-append, map-append}
+use Rattle.std.proofs.lemmas.List.Elements.{All-nil, All-push}
 use Rattle.io_edge.specs.Faults.{Rose}
 use Rattle.io_edge.specs.Taken.{Appends}
 use Rattle.io_edge.proofs.Growth.{grown_twice, front_after, no_growth, front_from_whole}
@@ -12,7 +13,7 @@ use Rattle.io_edge.specs.declared.sink_end.SinkEnd.TheVariants as sink_ends
 use Rattle.duo_run.specs.declared.served.Served.{Served}
 use Rattle.serve_net.specs.declared.visit.Visit.{Visit}
 use Rattle.serve_net.specs.declared.visit.Visit.TheVariants.{NoLink, Linked}
-use Rattle.serve_net.specs.Visits.{Told, visit_line, visits_text, lines_from, links_in, failures_in}
+use Rattle.serve_net.specs.Visits.{Told, HasLine, visit_line, visits_text, lines_from, links_in, failures_in}
 use Rattle.serve_net.specs.Over.{Over}
 use Rattle.serve_net.specs.Members.{told_of, IsMember, next_of, behind_next, AreMembers}
 use Rattle.serve_net.specs.Service.{Answers, ServesAll, ServesSome, end_status}
@@ -53,6 +54,7 @@ pub record Walked {L : Type 0} (meant : L → Meaning) (over : Over) (sets0 sets
   pub visits : List Visit
   pub counted : length visits ≡ number
   pub answers : Answers (length served) (failures_in visits) left0 left faults0 faults
+  pub lines : All HasLine visits
   pub told : map told_of served ≡ links_in visits
   -- with those that are still to come they are those from all sets
   pub members : (more : List (Served L)) → AreMembers meant over sets more → AreMembers meant over sets0 (served ++ more)
@@ -69,6 +71,7 @@ module _ {L : Type 0} (meant : L → Meaning) (over : Over) where
     visits = [];
     counted = refl;
     answers = answers_none left faults;
+    lines = All-nil HasLine;
     told = refl;
     members = λ more ms. ms;
     taken = grown_none old;
@@ -95,17 +98,20 @@ module _ {L : Type 0} (meant : L → Meaning) (over : Over) where
   -- what is known of so many visits, but for what was written
   record Stands (sets0 sets : List (List Heard)) (left0 left : Option ℕ) (faults0 faults : ℕ) (served : List (Served L)) (visits : List Visit) : Type 0 where
     answers : Answers (length served) (failures_in visits) left0 left faults0 faults
+    lines : All HasLine visits
     told : map told_of served ≡ links_in visits
     members : (more : List (Served L)) → AreMembers meant over sets more → AreMembers meant over sets0 (served ++ more)
 
   module _ (sets0 sets sets_new : List (List Heard)) (left0 left left_new : Option ℕ) (faults0 faults faults_new : ℕ) (served served_new : List (Served L)) (visits : List Visit) (visit : Visit) where
     stands_more : Stands sets0 sets left0 left faults0 faults served visits → Attends meant over sets sets_new served served_new left left_new faults faults_new visit → Stands sets0 sets_new left0 left_new faults0 faults_new served_new (visits ++ visit ∷ [])
     stands_more was (failed is same kept same_left rose) = record {
+      lines = rw is (All-push HasLine visits NoLink was.lines tt);
       answers = rw (is, failures_more visits NoLink, kept) (answers_failure (length served) (failures_in visits) left0 left left_new faults0 faults faults_new was.answers same_left rose);
       told = rw (is, links_more visits NoLink, kept, append-nil (links_in visits)) was.told;
       members = rw (same, kept) was.members;
     }
-    stands_more was (linked s is behind adds takes) = record {
+    stands_more was (linked s is behind lasts adds takes) = record {
+      lines = rw is (All-push HasLine visits (Linked (told_of s).0 (told_of s).1) was.lines lasts);
       answers = rw (is, failures_more visits (Linked (told_of s).0 (told_of s).1), adds.kept, length-append served (s ∷ []), add-zero (failures_in visits)) (answers_link (length served) (failures_in visits) left0 left left_new faults0 faults faults_new was.answers takes);
       told = rw (is, links_more visits (Linked (told_of s).0 (told_of s).1), adds.kept) (told_more served s (links_in visits) was.told);
       members = rw (behind, adds.kept) (member_more sets0 sets served s was.members adds.member);
@@ -113,7 +119,7 @@ module _ {L : Type 0} (meant : L → Meaning) (over : Over) where
 
   module _ (sets0 sets : List (List Heard)) (left0 left left_new : Option ℕ) (faults0 faults faults_new : ℕ) (served served_new : List (Served L)) (old now new : Option (List ℕ)) (number : ℕ) (was : Walked meant over sets0 sets left0 left faults0 faults served old now number) where
     stands : Stands sets0 sets left0 left faults0 faults served was.visits
-    stands = record { answers = was.answers; told = was.told; members = was.members }
+    stands = record { answers = was.answers; lines = was.lines; told = was.told; members = was.members }
 
     line_is : (visit : Visit) → visits_text (was.visits ++ visit ∷ []) ≡ visits_text was.visits ++ visit_line number visit
     line_is visit = lines_more 0 was.visits visit ∙ ap (λ n. visits_text was.visits ++ visit_line n visit) (omega (arith, was.counted))
@@ -129,6 +135,7 @@ module _ {L : Type 0} (meant : L → Meaning) (over : Over) where
           visits = was.visits ++ v.visit ∷ [];
           counted = count_is v.visit;
           answers = s.answers;
+          lines = s.lines;
           told = s.told;
           members = s.members;
           taken = rw (line_is v.visit) (grown_twice old now new (visits_text was.visits) (visit_line number v.visit) was.taken v.taken);
@@ -143,6 +150,7 @@ module _ {L : Type 0} (meant : L → Meaning) (over : Over) where
       within = omega (arith, within, was.counted);
       came = record {
         answers = rw (add-zero (length served)) (answers_later (length served) (failures_in was.visits) left0 left left_new faults0 faults faults_new was.answers same later);
+        lines = was.lines;
         told = rw (append-nil (links_in was.visits)) was.told;
         members = all_members sets0 sets served was.members;
       };
@@ -158,6 +166,7 @@ module _ {L : Type 0} (meant : L → Meaning) (over : Over) where
       within = omega (arith, within, was.counted);
       came = record {
         answers = answers_link (length served) (failures_in was.visits) left0 left left_new faults0 faults faults_new was.answers takes;
+        lines = was.lines;
         told = rw (append-nil (links_in was.visits)) was.told;
         members = all_members sets0 sets served was.members;
       };
@@ -173,6 +182,7 @@ module _ {L : Type 0} (meant : L → Meaning) (over : Over) where
       within = omega (arith, within, was.counted);
       came = record {
         answers = rw (length-append served (s ∷ []), add-zero (length served + 1)) (answers_link (length served) (failures_in was.visits) left0 left left_new faults0 faults faults_new was.answers takes);
+        lines = was.lines;
         told = told_more served s (links_in was.visits) was.told;
         members = all_members sets0 (behind_next sets) (served ++ s ∷ []) (member_more sets0 sets served s was.members adds.member);
       };
@@ -193,6 +203,7 @@ module _ {L : Type 0} (meant : L → Meaning) (over : Over) where
           within = rw (count_is visit) (omega (arith, within));
           came = record {
             answers = rw (add-zero (length served_new)) s.answers;
+            lines = s.lines;
             told = rw (append-nil (links_in (was.visits ++ visit ∷ []))) s.told;
             members = all_members sets0 sets_new served_new s.members;
           };
@@ -208,6 +219,7 @@ module _ {L : Type 0} (meant : L → Meaning) (over : Over) where
     counted = was.counted ∙ all;
     came = record {
       answers = rw (add-zero (length served)) was.answers;
+      lines = was.lines;
       told = rw (append-nil (links_in was.visits)) was.told;
       members = all_members sets0 sets served was.members;
     };
@@ -222,7 +234,7 @@ module _ {L : Type 0} (meant : L → Meaning) (over : Over) where
     untold = [];
     unserved = 0;
     within = omega arith;
-    came = record { answers = answers_none left faults; told = refl; members = tt };
+    came = record { answers = answers_none left faults; lines = All-nil HasLine; told = refl; members = tt };
     taken = no_growth old old [] refl;
     few = omega arith;
     untold_is = inl refl;

@@ -1,5 +1,5 @@
 -- One time that the door is asked: what it adds to what was done before.
-use Rattle.std.specs.Prelude.{◌≡◌, ◌≤◌, ◌⊎◌, ℕ, List, [], ◌∷◌, ◌++◌, Option, Result, Ok, Err}
+use Rattle.std.specs.Prelude.{◌≡◌, ◌≢◌, ◌≤◌, ◌⊎◌, ℕ, List, [], ◌∷◌, ◌++◌, Option, Result, Ok, Err}
 use Rattle.io_edge.specs.Faults.{Rose}
 use Rattle.io_edge.specs.Taken.{Appends, AppendsFront}
 use Rattle.listen.specs.Pairs.{Heard}
@@ -18,7 +18,7 @@ use Rattle.serve_net.specs.Members.{told_of, IsMember, next_of, behind_next}
 
 -- a connection was kept: it stands last, and has a visit unless it ended for want of memory; or there was no room for it
 abbrev pub Keeps : {L : Type 0} → List (Served L) → List (Served L) → Served L → Result Visit NoMemory → Type 0
-Keeps old new s (Ok visit) = (new ≡ old ++ s ∷ []) × (visit ≡ Linked (told_of s).0 (told_of s).1)
+Keeps old new s (Ok visit) = (new ≡ old ++ s ∷ []) × (visit ≡ Linked (told_of s).0 (told_of s).1) × (s.end ≢ ends.NoMemory)
 Keeps old new s (Err e) = (new ≡ old) ⊎ ((new ≡ old ++ s ∷ []) × (s.end ≡ ends.NoMemory))
 
 -- a link was taken from the door
@@ -31,10 +31,10 @@ pub record Adds {L : Type 0} (meant : L → Meaning) (over : Over) (sets : List 
   pub member : IsMember meant over (next_of sets) s
   pub kept : new ≡ old ++ s ∷ []
 
--- the door failed, or a link came and was served
+-- the door failed, or a link came and was served, and memory lasted
 pub data Attends {L : Type 0} (meant : L → Meaning) (over : Over) (sets sets_new : List (List Heard)) (old new : List (Served L)) (left_old left_new : Option ℕ) (faults_old faults_new : ℕ) (visit : Visit) : Type 0 where
   failed : visit ≡ NoLink → sets_new ≡ sets → new ≡ old → left_new ≡ left_old → Rose faults_old faults_new → Attends meant over sets sets_new old new left_old left_new faults_old faults_new visit
-  linked : (s : Served L) → visit ≡ Linked (told_of s).0 (told_of s).1 → sets_new ≡ behind_next sets → Adds meant over sets old new s → TakesLink left_old left_new faults_old faults_new → Attends meant over sets sets_new old new left_old left_new faults_old faults_new visit
+  linked : (s : Served L) → visit ≡ Linked (told_of s).0 (told_of s).1 → sets_new ≡ behind_next sets → s.end ≢ ends.NoMemory → Adds meant over sets old new s → TakesLink left_old left_new faults_old faults_new → Attends meant over sets sets_new old new left_old left_new faults_old faults_new visit
 
 -- memory ran out: at the door, at a link that came and is lost, or in its connection
 pub data Breaks {L : Type 0} (meant : L → Meaning) (over : Over) (sets : List (List Heard)) (old new : List (Served L)) (left_old left_new : Option ℕ) (faults_old faults_new : ℕ) : Type 0 where

@@ -4,3 +4,4 @@ pub mod Readied
 pub mod Members
 pub mod Attending
 pub mod Service
+pub mod Sample

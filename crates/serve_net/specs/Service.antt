@@ -1,5 +1,5 @@
 -- A service: how often the door was asked, what came of it, and what was written.
-use Rattle.std.specs.Prelude.{◌≡◌, ◌≢◌, ◌≤◌, ◌+◌, ◌-◌, ◌^◌, ◌⊎◌, ◌==◌, ◌||◌, ℕ, Bool, List, [], ◌∷◌, ◌++◌, Option, length, map, min}
+use Rattle.std.specs.Prelude.{◌≡◌, ◌≢◌, ◌≤◌, ◌+◌, ◌-◌, ◌^◌, ◌⊎◌, ◌==◌, ◌||◌, ℕ, Bool, List, [], ◌∷◌, ◌++◌, Option, All, length, map, min}
 use Rattle.std.specs.Option.{option_map}
 use Rattle.io_edge.specs.Taken.{Appends, AppendsFront}
 use Rattle.listen.specs.Pairs.{Heard}
@@ -9,7 +9,7 @@ use Rattle.io_edge.specs.declared.sink_end.SinkEnd.{SinkEnd}
 use Rattle.io_edge.specs.declared.sink_end.SinkEnd.TheVariants as sink_ends
 use Rattle.duo_run.specs.declared.served.Served.{Served}
 use Rattle.serve_net.specs.declared.visit.Visit.{Visit}
-use Rattle.serve_net.specs.Visits.{Told, links_in, failures_in, visits_text}
+use Rattle.serve_net.specs.Visits.{Told, HasLine, links_in, failures_in, visits_text}
 use Rattle.serve_net.specs.Over.{Over}
 use Rattle.serve_net.specs.Members.{told_of, AreMembers}
 
@@ -22,10 +22,11 @@ pub record Answers (came failing : ℕ) (left_old left_new : Option ℕ) (faults
 abbrev pub IsUntold : List Told → Type 0
 IsUntold untold = (untold ≡ []) ⊎ ((requests : ℕ) × (untold ≡ (NoMemory, requests) ∷ []))
 
--- these visits, and of each link that came what its connection was: the last may have no line, and one link more may have come that was not
--- served, where memory ran out
+-- these visits, each of which has a line, and of each link that came what its connection was: the last may be none of them, and one link more
+-- may have come that was not served, where memory ran out
 pub record Came {L : Type 0} (meant : L → Meaning) (over : Over) (sets : List (List Heard)) (left_old left_new : Option ℕ) (faults_old faults_new : ℕ) (served : List (Served L)) (visits : List Visit) (untold : List Told) (unserved : ℕ) : Type 0 where
   pub answers : Answers (length served + unserved) (failures_in visits) left_old left_new faults_old faults_new
+  pub lines : All HasLine visits
   pub told : map told_of served ≡ links_in visits ++ untold
   pub members : AreMembers meant over sets served
 
@@ -48,6 +49,14 @@ pub record ServesSome {L : Type 0} (meant : L → Meaning) (over : Over) (sets :
   pub untold_is : IsUntold untold
   -- each link that came was served and stands among the visits, where memory did not run out
   pub whole : status ≢ 9 → (untold ≡ []) × (unserved ≡ 0)
+
+-- ---- a service that asked for no link
+
+-- nobody was served, and the door is what it was
+pub record AsksNone {L : Type 0} (left_old left_new : Option ℕ) (faults_old faults_new : ℕ) (served : List (Served L)) : Type 0 where
+  pub none : served ≡ []
+  pub left : left_new ≡ left_old
+  pub faults : faults_new ≡ faults_old
 
 -- ---- the statuses
 

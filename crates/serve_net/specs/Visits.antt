@@ -1,5 +1,5 @@
 -- What comes of each time that a door is asked, and the lines that tell it.
-use Rattle.std.specs.Prelude.{ℕ, ◌+◌, suc, List, [], ◌∷◌, ◌++◌, codes}
+use Rattle.std.specs.Prelude.{◌≢◌, ℕ, ◌+◌, suc, List, [], ◌∷◌, ◌++◌, codes}
 use Rattle.std.specs.Fmt.{decimal}
 use Rattle.link_edge.specs.declared.answers.End.{End}
 use Rattle.link_edge.specs.declared.answers.End.TheVariants.{Bye, Closed, Failed, NoMemory}
@@ -31,6 +31,11 @@ lines_from number (visit ∷ visits) = visit_line number visit ++ lines_from (su
 
 abbrev pub visits_text : List Visit → List ℕ
 visits_text visits = lines_from 0 visits
+
+-- a visit has a line, unless its connection ended for want of memory
+abbrev pub HasLine : Visit → Type 0
+HasLine NoLink = Unit {0}
+HasLine (Linked end requests) = end ≢ NoMemory
 
 -- ---- the connections among them
 

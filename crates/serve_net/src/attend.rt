@@ -31,7 +31,7 @@ impl<L: Drop> Hall<L> {
         }
         match end {
             End::NoMemory => Err(NoMemory),
-            _ => Ok(Visit::Linked(end, requests)),
+            End::Bye | End::Closed | End::Failed => Ok(Visit::Linked(end, requests)),
         }
     }
 }

@@ -1,2 +1,3 @@
 pub mod Untold
 pub mod Heard
+pub mod Strangers

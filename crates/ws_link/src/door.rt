@@ -1,6 +1,6 @@
 //! A door to a TCP port: each link that it hands out is a WebSocket of one who connected.
 
-ghost use Rattle.std.specs.Prelude.{◌≡◌, None, IfOk};
+ghost use Rattle.std.specs.Prelude.{◌≡◌, None, IfOk, string_bytes};
 ghost use Rattle.link_edge.specs.Links.{IsFresh};
 ghost use Rattle.ws_link.specs.Untold.{untold};
 
@@ -8,6 +8,7 @@ use crate::link::WsLink;
 use crate::shake::shake_hands;
 use link_edge::{Door, DoorEnd};
 use std::alloc::Global;
+use std::io;
 use std::marker::Send;
 use std::net::{Net, OpenListener, TcpListener};
 use text_core::NoMemory;
@@ -16,31 +17,35 @@ use text_core::NoMemory;
 ///
 /// Its first `next` binds the address, and a later one does where none before could; that one has failed. Each `next` waits for one
 /// peer, for ever where none comes, and makes the handshake with it, within `SHAKE_STEPS` reads and writes; where that does not end in
-/// a WebSocket, the call fails and the next one takes the next peer. Those who connect meanwhile wait in the system's queue.
+/// a WebSocket, the call fails and the next one takes the next peer. A peer whose request is refused is told so, and has `LINGER_READS`
+/// reads more to end its stream. Those who connect meanwhile wait in the system's queue.
 #[derive(Drop)]
 pub struct TcpDoor<R: Net> {
     rt: R,
     address: String,
     listener: Option<R::Listener>,
+    refused: Option<io::Error>,
     faults: u64,
 }
 
 impl<R: Net + Drop> TcpDoor<R> {
     /// A door to this address, a host or an IP address and a port, as `127.0.0.1:8888`. The system is not yet asked for it.
     pub fn new(rt: R, alloc: Global, address: &str) -> Result<TcpDoor<R>, NoMemory>
-        ensures { IfOk result (λ door. door.faults ≡ 0) }
+        ensures faults { IfOk result (λ door. door.faults ≡ 0) }
+        ensures address { IfOk result (λ door. string_bytes door.address ≡ address.now) }
     {
         Ok(TcpDoor {
             rt,
             address: String::from_str(alloc, address)?,
             listener: None,
+            refused: None,
             faults: 0,
         })
     }
 
-    /// Whether the address is bound.
-    pub fn listens(&self) -> bool {
-        self.listener.is_some()
+    /// What the system said where the address could not be bound, the last time that it was tried.
+    pub fn refused(&self) -> Option<&io::Error> {
+        self.refused.as_ref()
     }
 
     /// Binds the address, if that is not done.
@@ -53,9 +58,13 @@ impl<R: Net + Drop> TcpDoor<R> {
         match TcpListener::bind(&self.rt, self.address.as_str()) {
             Ok(listener) => {
                 self.listener = Some(listener);
+                self.refused = None;
                 Ok(())
             }
-            Err(_) => Err(DoorEnd::Failed),
+            Err(error) => {
+                self.refused = Some(error);
+                Err(DoorEnd::Failed)
+            }
         }
     }
 

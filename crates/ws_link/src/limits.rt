@@ -2,9 +2,9 @@
 //!
 //! They stand in one place since a bound on time is a number of tries times what each waits.
 
-/// The most bytes of a frame's payload, and of a message in fragments. It is far more than a session takes, so that the session can
-/// answer a text that is too long; beyond it the link fails.
-pub const MESSAGE_BYTES: usize = 1024 * 1024;
+/// The most bytes of a frame's payload, and of a message in fragments. It is more than a session takes, so that the session can answer a
+/// text that is too long, and not much more, since a journal keeps each message; beyond it the link fails.
+pub const MESSAGE_BYTES: usize = 128 * 1024;
 
 /// The most bytes that may wait to be sent, where the peer does not read. A text that would make them more is not sent, and the link
 /// fails.
@@ -29,6 +29,6 @@ pub const SHAKE_STEPS: u32 = 100;
 /// 5 seconds before a peer that never reads.
 pub const FLUSH_TRIES: u32 = 50;
 
-/// How often a close reads on, behind all that was sent, before it leaves a peer that does not end the stream: with `STEP_MILLIS` each,
-/// 1 second.
+/// How often a close, and a door that has turned a peer away, reads on, behind all that was sent, before it leaves a peer that does not end
+/// the stream: with `STEP_MILLIS` each, 1 second.
 pub const LINGER_READS: u32 = 20;

@@ -4,12 +4,14 @@ ghost use Rattle.link_edge.specs.Links.{IsFresh};
 ghost use Rattle.ws_link.specs.Untold.{untold};
 
 use crate::counts::Counts;
-use crate::socket::{Socket, finish, hear, say};
+use crate::heard::{answer, code_of};
+use crate::socket::{Socket, finish, read, say};
 use link_edge::{Link, LinkEnd, Polled};
 use std::alloc::Global;
 use std::io::{Read, Write};
 use std::marker::Send;
 use std::net::OpenStream;
+use tungstenite::{CloseCode, Error};
 
 /// A link over a WebSocket whose stream returns at once. It tells nothing of what passes through it.
 ///
@@ -19,11 +21,15 @@ use std::net::OpenStream;
 /// - A line is sent as one text message. Where the peer does not read, up to `WAITING_BYTES` wait in the link and leave in order with
 ///   the next calls; a line beyond that is a fault, as is one behind the peer's close frame.
 /// - A close sends what waits and a close frame, as far as the peer takes them within `FLUSH_TRIES`, ends the stream, waits for the
-///   peer to do the same, `LINGER_READS` reads at most, and lets go of the socket.
+///   peer to do the same, `LINGER_READS` reads at most, and lets go of the socket. The frame has the code 1000; 1002, 1007 or 1009
+///   where the peer broke the protocol, sent a text that is not UTF-8, or a longer message; and 1011 where a line was not sent or
+///   memory ran out.
 #[derive(Drop)]
 pub struct WsLink<S> {
     // None once the link is shut.
     socket: Option<Socket<S>>,
+    // With which the socket is closed.
+    code: CloseCode,
     pub(crate) counts: Counts,
 }
 
@@ -34,6 +40,7 @@ impl<S> WsLink<S> {
     {
         WsLink {
             socket: Some(socket),
+            code: CloseCode::Normal,
             counts: Counts::new(),
         }
     }
@@ -59,10 +66,12 @@ impl<S: Read + Write + OpenStream + Send + Drop> Link for WsLink<S> {
     }
 
     fn poll(&mut self, alloc: Global) -> Polled {
-        let answer = match &mut self.socket {
-            Some(socket) => hear(socket, alloc),
-            None => Polled::Closed,
+        let read = match &mut self.socket {
+            Some(socket) => read(socket),
+            None => Err(Error::AlreadyClosed),
         };
+        self.code = code_of(&read);
+        let answer = answer(alloc, &read);
         self.counts.count_poll(&answer);
         answer
     }
@@ -73,6 +82,7 @@ impl<S: Read + Write + OpenStream + Send + Drop> Link for WsLink<S> {
             None => Err(LinkEnd::Failed),
         };
         if let Err(end) = said {
+            self.code = CloseCode::Error;
             self.counts.count_unsent(end);
         }
         said
@@ -80,7 +90,7 @@ impl<S: Read + Write + OpenStream + Send + Drop> Link for WsLink<S> {
 
     fn close(&mut self) {
         if let Some(mut socket) = self.socket.take() {
-            finish(&mut socket);
+            finish(&mut socket, self.code);
         }
         self.counts.note_close();
     }

@@ -3,6 +3,7 @@
 //! A socket reads on until it has a message or the stream would block. With a ration no peer can hold it by sending parts of messages
 //! on and on, and no slow peer can stretch a handshake. A step that a signal cut short counts too, and would block.
 
+use crate::heard::is_for_now;
 use std::io;
 use std::io::{ErrorKind, Read, Write};
 
@@ -34,11 +35,6 @@ impl<S> Rationed<S> {
     pub fn stream(&self) -> &S {
         &self.stream
     }
-}
-
-/// Whether an error says no more than that nothing can be done at this time.
-pub fn is_for_now(error: &io::Error) -> bool {
-    error.kind() == ErrorKind::WouldBlock || error.kind() == ErrorKind::Interrupted
 }
 
 fn would_block() -> io::Error {

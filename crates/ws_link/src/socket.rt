@@ -1,60 +1,25 @@
-//! What a link does with its socket: it hears a message, says a text, and ends the stream.
+//! What a link does with its socket: it reads a message, says a text, and ends the stream.
 //!
 //! A text that the stream does not take at once waits in the socket, whole or in part, and goes out in order before all that is said
 //! later: at the next poll, the next send, or the close. So no byte of a frame is lost or sent twice while the link lasts.
 
-ghost use Rattle.std.specs.Prelude.{◌≡◌, ◌⊎◌};
-ghost use Rattle.ws_link.specs.Heard.{answer_to};
-
+use crate::heard::{is_for_now, sent};
 use crate::limits::{CALL_STEPS, FLUSH_TRIES, LINGER_READS};
-use crate::rationed::{Rationed, is_for_now};
-use link_edge::{LinkEnd, Polled};
+use crate::rationed::Rationed;
+use link_edge::LinkEnd;
 use std::alloc::Global;
 use std::io::{Read, Write};
 use std::net::{OpenStream, Shutdown};
 use std::str;
-use text_core::Listed;
-use tungstenite::{Error, Message, NoMask, WebSocket};
-use websocket::error::ProtocolError;
+use tungstenite::{CloseCode, CloseFrame, Error, Message, NoMask, Utf8Bytes, WebSocket};
 
 /// A server's socket over a stream.
 pub type Socket<S> = WebSocket<Rationed<S>, NoMask>;
 
-/// What a message is to a link: a text and a binary message are their bytes, a ping and a pong are nothing, a close is the end.
-fn answer_message(alloc: Global, message: &Message) -> Polled
-    ensures { (result ≡ answer_to message.now) ⊎ (result ≡ Polled.NoMemory) }
-{
-    let bytes = match message {
-        Message::Text(text) => text.as_str().as_bytes().to_vec(alloc),
-        Message::Binary(bytes) => bytes.as_slice().to_vec(alloc),
-        Message::Ping(_) | Message::Pong(_) => return Polled::Nothing,
-        Message::Close(_) => return Polled::Closed,
-    };
-    match bytes {
-        Ok(bytes) => Polled::Message(Listed::new(bytes)),
-        Err(_) => Polled::NoMemory,
-    }
-}
-
-/// What an error of a read is to a link. A stream that ends without a close frame has ended all the same.
-fn answer_error(error: &Error) -> Polled {
-    match error {
-        Error::Io(cause) if is_for_now(cause) => Polled::Nothing,
-        Error::ConnectionClosed
-        | Error::AlreadyClosed
-        | Error::Protocol(ProtocolError::ResetWithoutClosingHandshake) => Polled::Closed,
-        Error::OutOfMemory => Polled::NoMemory,
-        _ => Polled::Failed,
-    }
-}
-
-/// The next message, as far as `CALL_STEPS` reads go. It first sends on what waits.
-pub fn hear<S: Read + Write + Drop>(socket: &mut Socket<S>, alloc: Global) -> Polled {
+/// What the library reads next, as far as `CALL_STEPS` reads go. It first sends on what waits.
+pub fn read<S: Read + Write + Drop>(socket: &mut Socket<S>) -> Result<Message, Error> {
     socket.get_mut().allow(CALL_STEPS, CALL_STEPS);
-    match socket.read() {
-        Ok(message) => answer_message(alloc, &message),
-        Err(error) => answer_error(&error),
-    }
+    socket.read()
 }
 
 /// Sends a text message, behind what waits; what the stream does not take waits too. It fails where the text is not UTF-8, where more
@@ -71,12 +36,7 @@ pub fn say<S: Read + Write + Drop>(
         return Err(LinkEnd::NoMemory);
     };
     socket.get_mut().allow(0, CALL_STEPS);
-    match socket.send(message) {
-        Ok(()) => Ok(()),
-        Err(Error::Io(cause)) if is_for_now(&cause) => Ok(()),
-        Err(Error::OutOfMemory) => Err(LinkEnd::NoMemory),
-        Err(_) => Err(LinkEnd::Failed),
-    }
+    sent(&socket.send(message))
 }
 
 /// Reads a piece, for which the stream waits a step, and drops it. Answers whether more may come.
@@ -104,7 +64,7 @@ fn flush_waiting<S: Read + Write + Drop>(socket: &mut Socket<S>) {
 
 /// Takes what the peer still sends, until it ends the stream, in `LINGER_READS` reads at most. A stream that is closed while something
 /// in it was not read is reset, and then the peer could lose the last lines.
-fn linger<S: Read>(stream: &mut Rationed<S>) {
+pub fn linger<S: Read>(stream: &mut Rationed<S>) {
     for _ in 0..LINGER_READS {
         if !skip_piece(stream) {
             return;
@@ -112,10 +72,13 @@ fn linger<S: Read>(stream: &mut Rationed<S>) {
     }
 }
 
-/// Sends what waits and a close frame, ends this side's half of the stream, and waits for the peer to end its own.
-pub fn finish<S: Read + Write + OpenStream + Drop>(socket: &mut Socket<S>) {
+/// Sends what waits and a close frame with this code, ends this side's half of the stream, and waits for the peer to end its own.
+pub fn finish<S: Read + Write + OpenStream + Drop>(socket: &mut Socket<S>, code: CloseCode) {
     socket.get_mut().allow(0, CALL_STEPS);
-    let _ = socket.close(None);
+    let _ = socket.close(Some(CloseFrame {
+        code,
+        reason: Utf8Bytes::new(),
+    }));
     let _ = socket.get_ref().stream().set_nonblocking(false);
     flush_waiting(socket);
     let _ = socket.get_ref().stream().shutdown(Shutdown::Write);

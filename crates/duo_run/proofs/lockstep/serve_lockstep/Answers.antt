@@ -2,8 +2,7 @@ use Rattle.std.proofs.Common.{rules, ◌≡◌, ◌||◌, [], true, false, None,
 use Rattle.std.specs.Prelude.{is_some}
 use Rattle.dbg_core.specs.World.{world_of}
 use Rattle.dbg_core.specs.State.{machine_of}
-use Rattle.dbg_core.specs.Answering.{is_running}
-use Rattle.machine_core.specs.Machine.{opening}
+use Rattle.machine_core.specs.Machine.{is_running, opening}
 use Rattle.machine_core.specs.Journal.{notices_of, closing_lines}
 use Rattle.duo_run.specs.Connections.{Applies, InLockStep}
 use Rattle.duo_run.specs.Desks.{end_of}

@@ -1,6 +1,6 @@
 use Rattle.std.proofs.Common.{[], nat_eq, ap, ◌∙◌}
 use Rattle.std.specs.List.{list_any}
-use Rattle.dbg_core.specs.Answering.{threads_of}
+use Rattle.machine_core.specs.Machine.{threads_of}
 use Rattle.dbg_core.specs.World.{world_of}
 use Rattle.duo_tests.proofs.Threads.{still_among}
 use Rattle.duo_tests.proofs.shown.shown.Goals as goal

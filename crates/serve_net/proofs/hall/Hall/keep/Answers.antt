@@ -10,8 +10,8 @@ returns-then-is_err-clause-kept g c = inl (search rules)
 pub returns-in-NoMemory-clause-kept : goal.returns-in-NoMemory-clause-kept
 returns-in-NoMemory-clause-kept g c = inr (search rules, search rules)
 
-pub returns-in_default : goal.returns-in_default
-returns-in_default g c = record {
+pub returns-in-Bye : goal.returns-in-Bye
+returns-in-Bye g c = record {
   sets = refl;
-  kept = (search rules, ap (λ n. Linked c.args.served.end n) (c.request_count-requests.ensures ∙ ap (λ (events : List Event). length (requests_of events)) c.deref.ensures.value));
+  kept = (search rules, ap (λ n. Linked c.args.served.end n) (c.request_count-requests.ensures ∙ ap (λ (events : List Event). length (requests_of events)) c.deref.ensures.value), search rules);
 }
