@@ -305,7 +305,9 @@ def over_a_dump(program):
             with open(f"{folder}/halt", "wb"):
                 pass
             client.give("continue\n")
+            until = time.monotonic() + SECONDS
             while os.path.exists(f"{folder}/halt"):
+                serve.want(time.monotonic() < until, True, "that the program is run again")
                 time.sleep(0.01)
             client.press()
             client.upto("(hgdb) continue\nInterrupted: the session stands where it stood\n")
@@ -356,7 +358,10 @@ class Terminal:
 
     def ends(self):
         """The status, once it ends."""
+        until = time.monotonic() + SECONDS
         while True:
+            if not select.select([self.end], [], [], max(0, until - time.monotonic()))[0]:
+                raise serve.Wrong(f"it does not end behind {self.told[-200:]!r}")
             try:
                 if not os.read(self.end, 4096):
                     break
