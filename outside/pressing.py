@@ -8,7 +8,7 @@
   In a file of commands Ctrl-C leaves out the rest.
 - Over a dump file Ctrl-C ends the run of the program, and the session stands where it stood.
 - At a terminal a stop is shown while nothing is typed, a command that took more than a second tells it, lines are kept for the next time,
-  and there are colours, but for NO_COLOR.
+  there are colours, but for NO_COLOR, and Ctrl-D that is pressed while a command is obeyed ends the session at the next prompt.
 """
 import concurrent.futures, json, os, re, select, signal, stat, subprocess, sys, tempfile, threading, time
 
@@ -387,7 +387,8 @@ def terminals(program):
             typist.upto("turn = 4'h1")
             server.child.send_signal(signal.SIGSTOP)
             typist.types("where\n")
-            time.sleep(1.1)
+            typist.upto("where\r\n")
+            time.sleep(3)
             server.child.send_signal(signal.SIGCONT)
             typist.upto("(it took ")
             typist.types("jump\n")
@@ -400,7 +401,11 @@ def terminals(program):
             typist.upto("(hgdb) ")
             typist.types("\x1b[A\x1b[A\n")
             serve.want("\x1b[3" in typist.upto("No command 'jump'"), False, "a colour")
+            server.child.send_signal(signal.SIGSTOP)
+            typist.types("where\n")
+            typist.upto("where\r\n")
             typist.types("\x04")
+            server.child.send_signal(signal.SIGCONT)
             serve.want(typist.ends(), 0, "the status")
 
 
