@@ -78,6 +78,12 @@ def connected(address, seconds=0):
         time.sleep(0.02)
 
 
+def named(stream):
+    """The address and the port at the other end of a stream, by which a server is asked for. It takes no other name but `localhost`."""
+    host, port = stream.getpeername()[:2]
+    return f"[{host.partition('%')[0]}]:{port}" if ":" in host else f"{host}:{port}"
+
+
 class Socket:
     """The side of a client. `stream` is its TCP stream."""
 
@@ -86,7 +92,7 @@ class Socket:
         self.stream.setsockopt(socket.IPPROTO_TCP, socket.TCP_NODELAY, 1)
         self.buffer, self.parts, self.kind, self.over = bytearray(), b"", None, False
         self.pongs = []
-        self.shake(f"[{host}]:{port}" if ":" in host else f"{host}:{port}")
+        self.shake(named(self.stream))
 
     # The handshake
 
