@@ -38,7 +38,7 @@ ok_err rows fault e = cc
 -- ---- what the files hold, once
 
 -- a source is one design
-same_design : (files : Contents) (command : Command) (d e : Design) → HoldsDesign files command d → HoldsDesign files command e → d ≡ e
+pub same_design : (files : Contents) (command : Command) (d e : Design) → HoldsDesign files command d → HoldsDesign files command e → d ≡ e
 same_design files command d e a b =
     let source : a.source ≡ b.source = some_one (files command.source) a.source b.source a.found b.found in
     one_design command.top b.source d e (subst (λ (s : List ℕ). Describes command.top s d) source a.accepted.0) b.accepted.0
@@ -50,14 +50,14 @@ no_design files command a r d h =
     not_both command.top r.source d r.fault (subst (λ (s : List ℕ). IsAccepted command.top s d) source h.accepted) r.refused
 
 -- a stimulus is one thing for ports
-same_rows : (files : Contents) (p q : Ports) (name : Option (List ℕ)) (x y : Rows) → p ≡ q → HoldsRows files p name x → HoldsRows files q name y → x ≡ y
+pub same_rows : (files : Contents) (p q : Ports) (name : Option (List ℕ)) (x y : Rows) → p ≡ q → HoldsRows files p name x → HoldsRows files q name y → x ≡ y
 same_rows files p q None x y e a b = a ∙ sym b
 same_rows files p q (Some name) x y e a b =
     let text : a.0 ≡ b.0 = some_one (files name) a.0 b.0 a.1 b.1 in
     sym a.2 ∙ ap (λ (r : Ports). rows_of r a.0) e ∙ ap (rows_of q) text ∙ b.2
 
 -- requests are one thing
-same_requests : (files : Contents) (name x y : Option (List ℕ)) → HoldsRequests files name x → HoldsRequests files name y → x ≡ y
+pub same_requests : (files : Contents) (name x y : Option (List ℕ)) → HoldsRequests files name x → HoldsRequests files name y → x ≡ y
 same_requests files None x y a b = a ∙ sym b
 same_requests files (Some name) (Some x) (Some y) a b = ap Some (some_one (files name) x y a.0 b.0)
 same_requests files (Some name) (Some x) None a b =

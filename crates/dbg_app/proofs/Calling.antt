@@ -3,14 +3,17 @@ use Rattle.std.proofs.Common.{◌≡◌, ℕ, Bool, true, false, ◌||◌, ◌==
 use Rattle.std.specs.Prelude.{option_map, IfSome}
 use Rattle.std.proofs.lemmas.Bool.Decides.{nat_tests}
 use Rattle.io_edge.specs.Taken.{AppendsFront}
+use Rattle.io_edge.specs.Unread.{StopsAt}
 use Rattle.replay_run.specs.Asked as replay
 use Rattle.replay_run.specs.Asked.{Names}
 use Rattle.demo_run.specs.Asked as demo
 use Rattle.demo_run.specs.Asked.{Given}
 use Rattle.dbg_app.specs.Command.{Command, command_of, names_of}
 use Rattle.dbg_app.specs.Answers.{Contents, IfAsked}
-use Rattle.dbg_app.specs.Outcome.{is_status, TakesDesignLine, TakesStimulusLine}
-use Rattle.dbg_app.specs.Call.{Call, ByDesign, ByTrace, ByChain, replay_of, demo_of, call_by, call_of, files_of, IfCalled, is_run_status}
+use Rattle.dbg_app.specs.Outcome as outcome
+use Rattle.dbg_app.specs.Outcome.{is_status, is_status_for, TakesDesignLine, TakesStimulusLine}
+use Rattle.dbg_app.specs.Compiled.{CompilesCommand}
+use Rattle.dbg_app.specs.Call.{Call, ByDesign, ByTrace, ByChain, replay_of, demo_of, call_by, call_of, files_of, IfCalled, is_run_status, is_status_of, AsksByStatus, Compiles}
 
 -- ---- statuses
 
@@ -146,3 +149,60 @@ files_are (Some command) = refl
 
 pub design_files : (words : List (List ℕ)) (old new : Option (List (List ℕ))) → None ≡ replay_of words → None ≡ demo_of words → AppendsFront old new (names_of (command_of words)) → AppendsFront old new (files_of (call_of words))
 design_files words old new n e h = subst (AppendsFront old new) (sym (ap files_of (design_call words n e) ∙ files_are (command_of words))) h
+
+-- ---- the status, and the files that were asked for, by the words
+
+pub trace_row : (words : List (List ℕ)) (names : Names) (status : ℕ) → Some names ≡ replay_of words → IsTrue (replay.is_status status) → IsTrue (is_status_of (call_of words) status)
+trace_row words names status e h = subst (λ (call : Option Call). IsTrue (is_status_of call status)) (sym (trace_call words names e)) h
+
+pub chain_row : (words : List (List ℕ)) (given : Given) (status : ℕ) → None ≡ replay_of words → Some given ≡ demo_of words → IsTrue (demo.is_status status) → IsTrue (is_status_of (call_of words) status)
+chain_row words given status n e h = subst (λ (call : Option Call). IsTrue (is_status_of call status)) (sym (chain_call words given n e)) h
+
+row_is : (command : Option Command) (status : ℕ) → IsTrue (is_status_for command status) → IsTrue (is_status_of (option_map ByDesign command) status)
+row_is None status h = h
+row_is (Some command) status h = h
+
+pub design_row : (words : List (List ℕ)) (status : ℕ) → None ≡ replay_of words → None ≡ demo_of words → IsTrue (is_status_for (command_of words) status) → IsTrue (is_status_of (call_of words) status)
+design_row words status n e h = subst (λ (call : Option Call). IsTrue (is_status_of call status)) (sym (design_call words n e)) (row_is (command_of words) status h)
+
+pub trace_asked : (words : List (List ℕ)) (names : Names) (status : ℕ) (a b : Option (List (List ℕ))) (old new : Option (List ℕ)) → Some names ≡ replay_of words → replay.AsksByStatus names status a b old new → AsksByStatus (call_of words) status a b old new
+trace_asked words names status a b old new e h = subst (λ (call : Option Call). AsksByStatus call status a b old new) (sym (trace_call words names e)) h
+
+pub chain_asked : (words : List (List ℕ)) (given : Given) (status : ℕ) (a b : Option (List (List ℕ))) (old new : Option (List ℕ)) → None ≡ replay_of words → Some given ≡ demo_of words → demo.AsksByStatus given status a b
+    → AsksByStatus (call_of words) status a b old new
+chain_asked words given status a b old new n e h = subst (λ (call : Option Call). AsksByStatus call status a b old new) (sym (chain_call words given n e)) h
+
+asked_is : (command : Option Command) (status : ℕ) (a b : Option (List (List ℕ))) (old new : Option (List ℕ)) → outcome.AsksByStatus command status a b → AsksByStatus (option_map ByDesign command) status a b old new
+asked_is None status a b old new h = h
+asked_is (Some command) status a b old new h = h
+
+pub design_asked : (words : List (List ℕ)) (status : ℕ) (a b : Option (List (List ℕ))) (old new : Option (List ℕ)) → None ≡ replay_of words → None ≡ demo_of words → outcome.AsksByStatus (command_of words) status a b
+    → AsksByStatus (call_of words) status a b old new
+design_asked words status a b old new n e h = subst (λ (call : Option Call). AsksByStatus call status a b old new) (sym (design_call words n e)) (asked_is (command_of words) status a b old new h)
+
+pub trace_unread : {S : Type 0} (asked : S → Option (List (List ℕ))) (faults : S → ℕ) (old new : S) (words : List (List ℕ)) (names : Names) → Some names ≡ replay_of words → StopsAt asked faults old new (replay.names_of names)
+    → StopsAt asked faults old new (files_of (call_of words))
+trace_unread asked faults old new words names e h = subst (λ (call : Option Call). StopsAt asked faults old new (files_of call)) (sym (trace_call words names e)) h
+
+pub chain_unread : {S : Type 0} (asked : S → Option (List (List ℕ))) (faults : S → ℕ) (old new : S) (words : List (List ℕ)) (given : Given) → None ≡ replay_of words → Some given ≡ demo_of words → StopsAt asked faults old new (given.requests ∷ [])
+    → StopsAt asked faults old new (files_of (call_of words))
+chain_unread asked faults old new words given n e h = subst (λ (call : Option Call). StopsAt asked faults old new (files_of call)) (sym (chain_call words given n e)) h
+
+pub design_unread : {S : Type 0} (asked : S → Option (List (List ℕ))) (faults : S → ℕ) (old new : S) (words : List (List ℕ)) → None ≡ replay_of words → None ≡ demo_of words → StopsAt asked faults old new (names_of (command_of words))
+    → StopsAt asked faults old new (files_of (call_of words))
+design_unread asked faults old new words n e h = subst (StopsAt asked faults old new) (sym (ap files_of (design_call words n e) ∙ files_are (command_of words))) h
+
+-- ---- the net and the table behind what was written
+
+called_so : (told : Option Contents) → IfSome told (λ files. Unit {0})
+called_so None = tt
+called_so (Some files) = tt
+
+pub trace_compiles : (told : Option Contents) (words : List (List ℕ)) (names : Names) → Some names ≡ replay_of words → IfCalled told (call_of words) Compiles
+trace_compiles told words names e = trace_called told words names Compiles e (called_so told)
+
+pub chain_compiles : (told : Option Contents) (words : List (List ℕ)) (given : Given) → None ≡ replay_of words → Some given ≡ demo_of words → IfCalled told (call_of words) Compiles
+chain_compiles told words given n e = chain_called told words given Compiles n e (called_so told)
+
+pub design_compiles : (told : Option Contents) (words : List (List ℕ)) → None ≡ replay_of words → None ≡ demo_of words → IfAsked told (command_of words) CompilesCommand → IfCalled told (call_of words) Compiles
+design_compiles told words n e h = design_called told words Compiles n e h

@@ -108,10 +108,10 @@ requests_line_taken heard status (judged.Session mode a stim requests) old new s
 -- ---- the answer that was judged
 
 -- a text of what was judged
-abbrev work_text : List Heard → (work : Work) → HasRun work → List ℕ
+abbrev pub work_text : List Heard → (work : Work) → HasRun work → List ℕ
 work_text heard work h = text_of heard work.task (held_by work h.run some_reader.0)
 
-is_work_text : (heard : List Heard) (work : Work) (h : HasRun work) → IsWorkText heard work (work_text heard work h)
+pub is_work_text : (heard : List Heard) (work : Work) (h : HasRun work) → IsWorkText heard work (work_text heard work h)
 is_work_text heard work h = (h.run, h.runs, some_reader.0, some_reader.1, refl)
 
 -- what the files hold asks for its text with a run and a way to read conditions

@@ -1,7 +1,9 @@
 pub mod Calling
 mod Ending
+mod Statuses
+mod Compiling
 mod Writing
-mod Asking
+pub mod Asking
 mod Judging
 mod Given
 pub mod Offering

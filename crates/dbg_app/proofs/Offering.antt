@@ -1,5 +1,7 @@
 -- What was judged of the files of a service is what they hold.
-use Rattle.std.proofs.Common.{◌≡◌, ◌<◌, ◌⊎◌, inl, inr, ◌||◌, ◌==◌, ℕ, List, [], Option, Some, None, Ok, length, refl, sym, ◌∙◌, subst, IfSome, IsTrue}
+use Rattle.std.proofs.Common.{◌≡◌, ◌<◌, ◌≤◌, ◌⊎◌, inl, inr, ◌||◌, ◌==◌, ℕ, List, [], ◌∷◌, ◌++◌, Option, Some, None, Ok, length, refl, sym, ◌∙◌, ap, subst, IfSome, IsTrue, arith}
+use Rattle.io_edge.specs.Taken.{Appends, Grows}
+use Rattle.io_edge.proofs.Stops.{nothing_more, grows_whole, grows_front}
 use Rattle.bv_core.specs.Value.{Bits}
 use Rattle.design_core.specs.DesignView.{design_of}
 use Rattle.trim_laws.proofs.Orders.{one_length}
@@ -7,20 +9,21 @@ use Rattle.stim_text.specs.Rows.{rows_of}
 use Rattle.design_judge.specs.Accepting.{IsKept, accepting_of}
 use Rattle.serve_net.specs.declared.service.Service.{Service}
 use Rattle.serve_net.specs.Over.{Over, Shows}
-use Rattle.dbg_app.specs.Command.{Command}
+use Rattle.dbg_app.specs.Command.{Command, file_names, names_of}
 use Rattle.dbg_app.specs.Answers.{Contents, HoldsDesign}
 use Rattle.dbg_app.specs.Offer.{Offer, offer_of, IfOffered}
 use Rattle.listen.specs.Pairs.{Heard}
 use Rattle.link_edge.specs.Links.{Meaning}
 use Rattle.duo_run.specs.declared.served.Served.{Served}
-use Rattle.serve_net.specs.Service.{ServesAll, ServesSome, is_end_status}
+use Rattle.serve_net.specs.Service.{AsksNone, ServesAll, ServesSome, is_end_status}
 use Rattle.dbg_app.specs.Answers.{IfAsked}
-use Rattle.dbg_app.specs.Judged.{Judges, HasText, TakesText, TakesTextFront, judged_status}
+use Rattle.dbg_app.specs.Judged.{Judges, HasText, TakesText, TakesTextFront, asked_behind, asked_for, judged_status}
 use Rattle.dbg_app.specs.Outcome.{is_status, EndsAsAsked, TakesSome, Completes}
 use Rattle.dbg_app.specs.declared.judge.Judged.{Judged}
 use Rattle.dbg_app.specs.declared.shown.Shown.TheVariants as shown
-use Rattle.dbg_app.specs.Serving.{HoldsOver, ServesOffer, ServesFront, CompletesOffer, JudgesOffer}
+use Rattle.dbg_app.specs.Serving.{AsksByStatus, AsksOffer, HoldsOver, ServesOffer, ServesFront, CompletesOffer, JudgesOffer}
 use Rattle.dbg_app.proofs.Asking.{offer_status}
+use Rattle.dbg_app.proofs.Statuses.{source_asked, stimulus_asked, all_asked, early_is}
 use Rattle.dbg_app.proofs.Ending.{either, same_number, done_taken, front_taken, written_completes}
 
 -- a service whose stimulus was accepted shows its rows
@@ -119,10 +122,70 @@ module _ (offer : Offer) (status : ℕ) (old new : Option (List ℕ)) (read_rose
     pub refused_ends : HasText judged → status ≡ judged_status judged → TakesText [] judged old new → IfSome told (λ files. EndsAsAsked [] files offer.files status old new)
     refused_ends text is taken = ends told (done_taken [] told (Some offer.files) judged status old new (as_asked told j) text is taken)
 
-    module _ {L : Type 0} (meant : L → Meaning) (sets : List (List Heard)) (l0 l1 : Option ℕ) (f0 f1 : ℕ) (served : List (Served L)) (none : served ≡ []) where
+    module _ {L : Type 0} (meant : L → Meaning) (sets : List (List Heard)) (l0 l1 : Option ℕ) (f0 f1 : ℕ) (served : List (Served L)) (none : AsksNone l0 l1 f0 f1 served) where
       fronts : (told : Option Contents) → IfAsked told (Some offer.files) (λ files command. TakesSome [] files command old new) → IfSome told (λ files. ServesFront meant files offer sets l0 l1 f0 f1 served old new status)
       fronts None h = tt
       fronts (Some files) h = inl (record { none = none; taken = h })
 
       pub refused_front : HasText judged → TakesTextFront [] judged old new → IfSome told (λ files. ServesFront meant files offer sets l0 l1 f0 f1 served old new status)
       refused_front text taken = fronts told (front_taken [] told (Some offer.files) judged old new (as_asked told j) text taken)
+
+-- ---- the files that were asked for
+
+pub no_files : (words : List (List ℕ)) (status : ℕ) (asked : Option (List (List ℕ))) → None ≡ offer_of words → AsksByStatus (offer_of words) status asked asked
+no_files words status asked e = subst (λ (o : Option Offer). AsksByStatus o status asked asked) e (nothing_more asked)
+
+module _ (words : List (List ℕ)) (offer : Offer) (stimulus : List ℕ) (is_offer : Some offer ≡ offer_of words) (named : offer.files.stimulus ≡ Some stimulus) (bare : offer.files.requests ≡ None) where
+  both_names : offer.files.source ∷ stimulus ∷ [] ≡ names_of (Some offer.files)
+  both_names = λ i. offer.files.source ∷ file_names (sym named i) ++ file_names (sym bare i)
+
+  with_stimulus : offer.files.source ∷ file_names offer.files.stimulus ≡ names_of (Some offer.files)
+  with_stimulus = ap (λ (n : Option (List ℕ)). offer.files.source ∷ file_names n) named ∙ both_names
+
+  of_offer : (status : ℕ) (old new : Option (List (List ℕ))) → AsksOffer offer status old new → AsksByStatus (offer_of words) status old new
+  of_offer status old new h = subst (λ (o : Option Offer). AsksByStatus o status old new) is_offer h
+
+  -- both were asked for before what they hold was served
+  pub shown_files : (status : ℕ) (old new : Option (List (List ℕ))) → Appends old new (offer.files.source ∷ stimulus ∷ []) → IsTrue (is_end_status status) → AsksByStatus (offer_of words) status old new
+  shown_files status old new p known = of_offer status old new (record {
+    source = λ three. absurd (elim (end_status_is status known) [ inl e ↦ omega (arith, three, e) | inr (inl e) ↦ omega (arith, three, e) | inr (inr e) ↦ omega (arith, three, e) ]);
+    all = λ late. subst (Appends old new) both_names p;
+  })
+
+  -- a refusal was asked for as it is
+  pub refused_files : (j : Judged) (status : ℕ) (old new : Option (List (List ℕ))) → Appends old new (offer.files.source ∷ asked_behind (Some stimulus) None j) → (status < 7 → status ≡ judged_status j) → AsksByStatus (offer_of words) status old new
+  refused_files j status old new p is =
+      let own : Appends old new (asked_for (Some offer.files) j) = subst (Appends old new) (λ i. offer.files.source ∷ asked_behind (sym named i) (sym bare i) j) p in
+      of_offer status old new (record {
+        source = λ three. source_asked offer.files old new j (sym three ∙ is (early_is status 3 (omega arith) three)) own;
+        all = λ late. elim late [
+          | inl zero ↦ all_asked offer.files old new j status (inl zero) (is (early_is status 0 (omega arith) zero)) own
+          | inr four ↦ subst (Appends old new) with_stimulus (stimulus_asked offer.files old new j (sym four ∙ is (early_is status 4 (omega arith) four)) own)
+        ];
+      })
+
+  -- where a service ends late nothing is said of them
+  pub late_files : (status : ℕ) (old new : Option (List (List ℕ))) → 7 ≤ status → AsksByStatus (offer_of words) status old new
+  late_files status old new late = of_offer status old new (record {
+    source = λ three. absurd (omega (arith, late, three));
+    all = λ early. absurd (elim early [ inl zero ↦ omega (arith, late, zero) | inr four ↦ omega (arith, late, four) ]);
+  })
+
+-- ---- what stays in front
+
+pub served_grown : {L : Type 0} (meant : L → Meaning) (sets : List (List Heard)) (count : ℕ) (l0 l1 : Option ℕ) (f0 f1 : ℕ) (served : List (Served L)) (old new : Option (List ℕ)) (service : Service) (status : ℕ) → ((over : Over) × Shows service over)
+    → IsTrue (is_end_status status) → (status ≡ 0 → (over : Over) → Shows service over → ServesAll meant over sets count l0 l1 f0 f1 served old new)
+    → (7 < status → (over : Over) → Shows service over → ServesSome meant over sets count l0 l1 f0 f1 served old new status) → Grows old new
+served_grown meant sets count l0 l1 f0 f1 served old new service status shows known all some = elim (end_status_is status known) [
+  | inl e ↦ grows_whole old new _ (all e shows.0 shows.1).taken
+  | inr (inl e) ↦ grows_front old new _ (some (omega (arith, e)) shows.0 shows.1).taken
+  | inr (inr e) ↦ grows_front old new _ (some (omega (arith, e)) shows.0 shows.1).taken
+]
+
+-- a service that began ends with none of the statuses of a refusal
+pub ends_late : (status : ℕ) → IsTrue (is_end_status status) → (status ≡ 0 → ⊥) → status < 8 → ⊥
+ends_late status known other early = elim (end_status_is status known) [
+  | inl e ↦ other e
+  | inr (inl e) ↦ omega (arith, e, early)
+  | inr (inr e) ↦ omega (arith, e, early)
+]

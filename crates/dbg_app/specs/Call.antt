@@ -10,6 +10,8 @@ use Rattle.dbg_app.specs.Number.{number_to}
 use Rattle.dbg_app.specs.Command.{Command, command_of, mode_of, names_of}
 use Rattle.dbg_app.specs.Answers.{Contents}
 use Rattle.dbg_app.specs.Outcome as design
+use Rattle.dbg_app.specs.Compiled.{CompilesCommand}
+use Rattle.io_edge.specs.Taken.{Appends}
 
 -- ---- the words
 
@@ -70,6 +72,26 @@ IfCalled None call P = ⊤
 -- what the status of a run may be
 abbrev pub is_run_status : ℕ → Bool
 is_run_status status = design.is_status status || status == 5
+
+-- by the words: 3, 4 and 6 only of a command or a demo that has what they refuse, 5 only of a replay
+abbrev pub is_status_of : Option Call → ℕ → Bool
+is_status_of None status = design.is_status_for None status
+is_status_of (Some (ByDesign command)) status = design.is_status_for (Some command) status
+is_status_of (Some (ByTrace names)) status = replay.is_status status
+is_status_of (Some (ByChain given)) status = demo.is_status status
+
+-- the files that were asked for, by the status
+abbrev pub AsksByStatus : Option Call → ℕ → Option (List (List ℕ)) → Option (List (List ℕ)) → Option (List ℕ) → Option (List ℕ) → Type 0
+AsksByStatus None status asked_old asked_new old new = Appends asked_old asked_new []
+AsksByStatus (Some (ByDesign command)) status asked_old asked_new old new = design.AsksCommand command status asked_old asked_new
+AsksByStatus (Some (ByTrace names)) status asked_old asked_new old new = replay.AsksByStatus names status asked_old asked_new old new
+AsksByStatus (Some (ByChain given)) status asked_old asked_new old new = demo.AsksByStatus given status asked_old asked_new
+
+-- a command over a design that writes a symbol file, waves or a session has found the net and the table that they stand on
+abbrev pub Compiles : Contents → Call → Type 0
+Compiles files (ByDesign command) = CompilesCommand files command
+Compiles files (ByTrace names) = ⊤
+Compiles files (ByChain given) = ⊤
 
 -- it ended with the answer that is asked for, and the sink took its whole text
 abbrev pub EndsAsCalled : List Heard → Contents → Call → ℕ → Option (List ℕ) → Option (List ℕ) → Type 0

@@ -1,5 +1,5 @@
 -- What was judged is what is asked for.
-use Rattle.std.specs.Prelude.{◌≡◌, ◌≢◌, ℕ, false, List, [], Option, Some, Ok, length}
+use Rattle.std.specs.Prelude.{◌≡◌, ◌≢◌, ℕ, false, List, [], ◌∷◌, ◌++◌, Option, Some, None, Ok, length, IsTrue, is_some}
 use Rattle.io_edge.specs.Taken.{Appends, AppendsFront}
 use Rattle.bv_core.specs.Value.{Bits}
 use Rattle.exec_core.specs.Whole.{Place}
@@ -12,10 +12,11 @@ use Rattle.machine_core.specs.Reading.{Reader, IsReader}
 use Rattle.design_judge.specs.Refusals.{is_no_memory, design_line, stimulus_line}
 use Rattle.design_judge.specs.declared.Accepted.{Accepted}
 use Rattle.design_judge.specs.Accepting.{Accepting, IsKept, accepting_of}
-use Rattle.dbg_app.specs.Command.{Task, Session, Command}
+use Rattle.dbg_app.specs.Command.{Task, Session, Command, file_names}
 use Rattle.dbg_app.specs.Asked.{alone_as, over_as}
 use Rattle.batch_run.specs.Texts.{requests_fault}
 use Rattle.dbg_app.specs.Answers.{Contents, Held, HoldsDesign, HoldsRows, HoldsRequests, RefusesDesign, RefusesStimulus, RefusesRequests, usage_fault, text_of}
+use Rattle.dbg_app.specs.Compiled.{StandsOnNet}
 use Rattle.dbg_app.specs.Outcome as outcome
 use Rattle.dbg_app.specs.declared.command.OfDesign.{OfDesign}
 use Rattle.dbg_app.specs.declared.command.OverRows.{OverRows}
@@ -85,6 +86,47 @@ Judges files command judged.NoRequests = RefusesRequests files command (record {
 Judges files command (judged.Alone task mode a) = HoldsWork files command (alone task mode a)
 Judges files command (judged.Over task mode a stim) = HoldsWork files command (over task mode a stim)
 Judges files command (judged.Session mode a stim requests) = HoldsWork files command (session mode a stim requests.items)
+
+-- the names that were asked for before it was judged so: behind the source, those of the stimulus and the requests
+abbrev pub asked_behind : Option (List ℕ) → Option (List ℕ) → Judged → List (List ℕ)
+asked_behind stimulus requests judged.NoCommand = []
+asked_behind stimulus requests (judged.NoDesign fault) = []
+asked_behind stimulus requests (judged.NoStimulus fault) = file_names stimulus
+asked_behind stimulus requests judged.NoRequests = file_names stimulus ++ file_names requests
+asked_behind stimulus requests (judged.Alone task mode a) = file_names stimulus ++ file_names requests
+asked_behind stimulus requests (judged.Over task mode a stim) = file_names stimulus ++ file_names requests
+asked_behind stimulus requests (judged.Session mode a stim text) = file_names stimulus ++ file_names requests
+
+abbrev pub asked_for : Option Command → Judged → List (List ℕ)
+asked_for None j = []
+asked_for (Some command) j = command.source ∷ asked_behind command.stimulus command.requests j
+
+-- a stimulus is refused only where one is named, and so are requests
+abbrev pub RefusesNamed : Option (List ℕ) → Option (List ℕ) → Judged → Type 0
+RefusesNamed stimulus requests judged.NoCommand = Unit {0}
+RefusesNamed stimulus requests (judged.NoDesign fault) = Unit {0}
+RefusesNamed stimulus requests (judged.NoStimulus fault) = IsTrue (is_some stimulus)
+RefusesNamed stimulus requests judged.NoRequests = IsTrue (is_some requests)
+RefusesNamed stimulus requests (judged.Alone task mode a) = Unit {0}
+RefusesNamed stimulus requests (judged.Over task mode a stim) = Unit {0}
+RefusesNamed stimulus requests (judged.Session mode a stim text) = Unit {0}
+
+abbrev pub RefusesOwn : Option Command → Judged → Type 0
+RefusesOwn None j = Unit {0}
+RefusesOwn (Some command) j = RefusesNamed command.stimulus command.requests j
+
+-- the net and the table that stand behind the text of what was accepted
+abbrev pub WorkStands : Work → Type 0
+WorkStands work = StandsOnNet work.task work.accepting.design (length work.accepting.order) work.mode
+
+abbrev pub IsCompiled : Judged → Type 0
+IsCompiled judged.NoCommand = Unit {0}
+IsCompiled (judged.NoDesign fault) = Unit {0}
+IsCompiled (judged.NoStimulus fault) = Unit {0}
+IsCompiled judged.NoRequests = Unit {0}
+IsCompiled (judged.Alone task mode a) = WorkStands (alone task mode a)
+IsCompiled (judged.Over task mode a stim) = WorkStands (over task mode a stim)
+IsCompiled (judged.Session mode a stim requests) = WorkStands (session mode a stim requests.items)
 
 -- what was accepted has a run, and what was refused has a line
 abbrev pub HasText : Judged → Type 0

@@ -1,6 +1,7 @@
 pub mod Command
 pub mod Asked
 pub mod Answers
+pub mod Compiled
 pub mod Judged
 pub mod Outcome
 pub mod Number

@@ -1,5 +1,5 @@
 -- How a run ends.
-use Rattle.std.specs.Prelude.{◌≡◌, ◌≢◌, ℕ, List, Bool, false, Option, ◌||◌, ◌==◌, ◌⊎◌}
+use Rattle.std.specs.Prelude.{◌≡◌, ◌≢◌, ℕ, List, [], ◌∷◌, Bool, false, Option, Some, None, is_some, ◌||◌, ◌&&◌, ◌==◌, ◌⊎◌}
 use Rattle.io_edge.specs.Taken.{Appends, AppendsFront}
 use Rattle.stim_text.specs.declared.StimFault.{StimFault}
 use Rattle.stim_text.specs.declared.StimFault.TheVariants as stim_faults
@@ -7,7 +7,7 @@ use Rattle.design_core.specs.Design.{Design}
 use Rattle.design_judge.specs.declared.DesignFault.{DesignFault}
 use Rattle.design_judge.specs.Refusals.{is_no_memory, design_line, stimulus_line}
 use Rattle.listen.specs.Pairs.{Heard}
-use Rattle.dbg_app.specs.Command.{Command}
+use Rattle.dbg_app.specs.Command.{Command, file_names, names_of}
 use Rattle.dbg_app.specs.Answers.{Answer, Contents, Asks, RefusesLoop}
 use Rattle.dbg_app.specs.declared.halt.Halt.{Halt}
 use Rattle.dbg_app.specs.declared.halt.Halt.TheVariants.{ReadFault, WriteFault, NoMemory}
@@ -47,10 +47,33 @@ is_status status =
 abbrev pub is_usage_status : ℕ → Bool
 is_usage_status status = status == status_of NoCommand || status == status_of NotTaken || status == status_of OutOfMemory
 
+-- and of one of a command: a stimulus is refused only where the words name one, and so are requests
+abbrev pub may_end : Bool → Bool → ℕ → Bool
+may_end has_stimulus has_requests status =
+    status == status_of Written || status == status_of NoDesign || (status == status_of NoStimulus && has_stimulus) || (status == status_of NoRequests && has_requests)
+    || status == status_of NotRead || status == status_of NotTaken || status == status_of OutOfMemory
+
+abbrev pub is_status_for : Option Command → ℕ → Bool
+is_status_for None status = is_usage_status status
+is_status_for (Some command) status = may_end (is_some command.stimulus) (is_some command.requests) status
+
 abbrev pub halt_status : Halt → ℕ
 halt_status ReadFault = status_of NotRead
 halt_status WriteFault = status_of NotTaken
 halt_status NoMemory = status_of OutOfMemory
+
+-- ---- the files that were asked for
+
+-- the source alone where it is refused, that and the stimulus where this is, and else all, in the order of the words; none where the words
+-- are no command
+pub record AsksCommand (command : Command) (status : ℕ) (old new : Option (List (List ℕ))) : Type 0 where
+  pub source : status ≡ 3 → Appends old new (command.source ∷ [])
+  pub stimulus : status ≡ 4 → Appends old new (command.source ∷ file_names command.stimulus)
+  pub all : (status ≡ 0) ⊎ (status ≡ 6) → Appends old new (names_of (Some command))
+
+abbrev pub AsksByStatus : Option Command → ℕ → Option (List (List ℕ)) → Option (List (List ℕ)) → Type 0
+AsksByStatus None status old new = Appends old new []
+AsksByStatus (Some command) status old new = AsksCommand command status old new
 
 -- ---- what was taken
 

@@ -1,5 +1,5 @@
 -- What a service asks for, and how it ends.
-use Rattle.std.specs.Prelude.{◌≡◌, ◌≢◌, ◌⊎◌, ℕ, ◌==◌, ◌&&◌, not, Bool, List, [], Option, Some, Result, Ok, Err, Vec, length}
+use Rattle.std.specs.Prelude.{◌≡◌, ◌≢◌, ◌⊎◌, ℕ, ◌==◌, ◌&&◌, not, Bool, List, [], ◌∷◌, Option, Some, None, Result, Ok, Err, Vec, length}
 use Rattle.std.specs.declared.alloc.Global.{Global}
 use Rattle.bv_core.specs.Value.{Bits}
 use Rattle.listen.specs.Pairs.{Heard}
@@ -12,12 +12,13 @@ use Rattle.design_judge.specs.Judging.{JudgesStimulus}
 use Rattle.link_edge.specs.Links.{Meaning}
 use Rattle.duo_run.specs.declared.served.Served.{Served}
 use Rattle.serve_net.specs.Over.{Over, Shows}
-use Rattle.serve_net.specs.Service.{ServesAll, ServesSome}
-use Rattle.dbg_app.specs.Command.{Command}
+use Rattle.serve_net.specs.Service.{AsksNone, ServesAll, ServesSome}
+use Rattle.io_edge.specs.Taken.{Appends}
+use Rattle.dbg_app.specs.Command.{Command, names_of}
 use Rattle.dbg_app.specs.Asked.{command_as}
 use Rattle.dbg_app.specs.Answers.{Answer, Contents, HoldsDesign, HoldsRows, Asks}
 use Rattle.dbg_app.specs.Outcome as run
-use Rattle.dbg_app.specs.Judged.{HasText, Judges, judged_status}
+use Rattle.dbg_app.specs.Judged.{HasText, Judges, asked_behind, judged_status}
 use Rattle.dbg_app.specs.Offer.{Offer}
 use Rattle.dbg_app.specs.declared.judge.Judged.{Judged}
 use Rattle.dbg_app.specs.declared.offer.Offer as code
@@ -51,9 +52,9 @@ pub record ServesOffer {L : Type 0} (meant : L → Meaning) (files : Contents) (
   pub holds : HoldsOver files offer.files over
   pub all : ServesAll meant over sets offer.count left_old left_new faults_old faults_new served old new
 
--- nothing was served, and nothing or a front of the line of a refusal was taken; or a part was served, and a front of its lines was taken
-pub record RefusesFront {L : Type 0} (files : Contents) (offer : Offer) (served : List (Served L)) (old new : Option (List ℕ)) : Type 0 where
-  pub none : served ≡ []
+-- the door was asked for no link, and nothing or a front of the line of a refusal was taken; or a part was served, and a front of its lines was taken
+pub record RefusesFront {L : Type 0} (files : Contents) (offer : Offer) (left_old left_new : Option ℕ) (faults_old faults_new : ℕ) (served : List (Served L)) (old new : Option (List ℕ)) : Type 0 where
+  pub none : AsksNone left_old left_new faults_old faults_new served
   pub taken : run.TakesSome [] files offer.files old new
 
 pub record ServesPart {L : Type 0} (meant : L → Meaning) (files : Contents) (offer : Offer) (sets : List (List Heard)) (left_old left_new : Option ℕ) (faults_old faults_new : ℕ) (served : List (Served L)) (old new : Option (List ℕ)) (status : ℕ) : Type 0 where
@@ -63,7 +64,7 @@ pub record ServesPart {L : Type 0} (meant : L → Meaning) (files : Contents) (o
 
 abbrev pub ServesFront : {L : Type 0} → (L → Meaning) → Contents → Offer → List (List Heard) → Option ℕ → Option ℕ → ℕ → ℕ → List (Served L) → Option (List ℕ) → Option (List ℕ) → ℕ → Type 0
 ServesFront meant files offer sets left_old left_new faults_old faults_new served old new status =
-    RefusesFront files offer served old new ⊎ ServesPart meant files offer sets left_old left_new faults_old faults_new served old new status
+    RefusesFront files offer left_old left_new faults_old faults_new served old new ⊎ ServesPart meant files offer sets left_old left_new faults_old faults_new served old new status
 
 -- where the files ask for an answer, and neither count has risen, the status is its status, and the whole line of a refusal was taken; or memory
 -- ran out
@@ -72,7 +73,24 @@ CompletesOffer files offer status old new read_rose write_rose =
     (answer : Answer) → Asks [] files offer.files answer → (read_rose → ⊥) → (write_rose → ⊥)
     → ((status ≡ answer.status) × (status ≢ 0 → run.TakesAnswer files offer.files answer old new)) ⊎ (status ≡ 9)
 
+-- the files that were asked for: the source alone where it is refused, and else that and the stimulus; none where the words are no service
+pub record AsksOffer (offer : Offer) (status : ℕ) (old new : Option (List (List ℕ))) : Type 0 where
+  pub source : status ≡ 3 → Appends old new (offer.files.source ∷ [])
+  pub all : (status ≡ 0) ⊎ (status ≡ 4) → Appends old new (names_of (Some offer.files))
+
+abbrev pub AsksByStatus : Option Offer → ℕ → Option (List (List ℕ)) → Option (List (List ℕ)) → Type 0
+AsksByStatus None status old new = Appends old new []
+AsksByStatus (Some offer) status old new = AsksOffer offer status old new
+
 -- ---- what was judged
+
+-- the names that were asked for before it was judged so, and those of them behind the source
+abbrev pub asked_show : List ℕ → code_shown.Shown → List (List ℕ)
+asked_show stimulus (shown.Refused j) = asked_behind (Some stimulus) None j
+asked_show stimulus (shown.Accepted service) = stimulus ∷ []
+
+abbrev pub asked_shown : List ℕ → List ℕ → code_shown.Shown → List (List ℕ)
+asked_shown source stimulus s = source ∷ asked_show stimulus s
 
 -- the text of a stimulus was judged: it is accepted for these ports, or refused
 abbrev pub FindsRows : Option (List ℕ) → Ports → Result (Vec ℕ Global) StimFault → Type 0

@@ -3,21 +3,23 @@
 ghost use Rattle.std.specs.Prelude.{◌≡◌, ◌<◌, ◌≤◌, ◌↔◌, IsTrue, [], ◌∷◌, ◌++◌, Some, None, IfOk, IfSome, OnOk, OnErr, IsErrOf};
 ghost use Rattle.io_edge.specs.Faults.{Rose};
 ghost use Rattle.io_edge.specs.Taken.{Appends, AppendsFront};
+ghost use Rattle.io_edge.specs.Unread.{StopsAt};
 ghost use Rattle.design_core.specs.DesignView.{design_of};
 ghost use Rattle.design_judge.specs.Accepting.{IsKept, accepting_of};
-ghost use Rattle.design_judge.specs.Judging.{IsFit, JudgesSource};
+ghost use Rattle.design_judge.specs.Judging.{IsFit, IsWhole, JudgesSource, JudgesStimulus};
 ghost use Rattle.dbg_app.specs.Command.{command_of, file_names, names_of};
 ghost use Rattle.dbg_app.specs.Answers.{IfAsked, HoldsDesign};
 ghost use Rattle.dbg_app.specs.Asked.{command_as, requests_as, stimulus_as};
 ghost use Rattle.dbg_app.specs.declared.command.Task.TheVariants.{Session};
-ghost use Rattle.dbg_app.specs.Judged.{HasText, Judges, judged_status};
+ghost use Rattle.dbg_app.specs.Judged.{HasText, Judges, RefusesNamed, RefusesOwn, asked_behind, asked_for, judged_status};
 ghost use Rattle.dbg_app.specs.Outcome.{is_status};
 
 use crate::Halt;
 use crate::arguments::given_in;
 use crate::command::{Command, OfDesign, OverRows, Task, read_command};
 use crate::requests::read_requests;
-use design_judge::{Accepted, DesignFault, judge_design, judge_stimulus};
+use design_core::Ports;
+use design_judge::{Accepted, DesignFault, judge_design};
 use io_edge::{Files, Words};
 use std::alloc::Global;
 use stim_text::{Stim, StimFault};
@@ -70,12 +72,33 @@ pub(crate) fn judge_source<F: Files>(
     ensures asked { OnOk result (Appends (F.asked files.old) (F.asked files.new) (command.now.source.now ∷ [])) }
     ensures front { AppendsFront (F.asked files.old) (F.asked files.new) (command.now.source.now ∷ []) }
     ensures read { IsErrOf result Halt.ReadFault → Rose (F.fault_count files.old) (F.fault_count files.new) }
+    ensures unread { IsErrOf result Halt.ReadFault → StopsAt F.asked F.fault_count files.old files.new (command.now.source.now ∷ []) }
     ensures no_write { IsErrOf result Halt.WriteFault → ⊥ }
     ensures later { F.fault_count files.old ≤ F.fault_count files.new }
 {
     let given = given_in(alloc, command.words, command.first)?;
     let top = command.top.as_bytes();
     Ok(judge_design(alloc, files, command.source, top, &given)?)
+}
+
+/// Reads and judges the stimulus of a command, for these ports.
+fn judge_stimulus<F: Files>(
+    alloc: Global,
+    files: &mut F,
+    name: &str,
+    ports: &Ports,
+) -> Result<Result<Stim, StimFault>, Halt>
+    ensures judged { IfOk result (λ found. IfSome (F.told files.old) (λ told. JudgesStimulus (told name.now) ports.now found)) }
+    ensures whole { IfOk result (IsWhole ports.now) }
+    ensures same { F.told files.new ≡ F.told files.old }
+    ensures asked { OnOk result (Appends (F.asked files.old) (F.asked files.new) (name.now ∷ [])) }
+    ensures front { AppendsFront (F.asked files.old) (F.asked files.new) (name.now ∷ []) }
+    ensures read { IsErrOf result Halt.ReadFault → Rose (F.fault_count files.old) (F.fault_count files.new) }
+    ensures unread { IsErrOf result Halt.ReadFault → StopsAt F.asked F.fault_count files.old files.new (name.now ∷ []) }
+    ensures no_write { IsErrOf result Halt.WriteFault → ⊥ }
+    ensures later { F.fault_count files.old ≤ F.fault_count files.new }
+{
+    Ok(design_judge::judge_stimulus(alloc, files, name, ports)?)
 }
 
 /// Reads the stimulus and the requests of a session over an accepted design, in this order, and judges each.
@@ -92,8 +115,12 @@ fn judge_session<F: Files>(
     ensures judged { IfOk result (λ judged. IfSome (F.told files.old) (λ told. HoldsDesign told (command_as command.now) (design_of accepted.design) → Judges told (command_as command.now) judged)) }
     ensures text { IfOk result HasText }
     ensures command { IfOk result (λ judged. judged ≡ Judged.NoCommand → ⊥) }
+    ensures named { IfOk result (RefusesNamed (Some stimulus.now) (Some requests.now)) }
+    ensures same { F.told files.new ≡ F.told files.old }
+    ensures asked { IfOk result (λ judged. Appends (F.asked files.old) (F.asked files.new) (asked_behind (Some stimulus.now) (Some requests.now) judged)) }
     ensures front { AppendsFront (F.asked files.old) (F.asked files.new) (stimulus.now ∷ requests.now ∷ []) }
     ensures read { IsErrOf result Halt.ReadFault → Rose (F.fault_count files.old) (F.fault_count files.new) }
+    ensures unread { IsErrOf result Halt.ReadFault → StopsAt F.asked F.fault_count files.old files.new (stimulus.now ∷ requests.now ∷ []) }
     ensures no_write { IsErrOf result Halt.WriteFault → ⊥ }
     ensures later { F.fault_count files.old ≤ F.fault_count files.new }
 {
@@ -116,8 +143,12 @@ fn judge_command<F: Files>(
     ensures judged { IfOk result (λ judged. IfSome (F.told files.old) (λ told. Judges told (command_as command.now) judged)) }
     ensures text { IfOk result HasText }
     ensures command { IfOk result (λ judged. judged ≡ Judged.NoCommand → ⊥) }
+    ensures named { IfOk result (RefusesOwn (Some (command_as command.now))) }
+    ensures same { F.told files.new ≡ F.told files.old }
+    ensures asked { IfOk result (λ judged. Appends (F.asked files.old) (F.asked files.new) (asked_for (Some (command_as command.now)) judged)) }
     ensures front { AppendsFront (F.asked files.old) (F.asked files.new) (command.now.source.now ∷ file_names (stimulus_as command.now.task) ++ file_names (requests_as command.now.task)) }
     ensures read { IsErrOf result Halt.ReadFault → Rose (F.fault_count files.old) (F.fault_count files.new) }
+    ensures unread { IsErrOf result Halt.ReadFault → StopsAt F.asked F.fault_count files.old files.new (command.now.source.now ∷ file_names (stimulus_as command.now.task) ++ file_names (requests_as command.now.task)) }
     ensures no_write { IsErrOf result Halt.WriteFault → ⊥ }
     ensures later { F.fault_count files.old ≤ F.fault_count files.new }
 {
@@ -144,9 +175,13 @@ pub(crate) fn judge<F: Files>(alloc: Global, words: &Words, files: &mut F) -> Re
     ensures command { IfOk result (λ judged. (judged ≡ Judged.NoCommand) ↔ (command_of words.now ≡ None)) }
     ensures judged { IfOk result (λ judged. IfAsked (F.told files.old) (command_of words.now) (λ told command. Judges told command judged)) }
     ensures text { IfOk result HasText }
+    ensures named { IfOk result (RefusesOwn (command_of words.now)) }
+    ensures same { F.told files.new ≡ F.told files.old }
+    ensures asked { IfOk result (λ judged. Appends (F.asked files.old) (F.asked files.new) (asked_for (command_of words.now) judged)) }
     ensures front { AppendsFront (F.asked files.old) (F.asked files.new) (names_of (command_of words.now)) }
     ensures memory { OnErr result (command_of words.now ≡ None → ⊥) }
     ensures read { IsErrOf result Halt.ReadFault → Rose (F.fault_count files.old) (F.fault_count files.new) }
+    ensures unread { IsErrOf result Halt.ReadFault → StopsAt F.asked F.fault_count files.old files.new (names_of (command_of words.now)) }
     ensures no_write { IsErrOf result Halt.WriteFault → ⊥ }
     ensures later { F.fault_count files.old ≤ F.fault_count files.new }
 {

@@ -2,14 +2,17 @@
 
 ghost use Rattle.std.specs.Prelude.{◌≡◌, ◌≤◌, ◌<◌, ◌⊎◌, None, IsTrue, length, map};
 ghost use Rattle.io_edge.specs.Faults.{Rose};
-ghost use Rattle.io_edge.specs.Taken.{Appends, AppendsFront};
+ghost use Rattle.io_edge.specs.Taken.{Appends, AppendsFront, Grows};
+ghost use Rattle.io_edge.specs.Unread.{StopsAt};
 ghost use Rattle.dbg_app.specs.Command.{command_of, names_of};
 ghost use Rattle.batch_run.specs.Texts.{requests_fault};
 ghost use Rattle.dbg_app.specs.Answers.{usage_fault, IfAsked};
-ghost use Rattle.dbg_app.specs.Judged.{HasText, TakesText, TakesTextFront, judged_status};
+ghost use Rattle.dbg_app.specs.Compiled.{CompilesCommand};
+ghost use Rattle.dbg_app.specs.Judged.{HasText, IsCompiled, TakesText, TakesTextFront, judged_status};
 ghost use Rattle.replay_run.specs.Asked.{TakesFileLine};
-ghost use Rattle.dbg_app.specs.Call.{call_of, files_of, IfCalled, is_run_status, EndsAsCalled, TakesSomeOf, CompletesCall};
-ghost use Rattle.dbg_app.specs.Outcome.{is_status, is_usage_status, TakesDesignLine, TakesStimulusLine, EndsAsAsked, TakesSome, Completes};
+ghost use Rattle.dbg_app.specs.Call as call;
+ghost use Rattle.dbg_app.specs.Call.{call_of, files_of, IfCalled, is_run_status, is_status_of, Compiles, EndsAsCalled, TakesSomeOf, CompletesCall};
+ghost use Rattle.dbg_app.specs.Outcome.{is_status, is_status_for, is_usage_status, AsksByStatus, TakesDesignLine, TakesStimulusLine, EndsAsAsked, TakesSome, Completes};
 
 use crate::demo::read_demo;
 use crate::judge::{Judged, judge};
@@ -55,6 +58,7 @@ pub fn run<F: Files, S: Sink>(
 ) -> Ended
     requires few { length listeners.items ≤ 65536 }
     ensures statuses { IsTrue (is_run_status result.status) }
+    ensures row { IsTrue (is_status_of (call_of words.now) result.status) }
 
     // The words are no command exactly where the status is 2, unless the output fails or memory runs out.
     ensures usage { result.status ≡ 2 → call_of words.now ≡ None }
@@ -77,8 +81,10 @@ pub fn run<F: Files, S: Sink>(
         CompletesCall (map (λ b. heard b) listeners.items) told call result.status (S.taken out.old) (S.taken out.new)
         (Rose (F.fault_count files.old) (F.fault_count files.new)) (Rose (S.fault_count out.old) (S.fault_count out.new))) }
 
-    // The files that are asked for are those of the words, in their order.
+    // The files that are asked for are those of the words, in their order: up to the one that is refused, or that was not read.
     ensures asked { AppendsFront (F.asked files.old) (F.asked files.new) (files_of (call_of words.now)) }
+    ensures files { call.AsksByStatus (call_of words.now) result.status (F.asked files.old) (F.asked files.new) (S.taken out.old) (S.taken out.new) }
+    ensures unread { result.status ≡ 7 → StopsAt F.asked F.fault_count files.old files.new (files_of (call_of words.now)) }
 
     // A fault of the files, before anything was written.
     ensures read { result.status ≡ 7 → Rose (F.fault_count files.old) (F.fault_count files.new) }
@@ -89,6 +95,15 @@ pub fn run<F: Files, S: Sink>(
     ensures front { 7 < result.status
         → IfCalled (F.told files.old) (call_of words.now) (λ told call. TakesSomeOf (map (λ b. heard b) listeners.items) told call (S.taken out.old) (S.taken out.new)) }
     ensures usage_front { call_of words.now ≡ None → AppendsFront (S.taken out.old) (S.taken out.new) usage_fault }
+
+    // With status 0 of `symbols`, `sim` and `debug`: the design has the net and the table that they stand on.
+    ensures compiled { result.status ≡ 0 → IfCalled (F.told files.old) (call_of words.now) Compiles }
+
+    // What stays: what the files tell, the bytes that the sink took before, and no count falls.
+    ensures same { F.told files.new ≡ F.told files.old }
+    ensures kept { Grows (S.taken out.old) (S.taken out.new) }
+    ensures read_later { F.fault_count files.old ≤ F.fault_count files.new }
+    ensures write_later { S.fault_count out.old ≤ S.fault_count out.new }
 {
     match read_replay(words) {
         Some(replay) => Ended {
@@ -113,6 +128,7 @@ fn run_design<F: Files, S: Sink>(
 ) -> Ended
     requires few { length listeners.items ≤ 65536 }
     ensures statuses { IsTrue (is_status result.status) }
+    ensures row { IsTrue (is_status_for (command_of words.now) result.status) }
 
     // The words are no command exactly where the status is 2, unless the output fails or memory runs out.
     ensures usage { result.status ≡ 2 → command_of words.now ≡ None }
@@ -134,8 +150,10 @@ fn run_design<F: Files, S: Sink>(
         Completes (map (λ b. heard b) listeners.items) told command result.status (S.taken out.old) (S.taken out.new)
         (Rose (F.fault_count files.old) (F.fault_count files.new)) (Rose (S.fault_count out.old) (S.fault_count out.new))) }
 
-    // The files that are asked for are those of the words, in their order.
+    // The files that are asked for are those of the words, in their order: up to the one that is refused, or that was not read.
     ensures asked { AppendsFront (F.asked files.old) (F.asked files.new) (names_of (command_of words.now)) }
+    ensures files { AsksByStatus (command_of words.now) result.status (F.asked files.old) (F.asked files.new) }
+    ensures unread { result.status ≡ 7 → StopsAt F.asked F.fault_count files.old files.new (names_of (command_of words.now)) }
 
     // A fault of the files, before anything was written.
     ensures read { result.status ≡ 7 → Rose (F.fault_count files.old) (F.fault_count files.new) }
@@ -146,6 +164,15 @@ fn run_design<F: Files, S: Sink>(
     ensures front { 7 < result.status
         → IfAsked (F.told files.old) (command_of words.now) (λ told command. TakesSome (map (λ b. heard b) listeners.items) told command (S.taken out.old) (S.taken out.new)) }
     ensures usage_front { command_of words.now ≡ None → AppendsFront (S.taken out.old) (S.taken out.new) usage_fault }
+
+    // With status 0 of `symbols`, `sim` and `debug`: the design has the net and the table that they stand on.
+    ensures compiled { result.status ≡ 0 → IfAsked (F.told files.old) (command_of words.now) CompilesCommand }
+
+    // What stays: what the files tell, the bytes that the sink took before, and no count falls.
+    ensures same { F.told files.new ≡ F.told files.old }
+    ensures kept { Grows (S.taken out.old) (S.taken out.new) }
+    ensures read_later { F.fault_count files.old ≤ F.fault_count files.new }
+    ensures write_later { S.fault_count out.old ≤ S.fault_count out.new }
 {
     match judge(alloc, words, files) {
         Ok(judged) => end(alloc, judged, listeners, out),
@@ -170,6 +197,8 @@ pub(crate) fn end<S: Sink>(
     ensures no_read { result.status ≡ 7 → ⊥ }
     ensures write { result.status ≡ 8 → Rose (S.fault_count out.old) (S.fault_count out.new) }
     ensures front { 7 < result.status → TakesTextFront (map (λ b. heard b) listeners.items) judged (S.taken out.old) (S.taken out.new) }
+    ensures compiled { result.status ≡ 0 → IsCompiled judged }
+    ensures later { S.fault_count out.old ≤ S.fault_count out.new }
 {
     let status = judged.status();
     match write(alloc, judged, listeners, out) {

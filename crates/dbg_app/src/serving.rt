@@ -3,13 +3,15 @@
 ghost use Rattle.std.specs.Prelude.{◌≡◌, ◌≢◌, ◌≤◌, ◌<◌, ◌⊎◌, [], None, IsTrue, All, length, map, reverse};
 ghost use Rattle.std.specs.Option.{option_map};
 ghost use Rattle.io_edge.specs.Faults.{Rose};
-ghost use Rattle.io_edge.specs.Taken.{Appends, AppendsFront};
+ghost use Rattle.io_edge.specs.Taken.{Appends, AppendsFront, Grows};
+ghost use Rattle.io_edge.specs.Unread.{StopsAt};
+ghost use Rattle.serve_net.specs.Service.{AsksNone};
 ghost use Rattle.dbg_app.specs.Command.{names_of};
 ghost use Rattle.dbg_app.specs.Answers.{usage_fault};
 ghost use Rattle.dbg_app.specs.Judged.{HasText, TakesText, TakesTextFront, judged_status};
 ghost use Rattle.dbg_app.specs.Outcome.{is_status, is_usage_status, TakesDesignLine, TakesStimulusLine, EndsAsAsked};
 ghost use Rattle.dbg_app.specs.Offer.{offer_of, offer_files, IfOffered};
-ghost use Rattle.dbg_app.specs.Serving.{is_serve_status, CompletesOffer, ServesFront, ServesOffer};
+ghost use Rattle.dbg_app.specs.Serving.{is_serve_status, AsksByStatus, CompletesOffer, ServesFront, ServesOffer};
 
 use crate::command::Task;
 use crate::judge::Judged;
@@ -55,11 +57,12 @@ pub fn serve<R: Threads + Wait + Sync, F: Files, S: Sink, D: Door>(
     ensures usage { result.status ≡ 2 → offer_of words.now ≡ None }
     ensures no_service { offer_of words.now ≡ None → IsTrue (is_usage_status result.status) }
 
-    // Each refusal has its line, and nothing is served.
+    // Each refusal has its line. There the door is asked for no link, and nobody is served; nor where the words are no service.
     ensures usage_line { result.status ≡ 2 → Appends (S.taken out.old) (S.taken out.new) usage_fault }
     ensures design_line { result.status ≡ 3 → TakesDesignLine (S.taken out.old) (S.taken out.new) }
     ensures stimulus_line { result.status ≡ 4 → TakesStimulusLine (S.taken out.old) (S.taken out.new) }
-    ensures unserved { result.status ≢ 0 → result.status < 8 → (result.served.items ≡ []) × (D.left door.new ≡ D.left door.old) }
+    ensures unserved { result.status ≢ 0 → result.status < 8 → AsksNone (D.left door.old) (D.left door.new) (D.fault_count door.old) (D.fault_count door.new) result.served.items }
+    ensures no_link { offer_of words.now ≡ None → AsksNone (D.left door.old) (D.left door.new) (D.fault_count door.old) (D.fault_count door.new) result.served.items }
 
     // Where the files are told: the status and the whole text that they ask for.
     ensures refused { result.status ≢ 0 → result.status < 7
@@ -74,8 +77,10 @@ pub fn serve<R: Threads + Wait + Sync, F: Files, S: Sink, D: Door>(
         CompletesOffer told offer result.status (S.taken out.old) (S.taken out.new)
         (Rose (F.fault_count files.old) (F.fault_count files.new)) (Rose (S.fault_count out.old) (S.fault_count out.new))) }
 
-    // The files that are asked for are those of the words, in their order.
+    // The files that are asked for are those of the words, in their order: up to the one that is refused, or that was not read.
     ensures asked { AppendsFront (F.asked files.old) (F.asked files.new) (names_of (option_map offer_files (offer_of words.now))) }
+    ensures files { AsksByStatus (offer_of words.now) result.status (F.asked files.old) (F.asked files.new) }
+    ensures unread { result.status ≡ 7 → StopsAt F.asked F.fault_count files.old files.new (names_of (option_map offer_files (offer_of words.now))) }
 
     // A fault of the files, before anything was written.
     ensures read { result.status ≡ 7 → Rose (F.fault_count files.old) (F.fault_count files.new) }
@@ -88,6 +93,12 @@ pub fn serve<R: Threads + Wait + Sync, F: Files, S: Sink, D: Door>(
         ServesFront (λ l. D.Out.meaning l) told offer (reverse (map (λ s. map (λ b. heard b) s.items) sets.items))
         (D.left door.old) (D.left door.new) (D.fault_count door.old) (D.fault_count door.new) result.served.items (S.taken out.old) (S.taken out.new) result.status) }
     ensures usage_front { offer_of words.now ≡ None → AppendsFront (S.taken out.old) (S.taken out.new) usage_fault }
+
+    // What stays: what the files tell, the bytes that the sink took before, and no count falls.
+    ensures same { F.told files.new ≡ F.told files.old }
+    ensures kept { Grows (S.taken out.old) (S.taken out.new) }
+    ensures read_later { F.fault_count files.old ≤ F.fault_count files.new }
+    ensures write_later { S.fault_count out.old ≤ S.fault_count out.new }
 {
     let Some(offer) = read_offer(words) else {
         return refuse(alloc, Judged::NoCommand, out);
@@ -114,6 +125,7 @@ fn refuse<L, S: Sink>(alloc: Global, judged: Judged, out: &mut S) -> Many<L>
     ensures no_read { result.status ≡ 7 → ⊥ }
     ensures write { result.status ≡ 8 → Rose (S.fault_count out.old) (S.fault_count out.new) }
     ensures front { 7 < result.status → TakesTextFront [] judged (S.taken out.old) (S.taken out.new) }
+    ensures later { S.fault_count out.old ≤ S.fault_count out.new }
 {
     let ended = end(alloc, judged, Vec::new(alloc), out);
     Many {

@@ -2,14 +2,15 @@
 //!
 //! The text of the stimulus is kept: each session reads its rows anew.
 
-ghost use Rattle.std.specs.Prelude.{◌≡◌, ◌≤◌, [], ◌∷◌, Some, IfOk, IfSome, IsErrOf};
+ghost use Rattle.std.specs.Prelude.{◌≡◌, ◌≤◌, [], ◌∷◌, Some, IfOk, IfSome, OnOk, IsErrOf};
 ghost use Rattle.io_edge.specs.Faults.{Rose};
-ghost use Rattle.io_edge.specs.Taken.{AppendsFront};
+ghost use Rattle.io_edge.specs.Taken.{Appends, AppendsFront};
+ghost use Rattle.io_edge.specs.Unread.{StopsAt};
 ghost use Rattle.design_core.specs.DesignView.{design_of};
 ghost use Rattle.design_judge.specs.Accepting.{IsKept, accepting_of};
 ghost use Rattle.dbg_app.specs.Asked.{command_as, stimulus_as};
 ghost use Rattle.dbg_app.specs.Answers.{HoldsDesign};
-ghost use Rattle.dbg_app.specs.Serving.{AreRows, FindsRows, IsShown, JudgesOffer};
+ghost use Rattle.dbg_app.specs.Serving.{AreRows, FindsRows, IsShown, JudgesOffer, asked_show, asked_shown};
 
 use crate::Halt;
 use crate::command::Command;
@@ -37,8 +38,11 @@ fn read_rows<F: Files>(
 ) -> Result<Result<Vec<u8>, StimFault>, Halt>
     ensures found { IfOk result (λ found. IfSome (F.told files.old) (λ told. FindsRows (told name.now) ports.now found)) }
     ensures rows { IfOk result (AreRows ports.now) }
+    ensures same { F.told files.new ≡ F.told files.old }
+    ensures asked { OnOk result (Appends (F.asked files.old) (F.asked files.new) (name.now ∷ [])) }
     ensures front { AppendsFront (F.asked files.old) (F.asked files.new) (name.now ∷ []) }
     ensures read { IsErrOf result Halt.ReadFault → Rose (F.fault_count files.old) (F.fault_count files.new) }
+    ensures unread { IsErrOf result Halt.ReadFault → StopsAt F.asked F.fault_count files.old files.new (name.now ∷ []) }
     ensures no_write { IsErrOf result Halt.WriteFault → ⊥ }
     ensures later { F.fault_count files.old ≤ F.fault_count files.new }
 {
@@ -64,8 +68,11 @@ fn show<F: Files>(
     requires kept { IsKept (accepting_of accepted) }
     ensures judged { IfOk result (λ shown. IfSome (F.told files.old) (λ told. HoldsDesign told (command_as command.now) (design_of accepted.design) → JudgesOffer told (command_as command.now) shown)) }
     ensures shown { IfOk result IsShown }
+    ensures same { F.told files.new ≡ F.told files.old }
+    ensures asked { IfOk result (λ shown. Appends (F.asked files.old) (F.asked files.new) (asked_show stimulus.now shown)) }
     ensures front { AppendsFront (F.asked files.old) (F.asked files.new) (stimulus.now ∷ []) }
     ensures read { IsErrOf result Halt.ReadFault → Rose (F.fault_count files.old) (F.fault_count files.new) }
+    ensures unread { IsErrOf result Halt.ReadFault → StopsAt F.asked F.fault_count files.old files.new (stimulus.now ∷ []) }
     ensures no_write { IsErrOf result Halt.WriteFault → ⊥ }
     ensures later { F.fault_count files.old ≤ F.fault_count files.new }
 {
@@ -89,8 +96,11 @@ pub(crate) fn judge_shown<F: Files>(
     requires stimulus { stimulus_as command.now.task ≡ Some stimulus.now }
     ensures judged { IfOk result (λ shown. IfSome (F.told files.old) (λ told. JudgesOffer told (command_as command.now) shown)) }
     ensures shown { IfOk result IsShown }
+    ensures same { F.told files.new ≡ F.told files.old }
+    ensures asked { IfOk result (λ shown. Appends (F.asked files.old) (F.asked files.new) (asked_shown command.now.source.now stimulus.now shown)) }
     ensures front { AppendsFront (F.asked files.old) (F.asked files.new) (command.now.source.now ∷ stimulus.now ∷ []) }
     ensures read { IsErrOf result Halt.ReadFault → Rose (F.fault_count files.old) (F.fault_count files.new) }
+    ensures unread { IsErrOf result Halt.ReadFault → StopsAt F.asked F.fault_count files.old files.new (command.now.source.now ∷ stimulus.now ∷ []) }
     ensures no_write { IsErrOf result Halt.WriteFault → ⊥ }
     ensures later { F.fault_count files.old ≤ F.fault_count files.new }
 {

@@ -6,7 +6,8 @@ ghost use Rattle.io_edge.specs.Taken.{Appends, AppendsFront};
 ghost use Rattle.design_core.specs.DesignView.{design_of};
 ghost use Rattle.design_judge.specs.Accepting.{IsKept, accepting_of};
 ghost use Rattle.debug_net.specs.Taken.{TakesSession, TakesSessionFront};
-ghost use Rattle.dbg_app.specs.Judged.{HasText, TakesText, TakesTextFront, TakesWork, TakesWorkFront, alone, over};
+ghost use Rattle.dbg_app.specs.Compiled.{HasNet};
+ghost use Rattle.dbg_app.specs.Judged.{HasText, IsCompiled, TakesText, TakesTextFront, TakesWork, TakesWorkFront, WorkStands, alone, over};
 
 use crate::Halt;
 use crate::command::{OfDesign, OverRows};
@@ -34,7 +35,9 @@ fn write_alone<S: Sink>(
     requires { IsKept (accepting_of accepted.now) }
     ensures ok { OnOk result (TakesWork (alone task mode accepted.now) (S.taken out.old) (S.taken out.new)) }
     ensures front { OnErr result (TakesWorkFront (alone task mode accepted.now) (S.taken out.old) (S.taken out.new)) }
+    ensures compiled { OnOk result (WorkStands (alone task mode accepted.now)) }
     ensures write { IsErrOf result Halt.WriteFault → Rose (S.fault_count out.old) (S.fault_count out.new) }
+    ensures later { S.fault_count out.old ≤ S.fault_count out.new }
     ensures no_read { IsErrOf result Halt.ReadFault → ⊥ }
 {
     let Accepted {
@@ -62,7 +65,9 @@ fn write_over<S: Sink>(
     requires ports { stim.ports ≡ accepted.now.ports }
     ensures ok { OnOk result (TakesWork (over task mode accepted.now stim) (S.taken out.old) (S.taken out.new)) }
     ensures front { OnErr result (TakesWorkFront (over task mode accepted.now stim) (S.taken out.old) (S.taken out.new)) }
+    ensures compiled { OnOk result (WorkStands (over task mode accepted.now stim)) }
     ensures write { IsErrOf result Halt.WriteFault → Rose (S.fault_count out.old) (S.fault_count out.new) }
+    ensures later { S.fault_count out.old ≤ S.fault_count out.new }
     ensures no_read { IsErrOf result Halt.ReadFault → ⊥ }
 {
     let Accepted { design, order, .. } = accepted;
@@ -88,7 +93,9 @@ fn write_asked<S: Sink>(
     requires few { length listeners.items ≤ 65536 }
     ensures ok { OnOk result (TakesSession (design_of accepted.now.design) (length accepted.now.order) mode stim.rows (map (λ b. heard b) listeners.items) requests.now (S.taken out.old) (S.taken out.new)) }
     ensures front { OnErr result (TakesSessionFront (design_of accepted.now.design) (length accepted.now.order) mode stim.rows (map (λ b. heard b) listeners.items) requests.now (S.taken out.old) (S.taken out.new)) }
+    ensures compiled { OnOk result (HasNet (design_of accepted.now.design) (length accepted.now.order) mode) }
     ensures write { IsErrOf result Halt.WriteFault → Rose (S.fault_count out.old) (S.fault_count out.new) }
+    ensures later { S.fault_count out.old ≤ S.fault_count out.new }
     ensures no_read { IsErrOf result Halt.ReadFault → ⊥ }
 {
     let Accepted { design, order, .. } = accepted;
@@ -102,6 +109,7 @@ fn write_line<S: Sink>(line: &[u8], out: &mut S) -> Result<(), Halt>
     ensures ok { OnOk result (Appends (S.taken out.old) (S.taken out.new) line.now) }
     ensures front { OnErr result (AppendsFront (S.taken out.old) (S.taken out.new) line.now) }
     ensures write { IsErrOf result Halt.WriteFault → Rose (S.fault_count out.old) (S.fault_count out.new) }
+    ensures later { S.fault_count out.old ≤ S.fault_count out.new }
     ensures no_read { IsErrOf result Halt.ReadFault → ⊥ }
 {
     out.put(line)?;
@@ -119,7 +127,9 @@ pub(crate) fn write<S: Sink>(
     requires few { length listeners.items ≤ 65536 }
     ensures ok { OnOk result (TakesText (map (λ b. heard b) listeners.items) judged (S.taken out.old) (S.taken out.new)) }
     ensures front { OnErr result (TakesTextFront (map (λ b. heard b) listeners.items) judged (S.taken out.old) (S.taken out.new)) }
+    ensures compiled { OnOk result (IsCompiled judged) }
     ensures write { IsErrOf result Halt.WriteFault → Rose (S.fault_count out.old) (S.fault_count out.new) }
+    ensures later { S.fault_count out.old ≤ S.fault_count out.new }
     ensures no_read { IsErrOf result Halt.ReadFault → ⊥ }
 {
     match judged {

@@ -5,6 +5,9 @@ ghost use Rattle.io_edge.specs.Faults.{Rose};
 ghost use Rattle.design_core.specs.DesignView.{design_of};
 ghost use Rattle.check_core.specs.Verdict.{verdict};
 ghost use Rattle.place_core.specs.Orders.{TellsOrder};
+ghost use Rattle.net_core.specs.Nets.{NetParts};
+ghost use Rattle.symtab.specs.declared.parts.TableParts.{TableParts};
+ghost use Rattle.trim_core.specs.Trimmed.{IsTrimmed};
 ghost use Rattle.trim_laws.specs.Runs.{HasInputs};
 ghost use Rattle.debug_net.specs.Taken.{TakesSession, TakesSessionFront};
 
@@ -45,6 +48,7 @@ pub fn write_session<S: Sink>(
     requires few { length listeners.items ≤ 65536 }
     ensures ok { OnOk result (TakesSession (design_of design.now) (length order.now) mode script.entry.stim.rows (map (λ b. heard b) listeners.items) script.entry.requests.now (S.taken out.old) (S.taken out.new)) }
     ensures front { OnErr result (TakesSessionFront (design_of design.now) (length order.now) mode script.entry.stim.rows (map (λ b. heard b) listeners.items) script.entry.requests.now (S.taken out.old) (S.taken out.new)) }
+    ensures compiled { OnOk result ((net : NetParts) × (parts : TableParts) × IsTrimmed (design_of design.now) (length order.now) mode net parts) }
     ensures failed { IsErrOf result SinkEnd.Failed → Rose (S.fault_count out.old) (S.fault_count out.new) }
     ensures later { S.fault_count out.old ≤ S.fault_count out.new }
 {

@@ -1,3 +1,5 @@
-mod Words
-mod Replaying
 mod Cells
+mod Rows
+mod Replaying
+mod Prints
+mod Words

@@ -1,36 +1,28 @@
-//! The laws of replay and of demos.
+//! The laws of replay, of waves and of demos, in the words of a run.
 
-ghost use Rattle.std.specs.Prelude.{◌≡◌, None, OnOk};
-ghost use Rattle.check_core.specs.Verdict.{verdict};
-ghost use Rattle.design_core.specs.DesignView.{design_of};
-ghost use Rattle.place_core.specs.Orders.{TellsOrder};
-ghost use Rattle.run_laws.specs.Replayed.{IsReplayed};
+ghost use Rattle.run_laws.specs.Replayed.{HeldIsReplayed, PrintsAreReplayed};
+ghost use Rattle.run_laws.specs.Waves.{WavesTellTheRun};
 ghost use Rattle.run_laws.specs.Demos.{CountsCells, AsksByRequests, EndsUnrefused};
 
 use chain_laws::requests_decide;
-use design_core::Design;
-use headline_laws::debugged_is_replayed;
-use lower_core::Mode;
-use place_core::Order;
-use std::alloc::Global;
-use stim_text::Stim;
-use text_core::NoMemory;
+use headline_laws::replays_are_debugged;
+use wave_net::waves_tell_runs;
 
-/// The law of an accepted design, a mode and a stimulus that was read: of every command whose files hold these, a replay of what `symbols`
-/// and `sim` print asks for what `debug` asks for. It needs that memory is found to compile the design once, and returns nothing else.
-pub fn debug_is_replayed(
-    alloc: Global,
-    design: &Design,
-    order: &Order,
-    mode: Mode,
-    stim: &Stim,
-) -> Result<(), NoMemory>
-    requires accepted { verdict (design_of design.now) ≡ None }
-    requires order { TellsOrder (design_of design.now) order.now }
-    ensures { OnOk result (IsReplayed (design_of design.now) mode stim.now) }
+/// The law that a replay of what `symbols` and `sim` print asks for status 0 and what `debug` prints, and for nothing else, where the
+/// three end with status 0: `run` tells then what they ask for, and that the design has the net and the table that they stand on.
+/// Computes nothing.
+pub fn debug_is_replayed()
+    ensures held { HeldIsReplayed }
+    ensures prints { PrintsAreReplayed }
 {
-    stim.rows();
-    debugged_is_replayed(alloc, design, order, mode, stim)
+    replays_are_debugged();
+}
+
+/// The law that what `sim` prints tells the run of the source: in each cycle each node has the value of its kept tree. Computes nothing.
+pub fn sim_tells_the_run()
+    ensures { WavesTellTheRun }
+{
+    waves_tell_runs();
 }
 
 /// The law of words that are a demo: they give from 1 to 4,000 cells; where their file is there, the answer that they ask for has status 0 where its

@@ -1,5 +1,10 @@
-use Rattle.std.proofs.Common.{refl, [], ◌∷◌, ◌++◌, sym, ap}
-use Rattle.io_edge.proofs.Growth.{front_after, front_of_front}
+use Rattle.std.proofs.Common.{rules, refl, [], ◌∷◌, ◌++◌, sym, ap, subst, Some}
+use Rattle.io_edge.specs.Unread.{StopsAt}
+use Rattle.io_edge.proofs.Stops.{stops_of_front, stops_after}
+use Rattle.std.proofs.lemmas.Result.{IfOk-weaker}
+use Rattle.io_edge.specs.Taken.{Appends}
+use Rattle.io_edge.proofs.Growth.{front_after, front_of_front, grown_twice}
+use Rattle.dbg_app.specs.Judged.{asked_behind}
 use Rattle.design_core.specs.DesignView.{design_of}
 use Rattle.dbg_app.specs.Command.{file_names}
 use Rattle.dbg_app.specs.Asked.{task_as, stimulus_as, requests_as, command_as}
@@ -54,3 +59,43 @@ pub returns-in-Session-clause-front : goal.returns-in-Session-clause-front
 returns-in-Session-clause-front g c =
     front_after _ _ _ (c.args.command.now.source.now ∷ []) (c.in-Session.stimulus.now ∷ c.in-Session.requests.now ∷ []) [] _
     (ap (λ t. c.args.command.now.source.now ∷ file_names (stimulus_as t) ++ file_names (requests_as t)) c.in-Session.is) c.in_ok-accepted.ensures.asked c.judge_session.ensures.front
+
+-- ---- a file that was not read
+
+pub returns-in_err-accepted-clause-unread : goal.returns-in_err-accepted-clause-unread
+returns-in_err-accepted-clause-unread g c e =
+    let q : StopsAt g.F.Files.asked g.F.Files.fault_count c.args.files.now c.judge_source.new.files (c.args.command.now.source.now ∷ []) = search rules in
+    stops_of_front _ _ _ _ (c.args.command.now.source.now ∷ []) (file_names (stimulus_as c.args.command.now.task) ++ file_names (requests_as c.args.command.now.task)) _ refl q
+
+pub returns-in_err-stim-in-Over-clause-unread : goal.returns-in_err-stim-in-Over-clause-unread
+returns-in_err-stim-in-Over-clause-unread g c e =
+    let q : StopsAt g.F.Files.asked g.F.Files.fault_count c.judge_source.new.files c.judge_stimulus.new.files (c.in-Over.stimulus.now ∷ []) = search rules in
+    stops_after _ _ _ _ _ (c.args.command.now.source.now ∷ []) (c.in-Over.stimulus.now ∷ []) [] _ (ap (λ t. c.args.command.now.source.now ∷ file_names (stimulus_as t) ++ file_names (requests_as t)) c.in-Over.is)
+    c.in_ok-accepted.ensures.asked c.judge_source.ensures.later q
+
+pub returns-in-Session-clause-unread : goal.returns-in-Session-clause-unread
+returns-in-Session-clause-unread g c e =
+    stops_after _ _ _ _ _ (c.args.command.now.source.now ∷ []) (c.in-Session.stimulus.now ∷ c.in-Session.requests.now ∷ []) [] _
+    (ap (λ t. c.args.command.now.source.now ∷ file_names (stimulus_as t) ++ file_names (requests_as t)) c.in-Session.is)
+    c.in_ok-accepted.ensures.asked c.judge_source.ensures.later (c.judge_session.ensures.unread e)
+
+-- ---- the files that were asked for
+
+pub returns-in-Ok-2-clause-asked : goal.returns-in-Ok-2-clause-asked
+returns-in-Ok-2-clause-asked g c =
+    subst (Appends (g.F.Files.asked c.args.files.now) (g.F.Files.asked c.judge_stimulus.new.files))
+    (sym (ap (λ t. c.args.command.now.source.now ∷ file_names (stimulus_as t) ++ file_names (requests_as t)) c.in-Over.is))
+    (grown_twice _ _ _ (c.args.command.now.source.now ∷ []) (c.in-Over.stimulus.now ∷ []) c.in_ok-accepted.ensures.asked c.in_ok-stim-in-Over.ensures.asked)
+
+pub returns-in-Err-2-clause-asked : goal.returns-in-Err-2-clause-asked
+returns-in-Err-2-clause-asked g c =
+    subst (Appends (g.F.Files.asked c.args.files.now) (g.F.Files.asked c.judge_stimulus.new.files))
+    (sym (ap (λ t. c.args.command.now.source.now ∷ file_names (stimulus_as t)) c.in-Over.is))
+    (grown_twice _ _ _ (c.args.command.now.source.now ∷ []) (c.in-Over.stimulus.now ∷ []) c.in_ok-accepted.ensures.asked c.in_ok-stim-in-Over.ensures.asked)
+
+pub returns-in-Session-clause-asked : goal.returns-in-Session-clause-asked
+returns-in-Session-clause-asked g c =
+    IfOk-weaker c.judge_session.result _ _
+    (λ j h. subst (Appends (g.F.Files.asked c.args.files.now) (g.F.Files.asked c.judge_session.new.files))
+    (sym (ap (λ t. c.args.command.now.source.now ∷ asked_behind (stimulus_as t) (requests_as t) j) c.in-Session.is))
+    (grown_twice _ _ _ (c.args.command.now.source.now ∷ []) (asked_behind (Some c.in-Session.stimulus.now) (Some c.in-Session.requests.now) j) c.in_ok-accepted.ensures.asked h)) c.judge_session.ensures.asked

@@ -1,8 +1,10 @@
 use Rattle.std.proofs.Common.{◌<◌, [], refl, lit<}
+use Rattle.io_edge.proofs.Stops.{grows_not}
+use Rattle.dbg_app.proofs.Statuses.{ends_grown}
 use Rattle.dbg_app.specs.Serving.{offer_as}
 use Rattle.dbg_app.specs.declared.judge.Judged.TheVariants.{NoCommand}
 use Rattle.dbg_app.proofs.Ending.{usage_taken, design_line_taken, stimulus_line_taken}
-use Rattle.dbg_app.proofs.Offering.{offered_is, serves_offer, serves_part, served_completes, refused_completes, refused_ends, refused_front}
+use Rattle.dbg_app.proofs.Offering.{offered_is, no_files, shown_files, refused_files, served_grown, serves_offer, serves_part, served_completes, ends_late, refused_completes, refused_ends, refused_front}
 use Rattle.dbg_app.proofs.serving.serve.Goals as goal
 
 pub returns-in_default-clause-usage_front : goal.returns-in_default-clause-usage_front
@@ -26,6 +28,9 @@ pub returns-in-Ok-Accepted-clause-front : goal.returns-in-Ok-Accepted-clause-fro
 returns-in-Ok-Accepted-clause-front g c = λ late.
     offered_is (g.F.Files.told c.args.files.now) c.args.words.now (offer_as c.in-Some.offer) _ c.in-Some.ensures.offer
     (serves_part _ (g.F.Files.told c.args.files.now) (offer_as c.in-Some.offer) _ _ _ _ _ _ _ _ c.in-Ok-Accepted.service (rw c.in-Ok-Accepted.field-0-is at c.in-Ok-Accepted.ensures.shown) (rw c.in-Ok-Accepted.field-0-is at c.in-Ok-Accepted.ensures.judged) c.serve_links.result.status (c.serve_links.ensures.some late))
+
+pub returns-in-Ok-Accepted-clause-unserved : goal.returns-in-Ok-Accepted-clause-unserved
+returns-in-Ok-Accepted-clause-unserved g c = λ other early. absurd (ends_late c.serve_links.result.status c.serve_links.ensures.statuses other early)
 
 -- ---- what was refused
 
@@ -57,4 +62,39 @@ pub returns-in-Ok-Refused-clause-front : goal.returns-in-Ok-Refused-clause-front
 returns-in-Ok-Refused-clause-front g c = λ late.
     let r = c.refuse-in-Ok-Refused.ensures in
     offered_is (g.F.Files.told c.args.files.now) c.args.words.now (offer_as c.in-Some.offer) _ c.in-Some.ensures.offer
-    (refused_front (offer_as c.in-Some.offer) c.refuse-in-Ok-Refused.result.status _ _ ⊥ ⊥ (g.F.Files.told c.args.files.now) c.in-Ok-Refused.judged (rw c.in-Ok-Refused.field-0-is at c.in-Ok-Refused.ensures.judged) _ _ _ _ _ _ _ r.none (rw c.in-Ok-Refused.field-0-is at c.in-Ok-Refused.ensures.shown).text (r.front late))
+    (refused_front (offer_as c.in-Some.offer) c.refuse-in-Ok-Refused.result.status _ _ ⊥ ⊥ (g.F.Files.told c.args.files.now) c.in-Ok-Refused.judged (rw c.in-Ok-Refused.field-0-is at c.in-Ok-Refused.ensures.judged) _ _ _ _ _ _ _ (record { none = r.none; left = refl; faults = refl }) (rw c.in-Ok-Refused.field-0-is at c.in-Ok-Refused.ensures.shown).text (r.front late))
+
+-- ---- the files that were asked for
+
+pub returns-in_default-clause-files : goal.returns-in_default-clause-files
+returns-in_default-clause-files g c = no_files c.args.words.now c.refuse.result.status (g.F.Files.asked c.args.files.now) c.in_default.ensures.offer
+
+pub returns-in-Ok-Accepted-clause-files : goal.returns-in-Ok-Accepted-clause-files
+returns-in-Ok-Accepted-clause-files g c =
+    shown_files c.args.words.now (offer_as c.in-Some.offer) c.in-Some.offer.stimulus.now c.in-Some.ensures.offer c.in-Some.ensures.stimulus c.in-Some.ensures.requests c.serve_links.result.status _ _
+    (rw c.in-Ok-Accepted.field-0-is at c.in-Ok-Accepted.ensures.asked) c.serve_links.ensures.statuses
+
+pub returns-in-Ok-Refused-clause-files : goal.returns-in-Ok-Refused-clause-files
+returns-in-Ok-Refused-clause-files g c =
+    let r = c.refuse-in-Ok-Refused.ensures in
+    refused_files c.args.words.now (offer_as c.in-Some.offer) c.in-Some.offer.stimulus.now c.in-Some.ensures.offer c.in-Some.ensures.stimulus c.in-Some.ensures.requests c.in-Ok-Refused.judged c.refuse-in-Ok-Refused.result.status _ _
+    (rw c.in-Ok-Refused.field-0-is at c.in-Ok-Refused.ensures.asked) r.status
+
+-- ---- what stays in front
+
+pub returns-in_default-clause-kept : goal.returns-in_default-clause-kept
+returns-in_default-clause-kept g c =
+    let r = c.refuse.ensures in
+    ends_grown [] NoCommand c.refuse.result.status _ _ tt r.statuses r.done r.no_read r.front
+
+pub returns-in-Ok-Accepted-clause-kept : goal.returns-in-Ok-Accepted-clause-kept
+returns-in-Ok-Accepted-clause-kept g c =
+    served_grown _ _ _ _ _ _ _ _ _ _ c.in-Ok-Accepted.service c.serve_links.result.status (rw c.in-Ok-Accepted.field-0-is at c.in-Ok-Accepted.ensures.shown) c.serve_links.ensures.statuses c.serve_links.ensures.all c.serve_links.ensures.some
+
+pub returns-in-Ok-Refused-clause-kept : goal.returns-in-Ok-Refused-clause-kept
+returns-in-Ok-Refused-clause-kept g c =
+    let r = c.refuse-in-Ok-Refused.ensures in
+    ends_grown [] c.in-Ok-Refused.judged c.refuse-in-Ok-Refused.result.status _ _ (rw c.in-Ok-Refused.field-0-is at c.in-Ok-Refused.ensures.shown).text r.statuses r.done r.no_read r.front
+
+pub returns-in-Err-clause-kept : goal.returns-in-Err-clause-kept
+returns-in-Err-clause-kept g c = grows_not _ _ refl

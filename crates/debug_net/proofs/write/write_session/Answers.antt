@@ -51,3 +51,6 @@ returns-clause-front g c =
     on_err_weaker c.write_batch.result
     (λ h. front_taken (design_of c.args.design.now) c.args.order.now c.args.mode c.in_ok-net.field-0.net c.in_ok-net.field-0.table c.args.script.stim sound c.requires.order c.in_ok-net.ensures.ok kept c.requires.inputs
     _ (λ i. trace_world c.in_ok-net.field-0.table (run_samples (net i) (stim i))) _ c.args.script.requests.now _ _ h) c.write_batch.ensures.front
+
+pub returns-clause-compiled : goal.returns-clause-compiled
+returns-clause-compiled g c = on_ok_weaker c.write_batch.result (λ taken. (c.in_ok-net.field-0.net, c.in_ok-net.field-0.table, c.in_ok-net.ensures.ok)) c.write_batch.ensures.ok

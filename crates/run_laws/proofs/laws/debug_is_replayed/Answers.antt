@@ -1,8 +1,9 @@
-use Rattle.std.proofs.lemmas.Result.{on_ok_weaker}
-use Rattle.design_core.specs.DesignView.{design_of}
 use Rattle.run_laws.proofs.Replaying.{replayed}
+use Rattle.run_laws.proofs.Prints.{prints_replayed}
 use Rattle.run_laws.proofs.laws.debug_is_replayed.Goals as goal
 
-pub returns : goal.returns
-returns c =
-    on_ok_weaker c.debugged_is_replayed.result (replayed (design_of c.args.design.now) c.args.order.now c.args.mode c.args.stim.now c.requires.order c.rows.ensures.kept) c.debugged_is_replayed.ensures
+pub returns-clause-held : goal.returns-clause-held
+returns-clause-held c = replayed c.replays_are_debugged.ensures
+
+pub returns-clause-prints : goal.returns-clause-prints
+returns-clause-prints c = prints_replayed c.replays_are_debugged.ensures
