@@ -1,0 +1,4 @@
+pub mod Frames
+pub mod Framing
+pub mod Heads
+pub mod Laws
