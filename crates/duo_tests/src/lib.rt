@@ -6,6 +6,8 @@
 #[cfg(test)]
 mod connections;
 #[cfg(test)]
+mod ending;
+#[cfg(test)]
 mod late;
 #[cfg(test)]
 mod links;
