@@ -1,5 +1,5 @@
 -- Elaborated designs, without where they lie in memory. A name is the list of its bytes.
-use Rattle.std.specs.Prelude.{◌≡◌, ℕ, ℤ, pos, negsuc, int_le, Bool, true, ◌&&◌, List, [], ◌∷◌}
+use Rattle.std.specs.Prelude.{◌≡◌, ℕ, ℤ, pos, negsuc, int_le, Bool, true, ◌&&◌, List, [], ◌∷◌, Option}
 use Rattle.design_core.specs.declared.expr.UnOp.{UnOp}
 use Rattle.design_core.specs.declared.expr.Op.{Op}
 use Rattle.design_core.specs.declared.expr.Literal.{Literal}
@@ -31,12 +31,14 @@ pub data Expr : Type 0 where
   Zext : Expr → ℤ → Expr
   Slice : Expr → ℤ → ℤ → Expr
 
--- a statement, with its slot, its line and the generator variables at it: an assignment, a `let`, or an `if`
+-- a statement, with its slot, its line and the generator variables at it: an assignment, to a name or to the bits of it from one number
+-- down to another; a `let`; an `if`; or a `case`, whose arms have their literals and what they hold
 mutual
   pub data Stmt : Type 0 where
-    Assign : (slot line : ℕ) → Gens → Name → Expr → Stmt
+    Assign : (slot line : ℕ) → Gens → Name → Option (ℤ × ℤ) → Expr → Stmt
     Let : (slot line : ℕ) → Gens → Name → Expr → Stmt
     If : (slot line : ℕ) → Gens → Expr → Body → Else → Stmt
+    Case : (slot line : ℕ) → Gens → Expr → Arms → Else → Stmt
 
   pub data Body : Type 0 where
     Done : Body
@@ -46,10 +48,19 @@ mutual
     NoElse : Else
     Otherwise : Body → Else
 
+  pub data Arms : Type 0 where
+    NoArms : Arms
+    ThenArm : List Literal → Body → Arms → Arms
+
 -- statements of a list
 abbrev pub body : List Stmt → Body
 body [] = Done
 body (s ∷ rest) = Then s (body rest)
+
+-- arms of a list
+abbrev pub arms_from : List (List Literal × Body) → Arms
+arms_from [] = NoArms
+arms_from (arm ∷ rest) = ThenArm arm.0 arm.1 (arms_from rest)
 
 pub record Conn : Type 0 where
   pub line : ℕ

@@ -1,10 +1,10 @@
 -- How much a variant holds, and how much all instances of a design hold.
 use Rattle.std.specs.Prelude.{ℕ, ◌+◌, ◌*◌, List, [], ◌∷◌, length, option_map, unwrap_or, slice_get}
 use Rattle.design_core.specs.declared.design.Instance.{Instance}
-use Rattle.design_core.specs.Design.{Expr, Read, Out, Value, Unary, Binary, Mux, Zext, Slice, Stmt, Assign, Let, If, Body, Done, Then, Else, NoElse, Otherwise, Conn, Child, Block, Variant}
+use Rattle.design_core.specs.Design.{Expr, Read, Out, Value, Unary, Binary, Mux, Zext, Slice, Stmt, Assign, Let, If, Case, Body, Done, Then, Else, NoElse, Otherwise, Arms, NoArms, ThenArm, Conn, Child, Block, Variant}
 use Rattle.design_core.specs.Slots.{size, blocks_size, scope}
 
--- ---- the parts of expressions: operators, names and literals
+-- ---- the parts of expressions: operators, names and literals, those of arms too
 
 abbrev pub expr_parts : Expr → ℕ
 expr_parts (Read x) = 1
@@ -18,9 +18,10 @@ expr_parts (Slice e h l) = 1 + expr_parts e
 
 abbrev mutual
   pub stmt_parts : Stmt → ℕ
-  stmt_parts (Assign slot line gens x e) = expr_parts e
+  stmt_parts (Assign slot line gens x part e) = expr_parts e
   stmt_parts (Let slot line gens x e) = expr_parts e
   stmt_parts (If slot line gens c first second) = expr_parts c + body_parts first + else_parts second
+  stmt_parts (Case slot line gens v arms other) = expr_parts v + arms_parts arms + else_parts other
 
   pub body_parts : Body → ℕ
   body_parts Done = 0
@@ -29,6 +30,10 @@ abbrev mutual
   pub else_parts : Else → ℕ
   else_parts NoElse = 0
   else_parts (Otherwise body) = body_parts body
+
+  pub arms_parts : Arms → ℕ
+  arms_parts NoArms = 0
+  arms_parts (ThenArm tests body rest) = length tests + body_parts body + arms_parts rest
 
 abbrev pub blocks_parts : List Block → ℕ
 blocks_parts [] = 0

@@ -23,7 +23,7 @@ pub use number::in_32_bits;
 pub use parts::{blocks_of, children_of, signals_of};
 pub use ports::Ports;
 pub use preorder::statements;
-pub use statement::Stmt;
+pub use statement::{Arm, Stmt};
 pub use top::ports_of;
 pub use variant::{Block, Child, Conn, Kind, Signal, Variant};
 pub use widths::{bits, constant};

@@ -1,10 +1,10 @@
 //! The statements of a body one after another: a statement stands before those inside it.
 
 ghost use Rattle.std.specs.Prelude.{◌≡◌, ◌++◌, IfOk, OnOk};
-ghost use Rattle.design_core.specs.View.{body_of, else_of, stmt_of};
-ghost use Rattle.design_core.specs.Statements.{else_statements, inside, statements as the_statements, stmts_at};
+ghost use Rattle.design_core.specs.View.{arms_of, body_of, else_of, stmt_of};
+ghost use Rattle.design_core.specs.Statements.{arms_statements, else_statements, inside, statements as the_statements, stmts_at};
 
-use crate::Stmt;
+use crate::{Arm, Stmt};
 use std::alloc::Global;
 use text_core::NoMemory;
 
@@ -35,10 +35,27 @@ fn put_inside<'a>(found: &mut Vec<&'a Stmt>, stmt: &'a Stmt) -> Result<(), NoMem
             put_else(found, no)?;
             Ok(())
         }
+        Stmt::Case { arms, other, .. } => {
+            put_arms(found, arms)?;
+            put_else(found, other)?;
+            Ok(())
+        }
     }
 }
 
-/// The same of what an `else` holds, if one stands there.
+/// The same of the arms of a `case`, one after another.
+#[cycle(putting)]
+#[tactic(auto, using(crate::proofs::InOrder::arms_next))]
+fn put_arms<'a>(found: &mut Vec<&'a Stmt>, arms: &'a [Arm]) -> Result<(), NoMemory>
+    ensures { OnOk result (stmts_at found.new.items ≡ stmts_at found.old.items ++ arms_statements (arms_of arms.now)) }
+{
+    for arm in arms {
+        put(found, &arm.body)?;
+    }
+    Ok(())
+}
+
+/// The same of what an `else` or a default holds, if one stands there.
 #[cycle(putting)]
 fn put_else<'a>(found: &mut Vec<&'a Stmt>, no: &'a Option<Vec<Stmt>>) -> Result<(), NoMemory>
     ensures { OnOk result (stmts_at found.new.items ≡ stmts_at found.old.items ++ else_statements (else_of no.now)) }

@@ -5,20 +5,23 @@ ghost use Rattle.std.specs.Prelude.{◌≡◌};
 ghost use Rattle.design_core.specs.Heads.{head_of, let_name, name_at, stmt_value, target_name};
 ghost use Rattle.design_core.specs.View.{expr_of, stmt_of};
 
-use crate::Expr;
+use crate::{Expr, Literal};
 use gen_scope::Scope;
 use text_core::Text;
 
 /// A statement of an elaborated block: its slot, its line, and the generator variables at it with their numbers, which it
 /// shares with the other statements of its loop or its instance.
 #[derive(Drop)]
+#[cycle(statements)]
 pub enum Stmt {
-    /// What a wire or an output is from here on, in a `comb`; or what a register holds in the next cycle, in an `ff`.
+    /// What a wire or an output is from here on, in a `comb`; or what a register holds in the next cycle, in an `ff`. With a part
+    /// these are its bits alone, from the first number down to the second; both are from -2^62 to 2^62.
     Assign {
         slot: u32,
         line: u32,
         gens: Scope,
         target: Text,
+        part: Option<(i64, i64)>,
         value: Expr,
     },
     /// A name of the block alone.
@@ -38,6 +41,23 @@ pub enum Stmt {
         yes: Vec<Stmt>,
         no: Option<Vec<Stmt>>,
     },
+    /// The first arm that has a literal equal to the value, and otherwise the default; None: no default stands there.
+    Case {
+        slot: u32,
+        line: u32,
+        gens: Scope,
+        value: Expr,
+        arms: Vec<Arm>,
+        other: Option<Vec<Stmt>>,
+    },
+}
+
+/// An arm of a `case`: its literals, and the statements that run where the value is one of them. It has no slot.
+#[derive(Drop)]
+#[cycle(statements)]
+pub struct Arm {
+    pub tests: Vec<Literal>,
+    pub body: Vec<Stmt>,
 }
 
 impl Stmt {
@@ -50,6 +70,7 @@ impl Stmt {
             Stmt::Assign { slot, .. } => *slot,
             Stmt::Let { slot, .. } => *slot,
             Stmt::If { slot, .. } => *slot,
+            Stmt::Case { slot, .. } => *slot,
         }
     }
 
@@ -62,6 +83,7 @@ impl Stmt {
             Stmt::Assign { line, .. } => *line,
             Stmt::Let { line, .. } => *line,
             Stmt::If { line, .. } => *line,
+            Stmt::Case { line, .. } => *line,
         }
     }
 
@@ -74,6 +96,7 @@ impl Stmt {
             Stmt::Assign { gens, .. } => gens,
             Stmt::Let { gens, .. } => gens,
             Stmt::If { gens, .. } => gens,
+            Stmt::Case { gens, .. } => gens,
         }
     }
 
@@ -86,6 +109,7 @@ impl Stmt {
             Stmt::Assign { target, .. } => Some(target.bytes()),
             Stmt::Let { .. } => None,
             Stmt::If { .. } => None,
+            Stmt::Case { .. } => None,
         }
     }
 
@@ -98,10 +122,11 @@ impl Stmt {
             Stmt::Assign { .. } => None,
             Stmt::Let { name, .. } => Some(name.bytes()),
             Stmt::If { .. } => None,
+            Stmt::Case { .. } => None,
         }
     }
 
-    /// Its expression: what is assigned, what a `let` names, or the condition of an `if`.
+    /// Its expression: what is assigned, what a `let` names, the condition of an `if`, or the value of a `case`.
     #[tactic(auto, using(crate::proofs::Views::design_views))]
     pub fn value(&self) -> &Expr
         ensures { expr_of result.now ≡ stmt_value (stmt_of self.now) }
@@ -110,6 +135,7 @@ impl Stmt {
             Stmt::Assign { value, .. } => value,
             Stmt::Let { value, .. } => value,
             Stmt::If { test, .. } => test,
+            Stmt::Case { value, .. } => value,
         }
     }
 }

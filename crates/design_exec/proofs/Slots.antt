@@ -1,19 +1,20 @@
 -- The slots of a design whose variants have numbers one after another.
-use Rattle.std.proofs.Common.{◌≡◌, ℕ, zero, suc, ◌+◌, ◌<◌, ◌==◌, Bool, true, false, cond, List, [], ◌∷◌, ◌++◌, map, option_map, unwrap_or, refl, sym, ap, ap₂, ◌∙◌, subst, arith, ne_eqb, eqb-true}
+use Rattle.std.proofs.Common.{◌≡◌, ℕ, zero, suc, ◌+◌, ◌<◌, ◌==◌, Bool, true, false, cond, List, [], ◌∷◌, ◌++◌, map, option_map, unwrap_or, refl, sym, ap, ap₂, ◌∙◌, subst, arith, ne_eqb, eqb-true, append_assoc}
 use Rattle.std.specs.Prelude.{filter, slice_get}
 use Rattle.std.specs.List.{enumerate_from, flat_map}
 use Rattle.std.proofs.lemmas.List.{map-append, append-nil}
 use Rattle.std.proofs.lemmas.List.Elements.{filter-append}
 use Rattle.exec_core.specs.Block.{slots, body_slots}
+use Rattle.exec_core.specs.Cases.{arms_body}
 use Rattle.list_core.specs.Lists.{EachOf, AreApart}
 use Rattle.list_core.proofs.Listing.{from_apart}
 use Rattle.exec_core.specs.Design.{Process}
 use Rattle.exec_core.specs.Run.{slots_in}
 use Rattle.design_core.specs.declared.variant.Signal.{Signal}
 use Rattle.design_core.specs.declared.design.Instance as design_instance
-use Rattle.design_core.specs.Design.{Stmt, Assign, Let, If, Body, Done, Then, Else, NoElse, Otherwise, Block, Variant, Design}
-use Rattle.design_core.specs.Slots.{Head, heads, stmt_heads, else_heads, slots_of, AreNumbered}
-use Rattle.design_exec.specs.Processes.{processes_of, stmt_of, body_of, else_of, process, processes_at, blocks_in, signals_in}
+use Rattle.design_core.specs.Design.{Expr, Stmt, Assign, Let, If, Case, Body, Done, Then, Else, NoElse, Otherwise, Arms, NoArms, ThenArm, Block, Variant, Design}
+use Rattle.design_core.specs.Slots.{Head, heads, stmt_heads, else_heads, arms_heads, slots_of, AreNumbered}
+use Rattle.design_exec.specs.Processes.{processes_of, tree_of, stmt_of, body_of, else_of, arms_of, process, processes_at, blocks_in, signals_in}
 
 -- ---- the statements in a process
 
@@ -23,20 +24,34 @@ slots-append hs gs = map-append (λ (h : Head). h.slot) hs gs
 abbrev pub block_heads : Block → List Head
 block_heads b = heads b.body
 
+-- those of a block are those of its statements in preorder
 mutual
-  body_has : (c : Bool) (b : Body) → body_slots (body_of c b) ≡ slots_of (heads b)
+  pub body_has : (c : Bool) (b : Body) → body_slots (body_of c b) ≡ slots_of (heads b)
   body_has c Done = refl
   body_has c (Then s rest) = ap₂ (λ (p q : List ℕ). p ++ q) (stmt_has c s) (body_has c rest) ∙ sym (slots-append (stmt_heads s) (heads rest))
 
   stmt_has : (c : Bool) (s : Stmt) → slots (stmt_of c s) ≡ slots_of (stmt_heads s)
-  stmt_has c (Assign slot line gens x e) = refl
+  stmt_has c (Assign slot line gens x part e) = refl
   stmt_has c (Let slot line gens x e) = refl
   stmt_has c (If slot line gens t first second) =
       ap (λ l. slot ∷ l) (ap₂ (λ (p q : List ℕ). p ++ q) (body_has c first) (else_has c second) ∙ sym (slots-append (heads first) (else_heads second)))
+  stmt_has c (Case slot line gens v NoArms other) = ap (λ l. slot ∷ l) (else_has c other)
+  stmt_has c (Case slot line gens v (ThenArm tests body rest) other) =
+      ap (λ l. slot ∷ l)
+      (ap₂ (λ (p q : List ℕ). p ++ q) (body_has c body) (arms_have c v rest other (else_has c other)) ∙ sym (slots-append (heads body) (arms_heads rest ++ else_heads other))
+      ∙ ap slots_of (sym (append_assoc (heads body) (arms_heads rest) (else_heads other))))
 
   else_has : (c : Bool) (b : Else) → body_slots (else_of c b) ≡ slots_of (else_heads b)
   else_has c NoElse = refl
   else_has c (Otherwise body) = body_has c body
+
+  -- those of arms, each in the else-branch of the one before it, and of the default
+  arms_have : (c : Bool) (v : Expr) (arms : Arms) (other : Else) → body_slots (else_of c other) ≡ slots_of (else_heads other)
+      → body_slots (arms_body (tree_of v) (arms_of c arms) (else_of c other)) ≡ slots_of (arms_heads arms ++ else_heads other)
+  arms_have c v NoArms other last = last
+  arms_have c v (ThenArm tests body rest) other last =
+      append-nil _ ∙ ap₂ (λ (p q : List ℕ). p ++ q) (body_has c body) (arms_have c v rest other last) ∙ sym (slots-append (heads body) (arms_heads rest ++ else_heads other))
+      ∙ ap slots_of (sym (append_assoc (heads body) (arms_heads rest) (else_heads other)))
 
 abbrev process_slots : Process → List ℕ
 process_slots b = body_slots b.body

@@ -1,5 +1,5 @@
 -- An elaborated design as processes, links and what is given, whose execution is defined.
-use Rattle.std.specs.Prelude.{ℕ, ◌==◌, Bool, false, bytes_eq, List, [], ◌∷◌, ◌++◌, map, Option, Some, None, option_map, unwrap_or, slice_get, find, if◌then◌else◌, codes}
+use Rattle.std.specs.Prelude.{ℕ, ℤ, ◌==◌, Bool, false, bytes_eq, List, [], ◌∷◌, ◌++◌, map, Option, Some, None, option_map, unwrap_or, slice_get, find, if◌then◌else◌, codes}
 use Rattle.std.specs.List.{enumerate_from, flat_map, list_any}
 use Rattle.bv_core.specs.Value.{Bits}
 use Rattle.bv_core.specs.declared.operators.Op1.{Op1}
@@ -9,7 +9,8 @@ use Rattle.bv_core.specs.declared.operators.Op2.TheVariants as op2
 use Rattle.tree_core.specs.Tree.{Tree, Const, Leaf, One, Two, Mux, Origin, Input, Register}
 use Rattle.tree_core.specs.Width.{width_of}
 use Rattle.exec_core.specs.Block as blocks
-use Rattle.exec_core.specs.Block.{Name, Key, Now, Next}
+use Rattle.exec_core.specs.Block.{Name, Key, Now, Next, Part}
+use Rattle.exec_core.specs.Cases.{Arm, case_of}
 use Rattle.exec_core.specs.Whole.{Place}
 use Rattle.exec_core.specs.Design as processes
 use Rattle.exec_core.specs.Design.{Process, place, moved}
@@ -69,11 +70,17 @@ tree_of (design.Slice e h l) = One (op1.Slice (bits h) (bits l)) (tree_of e)
 abbrev pub target : Bool → Name → Key
 target clocked x = if clocked then Next x else Now x
 
+-- the bits that an assignment sets
+abbrev pub part_of : Option (ℤ × ℤ) → Option Part
+part_of None = None
+part_of (Some bounds) = Some (record { high = bits bounds.0; low = bits bounds.1 })
+
 abbrev mutual
   pub stmt_of : Bool → design.Stmt → blocks.Stmt
-  stmt_of clocked (design.Assign slot line gens x e) = blocks.Assign slot (target clocked x) None (tree_of e)
+  stmt_of clocked (design.Assign slot line gens x part e) = blocks.Assign slot (target clocked x) (part_of part) (tree_of e)
   stmt_of clocked (design.Let slot line gens x e) = blocks.Assign slot (Now x) None (tree_of e)
   stmt_of clocked (design.If slot line gens c first second) = blocks.If (Some slot) (tree_of c) (body_of clocked first) (else_of clocked second)
+  stmt_of clocked (design.Case slot line gens v arms other) = case_of slot (tree_of v) (arms_of clocked arms) (else_of clocked other)
 
   pub body_of : Bool → design.Body → blocks.Body
   body_of clocked design.Done = blocks.Done
@@ -82,6 +89,10 @@ abbrev mutual
   pub else_of : Bool → design.Else → blocks.Body
   else_of clocked design.NoElse = blocks.Done
   else_of clocked (design.Otherwise body) = body_of clocked body
+
+  pub arms_of : Bool → design.Arms → List Arm
+  arms_of clocked design.NoArms = []
+  arms_of clocked (design.ThenArm tests body rest) = record { tests = map value_of tests; body = body_of clocked body } ∷ arms_of clocked rest
 
 -- ---- widths
 
@@ -98,9 +109,10 @@ signal_width signals x = unwrap_or (option_map (λ (s : Signal). bits s.width) (
 -- a let has the width of its expression, from its statement on
 abbrev mutual
   pub stmt_widths : design.Stmt → Widths → Widths
-  stmt_widths (design.Assign slot line gens x e) widths = widths
+  stmt_widths (design.Assign slot line gens x part e) widths = widths
   stmt_widths (design.Let slot line gens x e) widths = put x (width_of widths (tree_of e)) widths
   stmt_widths (design.If slot line gens c first second) widths = else_widths second (body_widths first widths)
+  stmt_widths (design.Case slot line gens v arms other) widths = else_widths other (arms_widths arms widths)
 
   pub body_widths : design.Body → Widths → Widths
   body_widths design.Done widths = widths
@@ -109,6 +121,10 @@ abbrev mutual
   pub else_widths : design.Else → Widths → Widths
   else_widths design.NoElse widths = widths
   else_widths (design.Otherwise body) widths = body_widths body widths
+
+  pub arms_widths : design.Arms → Widths → Widths
+  arms_widths design.NoArms widths = widths
+  arms_widths (design.ThenArm tests body rest) widths = arms_widths rest (body_widths body widths)
 
 -- ---- instances
 

@@ -40,7 +40,7 @@ child = record {
     clocked = false;
     body =
         body (Let 0 3 [] (codes "s") (Binary two.Add (reads (codes "a")) (number 1))
-        ∷ If 1 4 [] (Binary two.Eq (reads (codes "a")) (number 3)) (body (Assign 2 4 [] (codes "q") (reads (codes "s")) ∷ [])) (Otherwise (body (Assign 3 4 [] (codes "q") (number 0) ∷ [])))
+        ∷ If 1 4 [] (Binary two.Eq (reads (codes "a")) (number 3)) (body (Assign 2 4 [] (codes "q") None (reads (codes "s")) ∷ [])) (Otherwise (body (Assign 3 4 [] (codes "q") None (number 0) ∷ [])))
         ∷ []);
   } ∷ [];
 }
@@ -58,8 +58,8 @@ top = record {
       signal 7 (codes "x") Input ∷ signal 7 (codes "y") Output ∷ signal 7 (codes "r") (Reg (of_four 4 3)) ∷ signal 8 (codes "u.q") (ChildOut 0 (codes "q")) ∷ [];
   children = record { line = 8; name = codes "u"; variant = 1; conns = record { line = 8; port = codes "a"; value = reads (codes "r") } ∷ [] } ∷ [];
   blocks =
-      record { line = 9; clocked = false; body = body (Assign 4 9 [] (codes "y") (Out (codes "u") (codes "q")) ∷ []) }
-      ∷ record { line = 10; clocked = true; body = body (If 5 10 [] (Binary two.Lt (reads (codes "x")) (reads (codes "r"))) (body (Assign 6 10 [] (codes "r") (reads (codes "y")) ∷ [])) NoElse ∷ []) }
+      record { line = 9; clocked = false; body = body (Assign 4 9 [] (codes "y") None (Out (codes "u") (codes "q")) ∷ []) }
+      ∷ record { line = 10; clocked = true; body = body (If 5 10 [] (Binary two.Lt (reads (codes "x")) (reads (codes "r"))) (body (Assign 6 10 [] (codes "r") None (reads (codes "y")) ∷ [])) NoElse ∷ []) }
       ∷ [];
 }
 

@@ -2,14 +2,16 @@
 use Rattle.std.proofs.Common.{◌≡◌, ℕ, ◌+◌, ◌<◌, ◌≤◌, Bool, true, false, ◌||◌, bytes_eq, List, [], ◌∷◌, ◌++◌, length, drop, get_or, refl, sym, ap, ◌∙◌}
 use Rattle.std.specs.Borrow.{Bor}
 use Rattle.std.proofs.lemmas.List.Folds.{list_any-append}
-use Rattle.std.proofs.lemmas.List.{append-nil, drop_more, drop_all}
+use Rattle.std.proofs.lemmas.List.{append-nil, append_assoc, drop_more, drop_all}
 use Rattle.std.proofs.lemmas.Slice.Eq.{bytes_eq-Decides}
 use Rattle.std.proofs.Math.Bool.{or_assoc}
 use Rattle.design_core.specs.declared.statement.Stmt as code_stmt
-use Rattle.exec_core.specs.Block.{Name}
-use Rattle.design_core.specs.Design.{Stmt, Assign, Let, If, Body, Done, Then, Else, NoElse, Otherwise}
+use Rattle.exec_core.specs.Block.{Name, Now, assigns, body_assigns}
+use Rattle.exec_core.specs.Cases.{arms_body, case_of}
+use Rattle.design_exec.specs.Processes.{tree_of, arms_of, else_of}
+use Rattle.design_core.specs.Design.{Expr, Stmt, Assign, Let, If, Case, Body, Done, Then, Else, NoElse, Otherwise, Arms, NoArms, ThenArm}
 use Rattle.names.specs.Known.{Known, either, has}
-use Rattle.design_core.specs.Statements.{inside, statements, else_statements, stmt_at, stmts_at}
+use Rattle.design_core.specs.Statements.{inside, statements, else_statements, arms_statements, stmt_at, stmts_at}
 use Rattle.place_core.specs.Assigned.{adds_target, adds_targets, assigned_by, assigned_in, assigned_else}
 
 or_false : (a : Bool) → a ≡ (a || false)
@@ -32,28 +34,49 @@ adds_both : (clocked : Bool) (names : List Name) (a b : List Stmt) → adds_targ
 adds_both clocked names [] b = refl
 adds_both clocked names (s ∷ a) b = adds_both clocked (adds_target clocked names s) a b
 
-in_branches : (clocked : Bool) (names : List Name) (first : Body) (second : Else) (x : Name)
-    → has (adds_targets clocked names (statements first)) x ≡ (has names x || assigned_in clocked first x)
-    → has (adds_targets clocked (adds_targets clocked names (statements first)) (else_statements second)) x ≡ (has (adds_targets clocked names (statements first)) x || assigned_else clocked second x)
-    → has (adds_targets clocked names (statements first ++ else_statements second)) x ≡ (has names x || (assigned_in clocked first x || assigned_else clocked second x))
-in_branches clocked names first second x one two =
-    ap (λ (l : List Name). has l x) (adds_both clocked names (statements first) (else_statements second))
-    ∙ two
-    ∙ ap (λ (b : Bool). b || assigned_else clocked second x) one
-    ∙ or_assoc (has names x) (assigned_in clocked first x) (assigned_else clocked second x)
+-- statements, and others behind them
+in_both : (clocked : Bool) (names : List Name) (first second : List Stmt) (x : Name) (a b : Bool)
+    → has (adds_targets clocked names first) x ≡ (has names x || a)
+    → has (adds_targets clocked (adds_targets clocked names first) second) x ≡ (has (adds_targets clocked names first) x || b)
+    → has (adds_targets clocked names (first ++ second)) x ≡ (has names x || (a || b))
+in_both clocked names first second x a b one two =
+    ap (λ (l : List Name). has l x) (adds_both clocked names first second) ∙ two ∙ ap (λ (c : Bool). c || b) one ∙ or_assoc (has names x) a b
 
 mutual
   in_stmt : (clocked : Bool) (names : List Name) (s : Stmt) (x : Name) → has (adds_targets clocked (adds_target clocked names s) (inside s)) x ≡ (has names x || assigned_by clocked s x)
-  in_stmt true names (Assign slot line gens y e) x = ap (λ (l : List Name). has l x) (append-nil names) ∙ or_false (has names x)
-  in_stmt false names (Assign slot line gens y e) x = ap (λ (l : List Name). has l x) (append-nil (names ++ y ∷ [])) ∙ has_push names y x
+  in_stmt true names (Assign slot line gens y part e) x = ap (λ (l : List Name). has l x) (append-nil names) ∙ or_false (has names x)
+  in_stmt false names (Assign slot line gens y part e) x = ap (λ (l : List Name). has l x) (append-nil (names ++ y ∷ [])) ∙ has_push names y x
   in_stmt true names (Let slot line gens y e) x = has_push names y x
   in_stmt false names (Let slot line gens y e) x = ap (λ (l : List Name). has (l ++ y ∷ []) x) (append-nil names) ∙ has_push names y x
   in_stmt true names (If slot line gens c first second) x =
       ap (λ (l : List Name). has (adds_targets true l (statements first ++ else_statements second)) x) (append-nil names)
-      ∙ in_branches true names first second x (in_body true names first x) (in_else true (adds_targets true names (statements first)) second x)
+      ∙ in_both true names (statements first) (else_statements second) x _ _ (in_body true names first x) (in_else true (adds_targets true names (statements first)) second x)
   in_stmt false names (If slot line gens c first second) x =
       ap (λ (l : List Name). has (adds_targets false l (statements first ++ else_statements second)) x) (append-nil (names ++ []) ∙ append-nil names)
-      ∙ in_branches false names first second x (in_body false names first x) (in_else false (adds_targets false names (statements first)) second x)
+      ∙ in_both false names (statements first) (else_statements second) x _ _ (in_body false names first x) (in_else false (adds_targets false names (statements first)) second x)
+  in_stmt true names (Case slot line gens v arms other) x =
+      ap (λ (l : List Name). has (adds_targets true l (arms_statements arms ++ else_statements other)) x) (append-nil names) ∙ in_case true names slot v arms other x (λ ns. in_else true ns other x)
+  in_stmt false names (Case slot line gens v arms other) x =
+      ap (λ (l : List Name). has (adds_targets false l (arms_statements arms ++ else_statements other)) x) (append-nil (names ++ []) ∙ append-nil names)
+      ∙ in_case false names slot v arms other x (λ ns. in_else false ns other x)
+
+  -- what stands in the arms of a `case` and in its default, from what stands in the default
+  in_case : (clocked : Bool) (names : List Name) (slot : ℕ) (v : Expr) (arms : Arms) (other : Else) (x : Name)
+      → ((ns : List Name) → has (adds_targets clocked ns (else_statements other)) x ≡ (has ns x || assigned_else clocked other x))
+      → has (adds_targets clocked names (arms_statements arms ++ else_statements other)) x ≡ (has names x || assigns (case_of slot (tree_of v) (arms_of clocked arms) (else_of clocked other)) (Now x))
+  in_case clocked names slot v NoArms other x last = last names
+  in_case clocked names slot v (ThenArm tests body rest) other x last =
+      ap (λ (l : List Stmt). has (adds_targets clocked names l) x) (append_assoc (statements body) (arms_statements rest) (else_statements other))
+      ∙ in_both clocked names (statements body) (arms_statements rest ++ else_statements other) x _ _ (in_body clocked names body x) (in_arms clocked (adds_targets clocked names (statements body)) v rest other x last)
+
+  in_arms : (clocked : Bool) (names : List Name) (v : Expr) (arms : Arms) (other : Else) (x : Name)
+      → ((ns : List Name) → has (adds_targets clocked ns (else_statements other)) x ≡ (has ns x || assigned_else clocked other x))
+      → has (adds_targets clocked names (arms_statements arms ++ else_statements other)) x ≡ (has names x || body_assigns (arms_body (tree_of v) (arms_of clocked arms) (else_of clocked other)) (Now x))
+  in_arms clocked names v NoArms other x last = last names
+  in_arms clocked names v (ThenArm tests body rest) other x last =
+      ap (λ (l : List Stmt). has (adds_targets clocked names l) x) (append_assoc (statements body) (arms_statements rest) (else_statements other))
+      ∙ in_both clocked names (statements body) (arms_statements rest ++ else_statements other) x _ _ (in_body clocked names body x) (in_arms clocked (adds_targets clocked names (statements body)) v rest other x last)
+      ∙ ap (λ (c : Bool). has names x || c) (or_false _)
 
   pub in_body : (clocked : Bool) (names : List Name) (b : Body) (x : Name) → has (adds_targets clocked names (statements b)) x ≡ (has names x || assigned_in clocked b x)
   in_body clocked names Done x = or_false (has names x)

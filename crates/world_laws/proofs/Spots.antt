@@ -3,12 +3,11 @@ use Rattle.std.proofs.Common.{◌≡◌, ℕ, ◌==◌, Bool, true, false, true�
 use Rattle.std.specs.Prelude.{slice_get, filter, is_some, option_and_then}
 use Rattle.std.specs.List.{list_any}
 use Rattle.std.proofs.lemmas.Bool.{or_left, or_right}
-use Rattle.std.proofs.lemmas.List.{map-append}
 use Rattle.std.proofs.lemmas.Option.{same_Some}
 use Rattle.bv_core.specs.Value.{Bits}
 use Rattle.bv_core.specs.Operators.{flag_of}
 use Rattle.tree_core.specs.Tree.{Tree}
-use Rattle.exec_core.specs.Block.{Name, Key, Now, own, body_assigns, assigns, body_slots, slots}
+use Rattle.exec_core.specs.Block.{Name, Key, Now, own, body_assigns, assigns, body_slots}
 use Rattle.exec_core.specs.Exec.{Env}
 use Rattle.list_core.specs.Lists.{IsIn, IsNotIn}
 use Rattle.exec_core.specs.Trees.{Row, row_at}
@@ -22,9 +21,12 @@ use Rattle.design_core.specs.declared.design.Instance.{Instance}
 use Rattle.design_core.specs.declared.variant.Signal.{Signal}
 use Rattle.design_core.specs.Design as design
 use Rattle.design_core.specs.Design.{Variant, Block, Design}
-use Rattle.design_core.specs.Slots.{Head, heads, stmt_heads, else_heads, slots_of, lets_of, let_of, else_lets, scope}
+use Rattle.design_core.specs.Slots.{heads, slots_of, lets_of, let_of, else_lets, arms_lets, scope}
 use Rattle.design_core.specs.WellFormed.{IsDesign}
-use Rattle.design_exec.specs.Processes.{instances_of, process, processes_at, processes_of, body_of, stmt_of, else_of, signals_in, blocks_in, is_signal_of}
+use Rattle.design_exec.specs.Processes.{instances_of, process, processes_at, processes_of, tree_of, value_of, body_of, stmt_of, else_of, arms_of, signals_in, blocks_in, is_signal_of}
+use Rattle.exec_core.specs.Cases.{arms_body}
+use Rattle.design_exec.proofs.Slots.{body_has}
+use Rattle.check_exec.proofs.Arms.{case_assigns, arm_assigns}
 use Rattle.check_exec.proofs.Facts.{in_any, name_same}
 use Rattle.check_exec.proofs.Instances.{Stands, clean, signals_are}
 use Rattle.check_exec.proofs.Checks.{widths_are}
@@ -37,13 +39,32 @@ use Rattle.world_laws.proofs.SitesOf.{SiteIs, SiteOf, site_of, ordered, at_numbe
 
 mutual
   let_set : (c : Bool) (x : Name) (s : design.Stmt) → IsIn x (let_of s) → assigns (stmt_of c s) (Now x) ≡ true
-  let_set c x (design.Assign slot line gens y e) i = absurd i
+  let_set c x (design.Assign slot line gens y part e) i = absurd i
   let_set c x (design.Let slot line gens y e) (inl same) = name_same y x (sym same)
   let_set c x (design.Let slot line gens y e) (inr i) = absurd i
   let_set c x (design.If slot line gens t first second) i = elim (in_cases x (lets_of first) (else_lets second) i) [
     | inl h ↦ or_left (body_assigns (body_of c first) (Now x)) (body_assigns (else_of c second) (Now x)) (lets_set c x first h)
     | inr h ↦ or_right (body_assigns (body_of c first) (Now x)) (body_assigns (else_of c second) (Now x)) (else_set c x second h)
   ]
+  let_set c x (design.Case slot line gens v arms other) i =
+      case_assigns slot (tree_of v) (arms_of c arms) (else_of c other) (Now x)
+      ∙ elim (in_cases x (arms_lets arms) (else_lets other) i) [ inl h ↦ arm_set c x v arms other h | inr h ↦ last_set c x v arms other (else_set c x other h) ]
+
+  -- in an arm, and in the default
+  arm_set : (c : Bool) (x : Name) (v : design.Expr) (arms : design.Arms) (other : design.Else) → IsIn x (arms_lets arms) → body_assigns (arms_body (tree_of v) (arms_of c arms) (else_of c other)) (Now x) ≡ true
+  arm_set c x v design.NoArms other i = absurd i
+  arm_set c x v (design.ThenArm tests body rest) other i =
+      arm_assigns (tree_of v) (record { tests = map value_of tests; body = body_of c body }) (arms_of c rest) (else_of c other) (Now x)
+      ∙ elim (in_cases x (lets_of body) (arms_lets rest) i) [
+        | inl h ↦ or_left (body_assigns (body_of c body) (Now x)) (body_assigns (arms_body (tree_of v) (arms_of c rest) (else_of c other)) (Now x)) (lets_set c x body h)
+        | inr h ↦ or_right (body_assigns (body_of c body) (Now x)) (body_assigns (arms_body (tree_of v) (arms_of c rest) (else_of c other)) (Now x)) (arm_set c x v rest other h)
+      ]
+
+  last_set : (c : Bool) (x : Name) (v : design.Expr) (arms : design.Arms) (other : design.Else) → body_assigns (else_of c other) (Now x) ≡ true → body_assigns (arms_body (tree_of v) (arms_of c arms) (else_of c other)) (Now x) ≡ true
+  last_set c x v design.NoArms other h = h
+  last_set c x v (design.ThenArm tests body rest) other h =
+      arm_assigns (tree_of v) (record { tests = map value_of tests; body = body_of c body }) (arms_of c rest) (else_of c other) (Now x)
+      ∙ or_right (body_assigns (body_of c body) (Now x)) (body_assigns (arms_body (tree_of v) (arms_of c rest) (else_of c other)) (Now x)) (last_set c x v rest other h)
 
   lets_set : (c : Bool) (x : Name) (b : design.Body) → IsIn x (lets_of b) → body_assigns (body_of c b) (Now x) ≡ true
   lets_set c x design.Done i = absurd i
@@ -76,24 +97,6 @@ process_in d i r v stands b among =
     (map_in (process i v.signals) v.blocks b among))
 
 -- ---- an instance of another variant does not have the slot
-
-slots-append : (hs gs : List Head) → slots_of (hs ++ gs) ≡ slots_of hs ++ slots_of gs
-slots-append hs gs = map-append (λ (h : Head). h.slot) hs gs
-
-mutual
-  body_has : (c : Bool) (b : design.Body) → body_slots (body_of c b) ≡ slots_of (heads b)
-  body_has c design.Done = refl
-  body_has c (design.Then s rest) = ap₂ (λ (p q : List ℕ). p ++ q) (stmt_has c s) (body_has c rest) ∙ sym (slots-append (stmt_heads s) (heads rest))
-
-  stmt_has : (c : Bool) (s : design.Stmt) → slots (stmt_of c s) ≡ slots_of (stmt_heads s)
-  stmt_has c (design.Assign slot line gens x e) = refl
-  stmt_has c (design.Let slot line gens x e) = refl
-  stmt_has c (design.If slot line gens t first second) =
-      ap (λ l. slot ∷ l) (ap₂ (λ (p q : List ℕ). p ++ q) (body_has c first) (else_has c second) ∙ sym (slots-append (heads first) (else_heads second)))
-
-  else_has : (c : Bool) (b : design.Else) → body_slots (else_of c b) ≡ slots_of (else_heads b)
-  else_has c design.NoElse = refl
-  else_has c (design.Otherwise body) = body_has c body
 
 block_variant : (d : Design) (n : ℕ) (b : Block) → IsIn b (blocks_in d n) → (v : Variant) × ((slice_get d.variants n ≡ Some v) × IsIn b v.blocks)
 block_variant d n b i = by_variant (slice_get d.variants n) refl i
