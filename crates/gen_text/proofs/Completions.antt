@@ -9,7 +9,7 @@ use Rattle.gen_token.specs.Words.{Word, Name, Number, Literal, Reserved, Sign, T
 use Rattle.gen_tree.specs.declared.Dialect.{Dialect}
 use Rattle.gen_tree.specs.Brackets.{Side, opens, closes, neither, side, room_by, room_after, room_left, Within}
 use Rattle.gen_tree.specs.Grammar.{assign_mark}
-use Rattle.gen_text.proofs.Machine.{Fixed, fixed_word, Symbol, need, need_name, an_int, an_int_op, a_cmp, an_index, a_literal, a_dot, an_op, a_prim, an_expr, a_slice, a_stmt, stmts_end, an_else, a_param, another_param, params_end, params, a_conn, conns_end, an_item, items_end, else_items, a_port, ports_end, a_module, may_end, settle, run, run_by, at_end, accepted, stopped}
+use Rattle.gen_text.proofs.Machine.{Fixed, fixed_word, Symbol, need, need_name, an_int, an_int_op, a_cmp, an_index, a_literal, a_dot, an_op, a_prim, an_expr, a_slice, a_stmt, stmts_end, an_else, another_test, tests_end, an_arm, arms_end, a_default, a_param, another_param, params_end, params, a_conn, conns_end, an_item, items_end, else_items, a_port, ports_end, a_module, may_end, settle, run, run_by, at_end, accepted, stopped}
 use Rattle.gen_text.proofs.WordsRead.{test, is_itself}
 use Rattle.gen_text.proofs.Moves.{shifted}
 
@@ -55,6 +55,11 @@ finish a_slice = bounds
 finish (a_stmt clocked) = a_name ∷ mk mark.Hash ∷ nought ∷ mk (assign_mark clocked) ∷ a_bit ∷ bounds ++ mk mark.Semicolon ∷ []
 finish (stmts_end clocked) = mk mark.RightBrace ∷ []
 finish (an_else clocked) = kw keyword.Else ∷ braces
+finish another_test = mk mark.Comma ∷ a_bit ∷ []
+finish tests_end = mk mark.Colon ∷ []
+finish (an_arm clocked) = a_bit ∷ mk mark.Colon ∷ braces
+finish (arms_end clocked) = mk mark.RightBrace ∷ []
+finish (a_default clocked) = kw keyword.Default ∷ braces
 finish a_param = a_name ∷ mk mark.Equals ∷ nought ∷ []
 finish another_param = mk mark.Comma ∷ a_name ∷ mk mark.Equals ∷ nought ∷ []
 finish params_end = mk mark.RightParen ∷ []
@@ -110,6 +115,11 @@ finishes items_end m room stack ts = record { room2 = suc (suc room); enough = o
 finishes ports_end m room stack ts = record { room2 = suc (suc room); enough = omega arith; runs = refl }
 finishes (stmts_end clocked) m room stack ts = record { room2 = suc (suc room); enough = omega arith; runs = refl }
 finishes (an_else clocked) m room stack ts = record { room2 = suc room; enough = omega arith; runs = refl }
+finishes another_test m room stack ts = record { room2 = suc room; enough = omega arith; runs = refl }
+finishes tests_end m room stack ts = record { room2 = suc room; enough = omega arith; runs = refl }
+finishes (an_arm clocked) m room stack ts = record { room2 = suc room; enough = omega arith; runs = refl }
+finishes (arms_end clocked) m room stack ts = record { room2 = suc (suc room); enough = omega arith; runs = refl }
+finishes (a_default clocked) m room stack ts = record { room2 = suc room; enough = omega arith; runs = refl }
 finishes (a_stmt true) m room stack ts = record { room2 = suc room; enough = omega arith; runs = refl }
 finishes (a_stmt false) m room stack ts = record { room2 = suc room; enough = omega arith; runs = refl }
 

@@ -1,6 +1,6 @@
 -- How many brackets are open at once in what a tree spells.
 use Rattle.std.specs.Prelude.{ℕ, suc, max, List, [], ◌∷◌, Option, Some, None}
-use Rattle.gen_tree.specs.Tree.{Int, num, var, bin, Lit, plain, bits, Expr, read, out, value, unary, binary, mux, zext, slice, Stmt, assign, bind, choose, repeat, given, Stmts, no_stmt, stmt, Else, no_else, otherwise, Param, Conn, Item, wire, reg, inst, comb, ff, repeat_items, given_items, Items, no_item, item, ElseItems, no_else_items, otherwise_items, Port, Module}
+use Rattle.gen_tree.specs.Tree.{Int, num, var, bin, Lit, plain, bits, Expr, read, out, value, unary, binary, mux, zext, slice, Stmt, assign, bind, choose, select, repeat, given, Stmts, no_stmt, stmt, Else, no_else, otherwise, Arms, no_arm, arm, Param, Conn, Item, wire, reg, inst, comb, ff, repeat_items, given_items, Items, no_item, item, ElseItems, no_else_items, otherwise_items, Port, Module}
 
 abbrev pub int_depth : Int → ℕ
 int_depth (num n) = 0
@@ -25,11 +25,20 @@ expr_depth (mux c a b) = suc (max (expr_depth c) (max (expr_depth a) (expr_depth
 expr_depth (zext e w) = suc (max (expr_depth e) (int_depth w))
 expr_depth (slice e h l) = max (expr_depth e) (suc (max (int_depth h) (int_depth l)))
 
+abbrev pub each_depth : {A : Type 0} → (A → ℕ) → List A → ℕ
+each_depth f [] = 0
+each_depth f (x ∷ xs) = max (f x) (each_depth f xs)
+
+abbrev pub part_depth : Option (Int × Int) → ℕ
+part_depth None = 0
+part_depth (Some p) = suc (max (int_depth p.0) (int_depth p.1))
+
 abbrev mutual
   pub stmt_depth : Stmt → ℕ
-  stmt_depth (assign line f e) = max (index_depth f.index) (expr_depth e)
+  stmt_depth (assign line f part e) = max (index_depth f.index) (max (part_depth part) (expr_depth e))
   stmt_depth (bind line f e) = max (index_depth f.index) (expr_depth e)
   stmt_depth (choose line c a b) = max (expr_depth c) (max (suc (stmts_depth a)) (else_depth b))
+  stmt_depth (select line v cases other) = max (expr_depth v) (suc (max (arms_depth cases) (else_depth other)))
   stmt_depth (repeat line x a b body) = max (int_depth a) (max (int_depth b) (suc (stmts_depth body)))
   stmt_depth (given line a c b first second) = max (suc (max (int_depth a) (int_depth b))) (max (suc (stmts_depth first)) (else_depth second))
 
@@ -41,9 +50,9 @@ abbrev mutual
   else_depth no_else = 0
   else_depth (otherwise b) = suc (stmts_depth b)
 
-abbrev pub each_depth : {A : Type 0} → (A → ℕ) → List A → ℕ
-each_depth f [] = 0
-each_depth f (x ∷ xs) = max (f x) (each_depth f xs)
+  pub arms_depth : Arms → ℕ
+  arms_depth no_arm = 0
+  arms_depth (arm tests body more) = max (max (each_depth lit_depth tests) (suc (stmts_depth body))) (arms_depth more)
 
 abbrev pub param_depth : Param → ℕ
 param_depth p = int_depth p.value

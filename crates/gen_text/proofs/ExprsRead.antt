@@ -8,10 +8,10 @@ use Rattle.gen_tree.specs.declared.Op.{Op}
 use Rattle.gen_tree.specs.declared.Dialect.{Dialect}
 use Rattle.gen_tree.specs.declared.Dialect.TheVariants as dialect
 use Rattle.gen_tree.specs.Brackets.{room_after}
-use Rattle.gen_tree.specs.Tree.{Fam, Expr, read, out, value, unary, binary, mux, zext, slice}
-use Rattle.gen_tree.specs.Grammar.{Sym, SpellsFam, SpellsLit, SpellsRead, SpellsPrim, SpellsExpr, op_mark, un_op_word}
+use Rattle.gen_tree.specs.Tree.{Int, Fam, Expr, read, out, value, unary, binary, mux, zext, slice}
+use Rattle.gen_tree.specs.Grammar.{Span, ◌⨾◌, Sym, SpellsInt, SpellsFam, SpellsLit, SpellsRead, SpellsPrim, SpellsExpr, op_mark, un_op_word}
 use Rattle.gen_text.specs.Forms.{is_mark, LitForm, a_plain, a_bits, no_lit, lit_form, op_form, PrimForm, a_name, a_lit, a_bracket, a_unary, a_cat, a_mux, a_zext, prim_form}
-use Rattle.gen_text.specs.Reading.{Read, some_at, bits_at, lit_by, lit_at, dot_at, read_of, read_at, op_at, bracket_at, unary_at, cat_at, zext_at, mux_at, prim_by, prim_step, bounds_at, slice_at, expr_step, expr_at}
+use Rattle.gen_text.specs.Reading.{Read, some_at, bits_at, lit_by, lit_at, dot_at, read_of, read_at, op_at, bracket_at, unary_at, cat_at, zext_at, mux_at, prim_by, prim_step, range_at, bounds_at, slice_at, expr_step, expr_at}
 use Rattle.gen_text.proofs.Machine.{sign, Symbol, need, an_int, an_expr, a_prim, an_op, a_slice, an_index, a_dot, a_literal, lead, prim_lead, settle, settle_by, at_end, run}
 use Rattle.gen_text.proofs.Moves.{Comes, Reads, after, then_read, then_word, then_seen, done, begins as takes_first, passes, passes_end, refuses, refuses_end}
 use Rattle.gen_text.proofs.WordsRead.{is_mark_is, test, word_reads, then_open, name_reads}
@@ -257,23 +257,33 @@ prim_expr m (mux c a b) ts rest h = h
 prim_expr m (zext e w) ts rest h = h
 prim_expr m (slice e i j) ts rest h = absurd h
 
--- from the first token of the expression on
-bounds_reads : (m : Dialect) (room : ℕ) (e : Expr) (from : List Tok) (t : Tok) (ts : List Tok) → SpellsPrim m e from (t ∷ ts)
-    → Reads m room (need (sign mark.LeftBracket) ∷ an_int ∷ need (sign mark.Colon) ∷ an_int ∷ need (sign mark.RightBracket) ∷ []) (t ∷ ts) room (λ x. SpellsExpr m x from) (bounds_at m room e (t ∷ ts))
-bounds_reads m room e from t ts h =
-    then_open mark.LeftBracket room (t ∷ ts) _ refl (λ room2 room-is t1 g1 l1.
+abbrev pub range_symbols : List Symbol
+range_symbols = need (sign mark.LeftBracket) ∷ an_int ∷ need (sign mark.Colon) ∷ an_int ∷ need (sign mark.RightBracket) ∷ []
+
+-- two bounds in brackets
+abbrev pub SpellsRange : Dialect → Int × Int → Span
+SpellsRange m b = Sym mark.LeftBracket ⨾ SpellsInt m b.0 ⨾ Sym mark.Colon ⨾ SpellsInt m b.1 ⨾ Sym mark.RightBracket
+
+pub range_reads : (m : Dialect) (room : ℕ) (ts : List Tok) → Reads m room range_symbols ts room (λ b. SpellsRange m b ts) (range_at m room ts)
+range_reads m room ts =
+    then_open mark.LeftBracket room ts _ refl (λ room2 room-is t1 g1 l1.
     then_read _ (inner_reads m room room2 t1 room-is) (λ i t2 gi li.
     then_word _ (word_reads (sign mark.Colon) room2 room2 t2 refl) (λ t3 g3 l3.
     then_read _ (inner_reads m room room2 t3 room-is) (λ j t4 gj lj.
     then_word _ (word_reads (sign mark.RightBracket) room2 room t4 (rw (← room-is) refl)) (λ rest gr lr.
-    done (t ∷ ts, h, (t1, g1, (t2, gi, (t3, g3, (t4, gj, gr))))))))))
+    done (t1, g1, (t2, gi, (t3, g3, (t4, gj, gr)))))))))
+
+-- from the first token of the expression on
+bounds_reads : (m : Dialect) (room : ℕ) (e : Expr) (from : List Tok) (t : Tok) (ts : List Tok) → SpellsPrim m e from (t ∷ ts)
+    → Reads m room range_symbols (t ∷ ts) room (λ x. SpellsExpr m x from) (bounds_at m room e (t ∷ ts))
+bounds_reads m room e from t ts h = then_seen _ (range_reads m room (t ∷ ts)) (λ b rest gb lb. (t ∷ ts, h, gb))
 
 settle_slice : (m : Dialect) (stack : List Symbol) (w : Word) → is_mark mark.LeftBracket w ≡ true
     → settle m (a_slice ∷ stack) w ≡ settle m (need (sign mark.LeftBracket) ∷ an_int ∷ need (sign mark.Colon) ∷ an_int ∷ need (sign mark.RightBracket) ∷ stack) w
 unfolding settle
 settle_slice m stack w e = rw e refl
 
-opens_slice : (m : Dialect) (room : ℕ) (t : Tok) (ts : List Tok) → is_mark mark.LeftBracket t.word ≡ true
+pub opens_slice : (m : Dialect) (room : ℕ) (t : Tok) (ts : List Tok) → is_mark mark.LeftBracket t.word ≡ true
     → Comes m room (a_slice ∷ []) (t ∷ ts) room (need (sign mark.LeftBracket) ∷ an_int ∷ need (sign mark.Colon) ∷ an_int ∷ need (sign mark.RightBracket) ∷ []) (t ∷ ts)
 unfolding run
 opens_slice m room t ts e = record { comes = λ stack. rw (settle_slice m stack t.word e) refl }

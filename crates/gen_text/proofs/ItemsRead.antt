@@ -238,7 +238,7 @@ block_reads clocked room t ts is =
 abbrev ItemsInside : ℕ → (List Tok → Read Items) → Type 0
 ItemsInside room inner = InsideBody items_end SpellsItems room inner
 
-else_of : ElseOf else_items items_end SpellsItems SpellsElseItems no_else_items otherwise_items
+else_of : ElseOf keyword.Else else_items items_end SpellsItems SpellsElseItems no_else_items otherwise_items
 else_of = record { steps = λ w. refl; ends_so = refl; nothing = λ ts. refl; something = λ b ts rest h. h }
 
 for_reads : (room : ℕ) (inner : List Tok → Read Items) (t : Tok) (ts : List Tok) → ItemsInside room inner → t.word ≡ Reserved keyword.For
@@ -253,7 +253,7 @@ gen_reads : (room : ℕ) (inner : List Tok → Read Items) (t : Tok) (ts : List 
 gen_reads room inner t ts h is =
     then_front given_symbols _ (given_reads room t ts is) (λ x t1 gx lx.
     then_front (body_symbols items_end) _ (body_reads items_end SpellsItems room inner t1 h) (λ a t2 ga la.
-    then_read _ (else_reads else_items items_end SpellsItems SpellsElseItems no_else_items otherwise_items room inner t2 else_of h) (λ b rest gb lb.
+    then_read _ (else_reads keyword.Else else_items items_end SpellsItems SpellsElseItems no_else_items otherwise_items room inner t2 else_of h) (λ b rest gb lb.
     done ((refl, (t1, gx, (t2, ga, gb))), omega arith))))
 
 item_by_reads : (f : ItemForm) (room : ℕ) (inner : List Tok → Read Items) (t : Tok) (ts : List Tok) → ItemsInside room inner → item_form t.word ≡ f → ItemIs f t.word

@@ -1,4 +1,5 @@
 pub mod Answers
+pub mod CasesRead
 pub mod Completions
 pub mod Depth
 pub mod ExprsRead
@@ -10,6 +11,7 @@ pub mod Loops
 pub mod Machine
 pub mod ModulesRead
 pub mod Moves
+pub mod OnlyCases
 pub mod OnlyExprs
 pub mod OnlyItems
 pub mod OnlyModules

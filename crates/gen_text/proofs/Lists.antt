@@ -1,6 +1,6 @@
 -- Lists: as long as a member begins, or up to a closing brace; bodies in braces, and behind `else`.
 use Rattle.std.proofs.Common.{◌≡◌, ◌≤◌, ◌<◌, ℕ, zero, suc, Bool, true, false, cond, List, [], ◌∷◌, ◌++◌, length, Option, Some, None, Ok, Err, refl, sym, ap, subst, ◌∙◌, arith, append-nil, append_assoc, inl, inr}
-use Rattle.gen_token.specs.declared.Keyword.TheVariants as keyword
+use Rattle.gen_token.specs.declared.Keyword.{Keyword}
 use Rattle.gen_token.specs.declared.Mark.TheVariants as mark
 use Rattle.gen_token.specs.Words.{Word, Reserved, Sign, Tok}
 use Rattle.gen_tree.specs.declared.Dialect.{Dialect}
@@ -58,10 +58,10 @@ each_only (x ∷ xs) (suc n) goes S one ts rest h e lt (t1, s, more) =
     rw (a.0, a.1, each_only xs n goes S one t1 rest h e (omega arith) more) refl
 
 -- a list, and then what stands behind it
-pub then_each : {A B : Type 0} {m : Dialect} {room : ℕ} {symbol symbol2 : Symbol} {more : List Symbol} {goes : List Tok → Bool} {S : A → Span} {ts : List Tok} {room3 : ℕ} {Q : B → List Tok → Type 0} {o : Read (List A)} (f : List A × List Tok → Read B)
-    → EachReads m room symbol goes S ts o → ((rest : List Tok) → goes rest ≡ false → Comes m room (symbol ∷ []) rest room (symbol2 ∷ []) rest)
-    → ((xs : List A) (rest : List Tok) → Each S xs ts rest → length rest ≤ length ts → Reads m room (symbol2 ∷ more) rest room3 Q (f (xs, rest))) → Reads m room (symbol ∷ more) ts room3 Q (o >>= f)
-then_each {more = more} {o = Ok p} f g c k = after g.reads.2 (record { comes = λ stack. g.reads.0.comes (more ++ stack) ∙ (c p.1 g.reads.3).comes (more ++ stack) }) (k p.0 p.1 g.reads.1 g.reads.2)
+pub then_each : {A B : Type 0} {m : Dialect} {room : ℕ} {symbol : Symbol} {next more : List Symbol} {goes : List Tok → Bool} {S : A → Span} {ts : List Tok} {room3 : ℕ} {Q : B → List Tok → Type 0} {o : Read (List A)} (f : List A × List Tok → Read B)
+    → EachReads m room symbol goes S ts o → ((rest : List Tok) → goes rest ≡ false → Comes m room (symbol ∷ []) rest room next rest)
+    → ((xs : List A) (rest : List Tok) → Each S xs ts rest → length rest ≤ length ts → Reads m room (next ++ more) rest room3 Q (f (xs, rest))) → Reads m room (symbol ∷ more) ts room3 Q (o >>= f)
+then_each {next = next} {more = more} {o = Ok p} f g c k = after g.reads.2 (record { comes = λ stack. rw append_assoc (g.reads.0.comes (more ++ stack) ∙ (c p.1 g.reads.3).comes (more ++ stack)) }) (k p.0 p.1 g.reads.1 g.reads.2)
 then_each {more = more} {o = Err left} f g c k = record { reads = record { stops = λ stack. g.reads.stops (more ++ stack) } }
 
 -- ---- up to a closing brace
@@ -133,19 +133,19 @@ body_reads {A = A} ends S room inner ts h =
     let whole : Reads dialect.Source room2 (ends ∷ []) t1 room (λ b. (S b ⨾ Sym mark.RightBrace) t1) (inner t1) = subst (λ (r : ℕ). Reads dialect.Source room2 (ends ∷ []) t1 r (λ b. (S b ⨾ Sym mark.RightBrace) t1) (inner t1)) (sym room-is) (reads2 t1) in
     maps (λ b rest gb. (t1, g1, gb)) whole)
 
--- what the symbol of an `else`, and what it spells, have to meet
-pub record ElseOf {A B : Type 0} (symbol ends : Symbol) (S : A → Span) (T : B → Span) (none : B) (some : A → B) : Type 0 where
-  pub steps : (w : Word) → step dialect.Source symbol w ≡ cond (is_keyword keyword.Else w) (shift (body_symbols ends)) skip
+-- what the symbol of an `else` or a `default`, and what it spells, have to meet
+pub record ElseOf {A B : Type 0} (k : Keyword) (symbol ends : Symbol) (S : A → Span) (T : B → Span) (none : B) (some : A → B) : Type 0 where
+  pub steps : (w : Word) → step dialect.Source symbol w ≡ cond (is_keyword k w) (shift (body_symbols ends)) skip
   pub ends_so : may_end symbol ≡ true
   pub nothing : (ts : List Tok) → T none ts ts
-  pub something : (b : A) (ts rest : List Tok) → (Key keyword.Else ⨾ Braces (S b)) ts rest → T (some b) ts rest
+  pub something : (b : A) (ts rest : List Tok) → (Key k ⨾ Braces (S b)) ts rest → T (some b) ts rest
 
-pub else_reads : {A B : Type 0} (symbol ends : Symbol) (S : A → Span) (T : B → Span) (none : B) (some : A → B) (room : ℕ) (inner : List Tok → Read A) (ts : List Tok) → ElseOf symbol ends S T none some → InsideBody ends S room inner
-    → Reads dialect.Source room (symbol ∷ []) ts room (λ b. T b ts) (else_by none some room inner ts)
-else_reads symbol ends S T none some room inner [] e h = passes_end e.ends_so (e.nothing [])
-else_reads symbol ends S T none some room inner (t ∷ ts) e h = elim (test (is_keyword keyword.Else t.word)) [
+pub else_reads : {A B : Type 0} (k : Keyword) (symbol ends : Symbol) (S : A → Span) (T : B → Span) (none : B) (some : A → B) (room : ℕ) (inner : List Tok → Read A) (ts : List Tok) → ElseOf k symbol ends S T none some → InsideBody ends S room inner
+    → Reads dialect.Source room (symbol ∷ []) ts room (λ b. T b ts) (else_by k none some room inner ts)
+else_reads k symbol ends S T none some room inner [] e h = passes_end e.ends_so (e.nothing [])
+else_reads k symbol ends S T none some room inner (t ∷ ts) e h = elim (test (is_keyword k t.word)) [
   | inl eq ↦
-      let is : t.word ≡ Reserved keyword.Else = is_keyword_is keyword.Else t.word eq in
+      let is : t.word ≡ Reserved k = is_keyword_is k t.word eq in
       rw eq (takes_first (e.steps t.word ∙ rw eq refl) (rw is refl) (
       then_seen _ (body_reads ends S room inner ts h) (λ b rest gb lb.
       e.something b (t ∷ ts) rest (ts, (is, refl), gb))))

@@ -9,7 +9,7 @@ use Rattle.gen_tree.specs.declared.Dialect.{Dialect}
 use Rattle.gen_tree.specs.declared.Dialect.TheVariants as dialect
 use Rattle.gen_tree.specs.Brackets.{room_after}
 use Rattle.gen_tree.specs.Grammar.{assign_mark}
-use Rattle.gen_text.specs.Forms.{is_mark, is_keyword, name_form, IntForm, a_number, a_variable, a_group, no_int, int_form, int_op_form, cmp_form, LitForm, a_plain, a_bits, no_lit, lit_form, op_form, PrimForm, a_name, a_lit, a_bracket, a_unary, a_cat, a_mux, a_zext, prim_form, StmtForm, an_assign, a_let, an_if, a_for, a_gen, no_stmt_form, stmt_form, ItemForm, a_wire, a_reg, an_inst, a_block, a_for_item, a_gen_item, no_item_form, item_form, port_form}
+use Rattle.gen_text.specs.Forms.{is_mark, is_keyword, name_form, IntForm, a_number, a_variable, a_group, no_int, int_form, int_op_form, cmp_form, LitForm, a_plain, a_bits, no_lit, lit_form, op_form, PrimForm, a_name, a_lit, a_bracket, a_unary, a_cat, a_mux, a_zext, prim_form, StmtForm, an_assign, a_let, an_if, a_case, a_for, a_gen, no_stmt_form, stmt_form, ItemForm, a_wire, a_reg, an_inst, a_block, a_for_item, a_gen_item, no_item_form, item_form, port_form}
 
 -- a word that stands at its place alone
 pub data Fixed : Type 0 where
@@ -40,6 +40,11 @@ pub data Symbol : Type 0 where
   a_stmt : Bool → Symbol
   stmts_end : Bool → Symbol
   an_else : Bool → Symbol
+  another_test : Symbol
+  tests_end : Symbol
+  an_arm : Bool → Symbol
+  arms_end : Bool → Symbol
+  a_default : Bool → Symbol
   a_param : Symbol
   another_param : Symbol
   params_end : Symbol
@@ -106,10 +111,19 @@ given_symbols = need (key keyword.If) ∷ need (sign mark.LeftParen) ∷ an_int 
 abbrev pub body_symbols : Symbol → List Symbol
 body_symbols ends = need (sign mark.LeftBrace) ∷ ends ∷ []
 
+-- behind the first literal of an arm
+abbrev pub arm_symbols : Bool → List Symbol
+arm_symbols clocked = tests_end ∷ body_symbols (stmts_end clocked)
+
+-- behind the brace of a `case`
+abbrev pub case_symbols : Bool → List Symbol
+case_symbols clocked = an_arm clocked ∷ arms_end clocked ∷ []
+
 abbrev pub stmt_lead : Bool → StmtForm → Option (List Symbol)
-stmt_lead clocked (an_assign x) = Some (an_index ∷ need (sign (assign_mark clocked)) ∷ an_expr ∷ need (sign mark.Semicolon) ∷ [])
+stmt_lead clocked (an_assign x) = Some (an_index ∷ a_slice ∷ need (sign (assign_mark clocked)) ∷ an_expr ∷ need (sign mark.Semicolon) ∷ [])
 stmt_lead clocked a_let = Some (need_name ∷ an_index ∷ need (sign mark.Equals) ∷ an_expr ∷ need (sign mark.Semicolon) ∷ [])
 stmt_lead clocked an_if = Some (an_expr ∷ need (sign mark.LeftBrace) ∷ stmts_end clocked ∷ an_else clocked ∷ [])
+stmt_lead clocked a_case = Some (an_expr ∷ need (sign mark.LeftBrace) ∷ case_symbols clocked)
 stmt_lead clocked a_for = Some (turn_symbols ++ body_symbols (stmts_end clocked))
 stmt_lead clocked a_gen = Some (given_symbols ++ body_symbols (stmts_end clocked) ++ an_else clocked ∷ [])
 stmt_lead clocked no_stmt_form = None
@@ -140,6 +154,12 @@ module_symbols = need_name ∷ params ∷ need (sign mark.LeftBrace) ∷ ports_e
 abbrev pub until_step : Word → Option (List Symbol) → Symbol → Move
 until_step w more ends = cond (is_mark mark.RightBrace w) (shift []) (lead more (ends ∷ []))
 
+-- behind the arms of a `case`
+abbrev pub last_step : Bool → Word → Move
+last_step clocked w =
+    cond (is_keyword keyword.Default w) (shift (need (sign mark.LeftBrace) ∷ stmts_end clocked ∷ need (sign mark.RightBrace) ∷ []))
+    (cond (is_mark mark.RightBrace w) (shift []) stuck)
+
 abbrev pub step : Dialect → Symbol → Word → Move
 step m (need f) w = cond (is_fixed f w) (shift []) stuck
 step m need_name w = lead (if_some [] (name_form w)) []
@@ -156,6 +176,11 @@ step m a_slice w = cond (is_mark mark.LeftBracket w) (shift (an_int ∷ need (si
 step m (a_stmt clocked) w = lead (stmt_lead clocked (stmt_form w)) []
 step m (stmts_end clocked) w = until_step w (stmt_lead clocked (stmt_form w)) (stmts_end clocked)
 step m (an_else clocked) w = cond (is_keyword keyword.Else w) (shift (need (sign mark.LeftBrace) ∷ stmts_end clocked ∷ [])) skip
+step m another_test w = cond (is_mark mark.Comma w) (shift (a_literal ∷ [])) stuck
+step m tests_end w = cond (is_mark mark.Comma w) (shift (a_literal ∷ tests_end ∷ [])) (cond (is_mark mark.Colon w) (shift []) stuck)
+step m (an_arm clocked) w = lead (lit_lead (lit_form m w)) (arm_symbols clocked)
+step m (arms_end clocked) w = lead_or (lit_lead (lit_form m w)) (arm_symbols clocked ++ arms_end clocked ∷ []) (last_step clocked w)
+step m (a_default clocked) w = cond (is_keyword keyword.Default w) (shift (need (sign mark.LeftBrace) ∷ stmts_end clocked ∷ [])) skip
 step m a_param w = lead (if_some param_symbols (name_form w)) []
 step m another_param w = cond (is_mark mark.Comma w) (shift (a_param ∷ [])) stuck
 step m params_end w = cond (is_mark mark.Comma w) (shift (a_param ∷ params_end ∷ [])) (cond (is_mark mark.RightParen w) (shift []) stuck)
@@ -175,6 +200,7 @@ may_end an_index = true
 may_end a_dot = true
 may_end a_slice = true
 may_end (an_else clocked) = true
+may_end (a_default clocked) = true
 may_end params = true
 may_end else_items = true
 may_end _ = false

@@ -100,6 +100,12 @@ lit_form m (Reserved keyword.Bits) = in_source m a_bits no_lit
 lit_form m (Reserved _) = no_lit
 lit_form m (Sign _) = no_lit
 
+-- whether a literal begins so
+abbrev pub is_lit : LitForm → Bool
+is_lit (a_plain w v) = true
+is_lit a_bits = true
+is_lit no_lit = false
+
 abbrev pub op_form : Word → Option Op
 op_form (Name x) = None
 op_form (Number n) = None
@@ -149,6 +155,7 @@ pub data StmtForm : Type 0 where
   an_assign : List ℕ → StmtForm
   a_let : StmtForm
   an_if : StmtForm
+  a_case : StmtForm
   a_for : StmtForm
   a_gen : StmtForm
   no_stmt_form : StmtForm
@@ -159,6 +166,7 @@ stmt_form (Number n) = no_stmt_form
 stmt_form (Literal w v) = no_stmt_form
 stmt_form (Reserved keyword.Let) = a_let
 stmt_form (Reserved keyword.If) = an_if
+stmt_form (Reserved keyword.Case) = a_case
 stmt_form (Reserved keyword.For) = a_for
 stmt_form (Reserved keyword.Gen) = a_gen
 stmt_form (Reserved _) = no_stmt_form

@@ -43,7 +43,7 @@ sample_module = record {
   name = 88 ∷ [];
   params = [];
   ports = record { line = 1; output = true; name = 121 ∷ []; width = num 1 } ∷ [];
-  items = item (comb 2 (stmt (choose 2 (read (plainly (97 ∷ []))) (stmt (assign 2 (plainly (121 ∷ [])) (binary op.And (read (plainly (97 ∷ []))) (value (plain 1 1)))) no_stmt) no_else) no_stmt)) no_item;
+  items = item (comb 2 (stmt (choose 2 (read (plainly (97 ∷ []))) (stmt (assign 2 (plainly (121 ∷ [])) None (binary op.And (read (plainly (97 ∷ []))) (value (plain 1 1)))) no_stmt) no_else) no_stmt)) no_item;
 }
 
 -- the sample is spelled by its tree

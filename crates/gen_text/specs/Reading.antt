@@ -14,8 +14,8 @@ use Rattle.gen_tree.specs.declared.Op.TheVariants as op
 use Rattle.gen_tree.specs.declared.Dialect.{Dialect}
 use Rattle.gen_tree.specs.declared.Dialect.TheVariants as dialect
 use Rattle.gen_tree.specs.Grammar.{assign_mark}
-use Rattle.gen_tree.specs.Tree.{Int, num, var, bin, Fam, Lit, plain, bits, Expr, read, out, value, unary, binary, mux, zext, slice, Stmt, assign, bind, choose, repeat, given, Stmts, stmts, Else, no_else, otherwise, Param, Conn, Item, wire, reg, inst, comb, ff, repeat_items, given_items, Items, items, ElseItems, no_else_items, otherwise_items, Port, Module}
-use Rattle.gen_text.specs.Forms.{is_mark, is_keyword, name_form, IntForm, a_number, a_variable, a_group, no_int, int_form, int_op_form, cmp_form, LitForm, a_plain, a_bits, no_lit, lit_form, op_form, PrimForm, a_name, a_lit, a_bracket, a_unary, a_cat, a_mux, a_zext, prim_form, StmtForm, an_assign, a_let, an_if, a_for, a_gen, no_stmt_form, stmt_form, ItemForm, a_wire, a_reg, an_inst, a_block, a_for_item, a_gen_item, no_item_form, item_form, port_form}
+use Rattle.gen_tree.specs.Tree.{Int, num, var, bin, Fam, Lit, plain, bits, Expr, read, out, value, unary, binary, mux, zext, slice, Stmt, assign, bind, choose, select, repeat, given, Stmts, stmts, Else, no_else, otherwise, Arms, arms, Param, Conn, Item, wire, reg, inst, comb, ff, repeat_items, given_items, Items, items, ElseItems, no_else_items, otherwise_items, Port, Module}
+use Rattle.gen_text.specs.Forms.{is_mark, is_keyword, name_form, IntForm, a_number, a_variable, a_group, no_int, int_form, int_op_form, cmp_form, LitForm, a_plain, a_bits, no_lit, lit_form, is_lit, op_form, PrimForm, a_name, a_lit, a_bracket, a_unary, a_cat, a_mux, a_zext, prim_form, StmtForm, an_assign, a_let, an_if, a_case, a_for, a_gen, no_stmt_form, stmt_form, ItemForm, a_wire, a_reg, an_inst, a_block, a_for_item, a_gen_item, no_item_form, item_form, port_form}
 
 abbrev pub Read : Type 0 → Type 0
 Read A = Result (A × List Tok) ℕ
@@ -226,15 +226,19 @@ abbrev pub prim_step : Dialect → ℕ → (List Tok → Read Expr) → List Tok
 prim_step m room inner [] = Err 0
 prim_step m room inner (t ∷ ts) = prim_by m room inner (prim_form m t.word) (t ∷ ts) ts
 
--- from the bracket of a slice on
-abbrev pub bounds_at : Dialect → ℕ → Expr → List Tok → Read Expr
-bounds_at m room e ts = do
+-- from the bracket of two bounds on
+abbrev pub range_at : Dialect → ℕ → List Tok → Read (Int × Int)
+range_at m room ts = do
   t1 ← open_at mark.LeftBracket room ts
   h ← int_at m (room - 1) t1
   t2 ← mark_at mark.Colon h.1
   l ← int_at m (room - 1) t2
   rest ← mark_at mark.RightBracket l.1
-  Ok (slice e h.0 l.0, rest)
+  Ok ((h.0, l.0), rest)
+
+-- from the bracket of a slice on
+abbrev pub bounds_at : Dialect → ℕ → Expr → List Tok → Read Expr
+bounds_at m room e ts = seen (λ b. slice e b.0 b.1) (range_at m room ts)
 
 -- a slice behind an expression, or none
 abbrev pub slice_at : Dialect → ℕ → Expr → List Tok → Read Expr
@@ -307,23 +311,31 @@ given_at room ts = do
 abbrev pub body_by : {A : Type 0} → ℕ → (List Tok → Read A) → List Tok → Read A
 body_by room inner ts = open_at mark.LeftBrace room ts >>= λ t. inner t
 
--- a body behind `else`, or none
-abbrev pub else_by : {A B : Type 0} → B → (A → B) → ℕ → (List Tok → Read A) → List Tok → Read B
-else_by none some room inner ts = cond (begins (is_keyword keyword.Else) ts) (seen some (body_by room inner (rest_of ts))) (Ok (none, ts))
+-- a body behind a keyword, `else` or `default`, or none
+abbrev pub else_by : {A B : Type 0} → Keyword → B → (A → B) → ℕ → (List Tok → Read A) → List Tok → Read B
+else_by k none some room inner ts = cond (begins (is_keyword k) ts) (seen some (body_by room inner (rest_of ts))) (Ok (none, ts))
 
 -- ---- statements
 
 abbrev pub else_at : ℕ → (List Tok → Read Stmts) → List Tok → Read Else
-else_at room inner ts = else_by no_else otherwise room inner ts
+else_at room inner ts = else_by keyword.Else no_else otherwise room inner ts
+
+abbrev pub default_at : ℕ → (List Tok → Read Stmts) → List Tok → Read Else
+default_at room inner ts = else_by keyword.Default no_else otherwise room inner ts
+
+-- the bounds of a part, or none
+abbrev pub part_at : ℕ → List Tok → Read (Option (Int × Int))
+part_at room ts = cond (begins (is_mark mark.LeftBracket) ts) (seen (λ b. Some b) (range_at dialect.Source room ts)) (Ok (None, ts))
 
 -- behind the target's name
 abbrev pub assign_at : Bool → ℕ → ℕ → List ℕ → List Tok → Read Stmt
 assign_at clocked room line x ts = do
   f ← fam_rest_at dialect.Source room x ts
-  t1 ← mark_at (assign_mark clocked) f.1
+  p ← part_at room f.1
+  t1 ← mark_at (assign_mark clocked) p.1
   e ← source_expr_at room t1
   rest ← mark_at mark.Semicolon e.1
-  Ok (assign line f.0 e.0, rest)
+  Ok (assign line f.0 p.0 e.0, rest)
 
 -- behind `let`
 abbrev pub let_at : ℕ → ℕ → List Tok → Read Stmt
@@ -342,6 +354,47 @@ if_at room inner line ts = do
   second ← else_at room inner first.1
   Ok (choose line c.0 first.0 second.0, second.1)
 
+-- a comma and a literal
+abbrev pub more_test_at : ℕ → List Tok → Read Lit
+more_test_at room ts = mark_at mark.Comma ts >>= λ t. lit_at dialect.Source room t
+
+abbrev pub begins_test : List Tok → Bool
+begins_test ts = begins (is_mark mark.Comma) ts
+
+-- one literal or more
+abbrev pub tests_at : ℕ → List Tok → Read (List Lit)
+tests_at room ts = lit_at dialect.Source room ts >>= λ l. seen (λ more. l.0 ∷ more) (each_at begins_test (more_test_at room) l.1)
+
+abbrev pub arm_at : ℕ → (List Tok → Read Stmts) → List Tok → Read (List Lit × Stmts)
+arm_at room inner ts = do
+  ls ← tests_at room ts
+  t1 ← mark_at mark.Colon ls.1
+  b ← body_by room inner t1
+  Ok ((ls.0, b.0), b.1)
+
+abbrev pub begins_arm : List Tok → Bool
+begins_arm ts = begins (λ w. is_lit (lit_form dialect.Source w)) ts
+
+-- one arm or more
+abbrev pub arm_list_at : ℕ → (List Tok → Read Stmts) → List Tok → Read (List (List Lit × Stmts))
+arm_list_at room inner ts = arm_at room inner ts >>= λ a. seen (λ more. a.0 ∷ more) (each_at begins_arm (arm_at room inner) a.1)
+
+-- behind the brace of a `case`
+abbrev pub arms_step : ℕ → (List Tok → Read Stmts) → List Tok → Read (Arms × Else)
+arms_step room inner ts = do
+  all ← arm_list_at room inner ts
+  other ← default_at room inner all.1
+  rest ← mark_at mark.RightBrace other.1
+  Ok ((arms all.0, other.0), rest)
+
+-- behind `case`
+abbrev pub case_at : ℕ → (List Tok → Read (Arms × Else)) → ℕ → List Tok → Read Stmt
+case_at room cases line ts = do
+  v ← source_expr_at room ts
+  t1 ← open_at mark.LeftBrace room v.1
+  c ← cases t1
+  Ok (select line v.0 c.0.0 c.0.1, c.1)
+
 -- behind `for`
 abbrev pub for_at : ℕ → (List Tok → Read Stmts) → ℕ → List Tok → Read Stmt
 for_at room inner line ts = do
@@ -357,30 +410,41 @@ gen_at room inner line ts = do
   second ← else_at room inner first.1
   Ok (given line h.0.0 h.0.1 h.0.2 first.0 second.0, second.1)
 
-abbrev pub stmt_by : Bool → ℕ → (List Tok → Read Stmts) → StmtForm → ℕ → List Tok → Read Stmt
-stmt_by clocked room inner (an_assign x) line ts = assign_at clocked room line x ts
-stmt_by clocked room inner a_let line ts = let_at room line ts
-stmt_by clocked room inner an_if line ts = if_at room inner line ts
-stmt_by clocked room inner a_for line ts = for_at room inner line ts
-stmt_by clocked room inner a_gen line ts = gen_at room inner line ts
-stmt_by clocked room inner no_stmt_form line ts = Err (suc (length ts))
+abbrev pub stmt_by : Bool → ℕ → (List Tok → Read Stmts) → (List Tok → Read (Arms × Else)) → StmtForm → ℕ → List Tok → Read Stmt
+stmt_by clocked room inner cases (an_assign x) line ts = assign_at clocked room line x ts
+stmt_by clocked room inner cases a_let line ts = let_at room line ts
+stmt_by clocked room inner cases an_if line ts = if_at room inner line ts
+stmt_by clocked room inner cases a_case line ts = case_at room cases line ts
+stmt_by clocked room inner cases a_for line ts = for_at room inner line ts
+stmt_by clocked room inner cases a_gen line ts = gen_at room inner line ts
+stmt_by clocked room inner cases no_stmt_form line ts = Err (suc (length ts))
 
-abbrev pub stmt_step : Bool → ℕ → (List Tok → Read Stmts) → List Tok → Read Stmt
-stmt_step clocked room inner [] = Err 0
-stmt_step clocked room inner (t ∷ ts) = stmt_by clocked room inner (stmt_form t.word) t.line ts
+abbrev pub stmt_step : Bool → ℕ → (List Tok → Read Stmts) → (List Tok → Read (Arms × Else)) → List Tok → Read Stmt
+stmt_step clocked room inner cases [] = Err 0
+stmt_step clocked room inner cases (t ∷ ts) = stmt_by clocked room inner cases (stmt_form t.word) t.line ts
 
 -- up to a closing brace
 abbrev pub stmts_until : (List Tok → Read Stmt) → List Tok → Read Stmts
 stmts_until one ts = seen stmts (until_at one ts)
 
-unfoldable pub stmt_at : Bool → ℕ → List Tok → Read Stmt
-stmt_at clocked zero ts = stmt_step clocked zero (λ ts. Err 0) ts
-stmt_at clocked (suc room) ts = stmt_step clocked (suc room) (stmts_until (stmt_at clocked room)) ts
+-- a statement, and what stands behind the brace of a `case`
+unfoldable mutual
+  pub stmt_at : Bool → ℕ → List Tok → Read Stmt
+  stmt_at clocked zero ts = stmt_step clocked zero (λ ts. Err 0) (λ ts. Err 0) ts
+  stmt_at clocked (suc room) ts = stmt_step clocked (suc room) (stmts_until (stmt_at clocked room)) (arms_at clocked room) ts
 
--- behind a brace
+  pub arms_at : Bool → ℕ → List Tok → Read (Arms × Else)
+  arms_at clocked zero ts = arms_step zero (λ ts. Err 0) ts
+  arms_at clocked (suc room) ts = arms_step (suc room) (stmts_until (stmt_at clocked room)) ts
+
+-- behind a brace: statements, and the arms of a `case`
 abbrev pub inner_stmts : Bool → ℕ → List Tok → Read Stmts
 inner_stmts clocked zero = λ ts. Err 0
 inner_stmts clocked (suc room) = stmts_until (stmt_at clocked room)
+
+abbrev pub inner_arms : Bool → ℕ → List Tok → Read (Arms × Else)
+inner_arms clocked zero = λ ts. Err 0
+inner_arms clocked (suc room) = arms_at clocked room
 
 -- ---- items
 
@@ -464,7 +528,7 @@ abbrev pub block_at : Bool → ℕ → ℕ → List Tok → Read Item
 block_at clocked room line ts = seen (block_of clocked line) (body_by room (inner_stmts clocked room) ts)
 
 abbrev pub else_items_at : ℕ → (List Tok → Read Items) → List Tok → Read ElseItems
-else_items_at room inner ts = else_by no_else_items otherwise_items room inner ts
+else_items_at room inner ts = else_by keyword.Else no_else_items otherwise_items room inner ts
 
 abbrev pub for_item_at : ℕ → (List Tok → Read Items) → ℕ → List Tok → Read Item
 for_item_at room inner line ts = do

@@ -3,7 +3,7 @@
 ghost use Rattle.std.specs.Prelude.{◌≡◌, [], ◌∷◌, List, IfOk, OnOk, option_map};
 ghost use Rattle.gen_token.specs.Words.{placed, word_of};
 ghost use Rattle.gen_tree.specs.Tree as tree;
-ghost use Rattle.gen_tree.specs.View.{int_of, lit_of};
+ghost use Rattle.gen_tree.specs.View.{bounds_of, int_of, lit_of};
 ghost use Rattle.gen_text.specs.Faults.{Gives, with_rest};
 ghost use Rattle.gen_text.specs.Forms.{op_form};
 ghost use Rattle.gen_text.specs.Pieces.{top, below, with_piece, exprs_of};
@@ -312,13 +312,13 @@ fn slice<'t, 'a>(
 }
 
 /// The bounds of a slice, whatever it is of, and what follows them.
-fn bounds<'t, 'a>(
+pub(crate) fn bounds<'t, 'a>(
     alloc: Global,
     dialect: Dialect,
     room: usize,
     tokens: &'t [Placed<'a>],
 ) -> Result<((Box<Int>, Box<Int>), &'t [Placed<'a>]), ReadFault>
-    ensures { (value : tree.Expr) → Gives (with_rest (λ bounds. tree.slice value (int_of bounds.0.value) (int_of bounds.1.value))) result (list.bounds_at dialect room value (placed tokens.now)) }
+    ensures { Gives (with_rest bounds_of) result (list.range_at dialect room (placed tokens.now)) }
 {
     let rest = open(tokens, Mark::LeftBracket, room)?;
     let (high, rest) = closed(int(alloc, dialect, room - 1, rest)?, Mark::Colon)?;

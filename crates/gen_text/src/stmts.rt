@@ -1,16 +1,19 @@
 ghost use Rattle.gen_token.specs.Words.{placed};
 ghost use Rattle.gen_tree.specs.Grammar.{assign_mark};
-ghost use Rattle.gen_tree.specs.View.{int_of, stmt_of, stmts_of, else_of};
+ghost use Rattle.std.specs.Prelude.{map, option_map};
+ghost use Rattle.gen_tree.specs.View.{arm_of, arms_of, bounds_of, else_of, int_of, lit_of, stmt_of, stmts_of};
 ghost use Rattle.gen_text.specs.Faults.{Gives, with_rest};
 ghost use Rattle.gen_text.specs.Reading as list;
 
+use crate::exprs::{bounds, lit};
 use crate::fault::ReadFault;
 use crate::ints::{cmp, fam, fam_rest, int};
 use crate::tree::expr_tree;
-use crate::words::{begins_keyword, begins_mark, closed, keyword, mark, name, open};
+use crate::words::{begins_keyword, begins_lit, begins_mark, closed, keyword, mark, name, open};
 use gen_token::{Keyword, Mark, Placed, Token};
-use gen_tree::{Cmp, Dialect, Int, Stmt};
+use gen_tree::{Arm, Cmp, Dialect, Int, Lit, Stmt};
 use std::alloc::Global;
+use std::boxed::Box;
 use text_core::Text;
 
 /// The variable and the bounds of a loop, behind `for`, and what follows them.
@@ -69,13 +72,14 @@ fn stmt<'t, 'a>(
     room: usize,
     tokens: &'t [Placed<'a>],
 ) -> Result<(Stmt, &'t [Placed<'a>]), ReadFault>
-    ensures { Gives (with_rest stmt_of) result (list.stmt_step clocked room (list.inner_stmts clocked room) (placed tokens.now)) }
+    ensures { Gives (with_rest stmt_of) result (list.stmt_step clocked room (list.inner_stmts clocked room) (list.inner_arms clocked room) (placed tokens.now)) }
 {
     match tokens {
         [first, rest @ ..] => match first.token {
             Token::Name(name) => assign(alloc, clocked, room, first.line, name, rest),
             Token::Keyword(Keyword::Let) => bind(alloc, room, first.line, rest),
             Token::Keyword(Keyword::If) => choose(alloc, clocked, room, first.line, rest),
+            Token::Keyword(Keyword::Case) => select(alloc, clocked, room, first.line, rest),
             Token::Keyword(Keyword::For) => repeat(alloc, clocked, room, first.line, rest),
             Token::Keyword(Keyword::Gen) => generate(alloc, clocked, room, first.line, rest),
             _ => Err(ReadFault::At { left: tokens.len() }),
@@ -97,14 +101,31 @@ fn assign<'t, 'a>(
     ensures { Gives (with_rest stmt_of) result (list.assign_at clocked room line name.now (placed tokens.now)) }
 {
     let (target, rest) = fam_rest(alloc, Dialect::Source, room, name, tokens)?;
+    let (part, rest) = part(alloc, room, rest)?;
     let rest = assign_mark(clocked, rest)?;
     let (value, rest) = closed(expr_tree(alloc, room, rest)?, Mark::Semicolon)?;
     let assign = Stmt::Assign {
         line,
         target,
+        part,
         value,
     };
     Ok((assign, rest))
+}
+
+/// The bounds of the part of a name that is assigned, or none, and what follows them.
+fn part<'t, 'a>(
+    alloc: Global,
+    room: usize,
+    tokens: &'t [Placed<'a>],
+) -> Result<(Option<(Box<Int>, Box<Int>)>, &'t [Placed<'a>]), ReadFault>
+    ensures { Gives (with_rest (option_map bounds_of)) result (list.part_at room (placed tokens.now)) }
+{
+    if !begins_mark(tokens, Mark::LeftBracket) {
+        return Ok((None, tokens));
+    }
+    let (part, rest) = bounds(alloc, Dialect::Source, room, tokens)?;
+    Ok((Some(part), rest))
 }
 
 /// What stands behind `let`, and what follows it.
@@ -146,6 +167,129 @@ fn choose<'t, 'a>(
         },
         rest,
     ))
+}
+
+/// What stands behind `case`, and what follows it.
+#[cycle(stmts)]
+#[tactic(auto, using(gen_tree::proofs::Views::view_steps))]
+fn select<'t, 'a>(
+    alloc: Global,
+    clocked: bool,
+    room: usize,
+    line: u32,
+    tokens: &'t [Placed<'a>],
+) -> Result<(Stmt, &'t [Placed<'a>]), ReadFault>
+    ensures { Gives (with_rest stmt_of) result (list.case_at room (list.inner_arms clocked room) line (placed tokens.now)) }
+{
+    let (value, rest) = expr_tree(alloc, room, tokens)?;
+    let rest = open(rest, Mark::LeftBrace, room)?;
+    let ((arms, other), rest) = cases(alloc, clocked, room - 1, rest)?;
+    let select = Stmt::Case {
+        line,
+        value,
+        arms,
+        other,
+    };
+    Ok((select, rest))
+}
+
+/// The arms and the default behind the brace of a `case`, up to the brace that closes it, and what follows.
+#[cycle(stmts)]
+fn cases<'t, 'a>(
+    alloc: Global,
+    clocked: bool,
+    room: usize,
+    tokens: &'t [Placed<'a>],
+) -> Result<((Vec<Arm>, Option<Vec<Stmt>>), &'t [Placed<'a>]), ReadFault>
+    ensures { Gives (with_rest (λ c. (arms_of c.0.items, else_of c.1))) result (list.arms_step room (list.inner_stmts clocked room) (placed tokens.now)) }
+{
+    let (arms, rest) = arm_list(alloc, clocked, room, tokens)?;
+    let (other, rest) = closed(default(alloc, clocked, room, rest)?, Mark::RightBrace)?;
+    Ok(((arms, other), rest))
+}
+
+/// One arm or more, and what follows them.
+#[cycle(stmts)]
+fn arm_list<'t, 'a>(
+    alloc: Global,
+    clocked: bool,
+    room: usize,
+    tokens: &'t [Placed<'a>],
+) -> Result<(Vec<Arm>, &'t [Placed<'a>]), ReadFault>
+    ensures { Gives (with_rest (λ all. map arm_of all.items)) result (list.arm_list_at room (list.inner_stmts clocked room) (placed tokens.now)) }
+{
+    let mut all = Vec::new(alloc);
+    let (first, mut rest) = arm(alloc, clocked, room, tokens)?;
+    all.push(first)?;
+    'turns: while begins_lit(rest) {
+        let (one, after) = arm(alloc, clocked, room, rest)?;
+        all.push(one)?;
+        rest = after;
+    }
+    Ok((all, rest))
+}
+
+/// The arm in front, and what follows it.
+#[cycle(stmts)]
+fn arm<'t, 'a>(
+    alloc: Global,
+    clocked: bool,
+    room: usize,
+    tokens: &'t [Placed<'a>],
+) -> Result<(Arm, &'t [Placed<'a>]), ReadFault>
+    ensures { Gives (with_rest arm_of) result (list.arm_at room (list.inner_stmts clocked room) (placed tokens.now)) }
+{
+    let (tests, rest) = closed(tests(alloc, room, tokens)?, Mark::Colon)?;
+    let (body, rest) = block(alloc, clocked, room, rest)?;
+    Ok((Arm { tests, body }, rest))
+}
+
+/// One literal or more, with commas between them, and what follows them.
+fn tests<'t, 'a>(
+    alloc: Global,
+    room: usize,
+    tokens: &'t [Placed<'a>],
+) -> Result<(Vec<Lit>, &'t [Placed<'a>]), ReadFault>
+    ensures { Gives (with_rest (λ all. map lit_of all.items)) result (list.tests_at room (placed tokens.now)) }
+{
+    let mut all = Vec::new(alloc);
+    let (first, mut rest) = lit(alloc, Dialect::Source, room, tokens)?;
+    all.push(first)?;
+    'turns: while begins_mark(rest, Mark::Comma) {
+        let (one, after) = more_test(alloc, room, rest)?;
+        all.push(one)?;
+        rest = after;
+    }
+    Ok((all, rest))
+}
+
+/// The comma in front and the literal behind it, and what follows them.
+fn more_test<'t, 'a>(
+    alloc: Global,
+    room: usize,
+    tokens: &'t [Placed<'a>],
+) -> Result<(Lit, &'t [Placed<'a>]), ReadFault>
+    ensures { Gives (with_rest lit_of) result (list.more_test_at room (placed tokens.now)) }
+{
+    let rest = mark(tokens, Mark::Comma)?;
+    lit(alloc, Dialect::Source, room, rest)
+}
+
+/// A `default` with its statements, or none, and what follows it.
+#[cycle(stmts)]
+fn default<'t, 'a>(
+    alloc: Global,
+    clocked: bool,
+    room: usize,
+    tokens: &'t [Placed<'a>],
+) -> Result<(Option<Vec<Stmt>>, &'t [Placed<'a>]), ReadFault>
+    ensures { Gives (with_rest else_of) result (list.default_at room (list.inner_stmts clocked room) (placed tokens.now)) }
+{
+    if !begins_keyword(tokens, Keyword::Default) {
+        return Ok((None, tokens));
+    }
+    let (other, rest) = block(alloc, clocked, room, &tokens[1..])?;
+    Ok((Some(other), rest))
 }
 
 /// What stands behind `for`, and what follows it.

@@ -2,7 +2,7 @@ ghost use Rattle.std.specs.Prelude.{◌≡◌, ◌<◌, IfOk};
 ghost use Rattle.gen_token.specs.Words.{placed, word_of};
 ghost use Rattle.gen_text.specs.Faults.{Gives, with_rest};
 ghost use Rattle.gen_text.specs.Forms.{is_mark, is_keyword};
-ghost use Rattle.gen_text.specs.Reading.{mark_at, keyword_at, open_at, name_at, begins};
+ghost use Rattle.gen_text.specs.Reading.{mark_at, keyword_at, open_at, name_at, begins, begins_arm};
 
 use crate::fault::ReadFault;
 use gen_token::{Keyword, Mark, Placed, Token};
@@ -123,6 +123,20 @@ pub(crate) fn begins_keyword(tokens: &[Placed<'_>], keyword: Keyword) -> bool
 {
     match tokens {
         [first, ..] => is_keyword(first.token, keyword),
+        [] => false,
+    }
+}
+
+/// Whether a literal of a source stands in front.
+pub(crate) fn begins_lit(tokens: &[Placed<'_>]) -> bool
+    ensures { result ≡ begins_arm (placed tokens.now) }
+{
+    match tokens {
+        [first, ..] => match first.token {
+            Token::Literal { .. } => true,
+            Token::Keyword(Keyword::Bits) => true,
+            _ => false,
+        },
         [] => false,
     }
 }

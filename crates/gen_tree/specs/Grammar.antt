@@ -15,7 +15,7 @@ use Rattle.gen_tree.specs.declared.expr.Op.{Op}
 use Rattle.gen_tree.specs.declared.expr.Op.TheVariants as op
 use Rattle.gen_tree.specs.declared.dialect.Dialect.{Dialect}
 use Rattle.gen_tree.specs.declared.dialect.Dialect.TheVariants as dialect
-use Rattle.gen_tree.specs.Tree.{Int, num, var, bin, Fam, Lit, plain, bits, Expr, read, out, value, unary, binary, mux, zext, slice, Stmt, assign, bind, choose, repeat, given, Stmts, no_stmt, stmt, Else, no_else, otherwise, Param, Conn, Item, wire, reg, inst, comb, ff, repeat_items, given_items, Items, no_item, item, ElseItems, no_else_items, otherwise_items, Port, Module}
+use Rattle.gen_tree.specs.Tree.{Int, num, var, bin, Fam, Lit, plain, bits, Expr, read, out, value, unary, binary, mux, zext, slice, Stmt, assign, bind, choose, select, repeat, given, Stmts, no_stmt, stmt, Else, no_else, otherwise, Arms, no_arm, arm, Param, Conn, Item, wire, reg, inst, comb, ff, repeat_items, given_items, Items, no_item, item, ElseItems, no_else_items, otherwise_items, Port, Module}
 
 -- tokens from here on, and what is left of them there: what lies between is the span
 abbrev pub Span : Type 1
@@ -211,15 +211,27 @@ abbrev pub assign_mark : Bool → Mark
 assign_mark true = mark.LessEquals
 assign_mark false = mark.Equals
 
+-- [ "[" int ":" int "]" ]
+abbrev pub SpellsPart : Option (Int × Int) → Span
+SpellsPart None ts rest = ts ≡ rest
+SpellsPart (Some p) ts rest = (Sym mark.LeftBracket ⨾ SourceInt p.0 ⨾ Sym mark.Colon ⨾ SourceInt p.1 ⨾ Sym mark.RightBracket) ts rest
+
+-- lit { "," lit }
+abbrev pub SpellsTests : List Lit → Span
+SpellsTests [] = Never
+SpellsTests (l ∷ ls) = SpellsLit dialect.Source l ⨾ Each (λ l. Sym mark.Comma ⨾ SpellsLit dialect.Source l) ls
+
 abbrev mutual
   -- a statement of an ff (true) or a comb (false)
   pub SpellsStmt : Bool → Stmt → Span
-  SpellsStmt clocked (assign line f e) ts rest =
-      StartsAt line ts × (SourceFam f ⨾ Sym (assign_mark clocked) ⨾ SourceExpr e ⨾ Sym mark.Semicolon) ts rest
+  SpellsStmt clocked (assign line f part e) ts rest =
+      StartsAt line ts × (SourceFam f ⨾ SpellsPart part ⨾ Sym (assign_mark clocked) ⨾ SourceExpr e ⨾ Sym mark.Semicolon) ts rest
   SpellsStmt clocked (bind line f e) ts rest =
       StartsAt line ts × (Key keyword.Let ⨾ SourceFam f ⨾ Sym mark.Equals ⨾ SourceExpr e ⨾ Sym mark.Semicolon) ts rest
   SpellsStmt clocked (choose line c a b) ts rest =
       StartsAt line ts × (Key keyword.If ⨾ SourceExpr c ⨾ Braces (SpellsStmts clocked a) ⨾ SpellsElse clocked b) ts rest
+  SpellsStmt clocked (select line v cases other) ts rest =
+      StartsAt line ts × (Key keyword.Case ⨾ SourceExpr v ⨾ Braces (SpellsSomeArms clocked cases ⨾ SpellsDefault clocked other)) ts rest
   SpellsStmt clocked (repeat line x a b body) ts rest =
       StartsAt line ts × (SpellsTurns x a b ⨾ Braces (SpellsStmts clocked body)) ts rest
   SpellsStmt clocked (given line a c b first second) ts rest =
@@ -234,6 +246,21 @@ abbrev mutual
   pub SpellsElse : Bool → Else → Span
   SpellsElse clocked no_else ts rest = ts ≡ rest
   SpellsElse clocked (otherwise body) ts rest = (Key keyword.Else ⨾ Braces (SpellsStmts clocked body)) ts rest
+
+  -- [ "default" "{" { stmt } "}" ]
+  pub SpellsDefault : Bool → Else → Span
+  SpellsDefault clocked no_else ts rest = ts ≡ rest
+  SpellsDefault clocked (otherwise body) ts rest = (Key keyword.Default ⨾ Braces (SpellsStmts clocked body)) ts rest
+
+  -- { arm }, where arm = lit { "," lit } ":" "{" { stmt } "}"
+  pub SpellsArms : Bool → Arms → Span
+  SpellsArms clocked no_arm ts rest = ts ≡ rest
+  SpellsArms clocked (arm tests body more) ts rest = ((SpellsTests tests ⨾ Sym mark.Colon ⨾ Braces (SpellsStmts clocked body)) ⨾ SpellsArms clocked more) ts rest
+
+  -- arm { arm }
+  pub SpellsSomeArms : Bool → Arms → Span
+  SpellsSomeArms clocked no_arm ts rest = ⊥
+  SpellsSomeArms clocked (arm tests body more) ts rest = ((SpellsTests tests ⨾ Sym mark.Colon ⨾ Braces (SpellsStmts clocked body)) ⨾ SpellsArms clocked more) ts rest
 
 -- ---- modules
 

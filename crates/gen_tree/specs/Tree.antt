@@ -34,9 +34,10 @@ pub data Expr : Type 0 where
 -- the number first is the line
 mutual
   pub data Stmt : Type 0 where
-    assign : ℕ → Fam → Expr → Stmt
+    assign : ℕ → Fam → Option (Int × Int) → Expr → Stmt
     bind : ℕ → Fam → Expr → Stmt
     choose : ℕ → Expr → Stmts → Else → Stmt
+    select : ℕ → Expr → Arms → Else → Stmt
     repeat : ℕ → List ℕ → Int → Int → Stmts → Stmt
     given : ℕ → Int → Cmp → Int → Stmts → Else → Stmt
 
@@ -47,6 +48,11 @@ mutual
   pub data Else : Type 0 where
     no_else : Else
     otherwise : Stmts → Else
+
+  -- arms of a `case`, each with its literals
+  pub data Arms : Type 0 where
+    no_arm : Arms
+    arm : List Lit → Stmts → Arms → Arms
 
 pub record Param : Type 0 where
   pub name : List ℕ
@@ -92,6 +98,11 @@ pub record Module : Type 0 where
 abbrev pub stmts : List Stmt → Stmts
 stmts [] = no_stmt
 stmts (s ∷ rest) = stmt s (stmts rest)
+
+-- arms of a list
+abbrev pub arms : List (List Lit × Stmts) → Arms
+arms [] = no_arm
+arms (a ∷ rest) = arm a.0 a.1 (arms rest)
 
 -- items of a list
 abbrev pub items : List Item → Items

@@ -1,5 +1,5 @@
 -- The trees of the code, as trees of the grammar.
-use Rattle.std.specs.Prelude.{List, Option, Some, None, option_map, Vec, map}
+use Rattle.std.specs.Prelude.{List, Option, Some, None, option_map, Vec, Box, map}
 use Rattle.gen_tree.specs.declared.expr.Int as code_int
 use Rattle.gen_tree.specs.declared.expr.Int.TheVariants as ints
 use Rattle.gen_tree.specs.declared.expr.Fam as code_fam
@@ -9,6 +9,7 @@ use Rattle.gen_tree.specs.declared.expr.Expr as code_expr
 use Rattle.gen_tree.specs.declared.expr.Expr.TheVariants as exprs
 use Rattle.gen_tree.specs.declared.statement.Stmt as code_stmt
 use Rattle.gen_tree.specs.declared.statement.Stmt.TheVariants as code_stmts
+use Rattle.gen_tree.specs.declared.statement.Arm as code_arm
 use Rattle.gen_tree.specs.declared.item.Param as code_param
 use Rattle.gen_tree.specs.declared.item.Conn as code_conn
 use Rattle.gen_tree.specs.declared.item.Item as code_item
@@ -16,7 +17,7 @@ use Rattle.gen_tree.specs.declared.item.Item.TheVariants as code_items
 use Rattle.gen_tree.specs.declared.source.Port as code_port
 use Rattle.gen_tree.specs.declared.source.Module as code_module
 use Rattle.gen_tree.specs.declared.source.Source as code_source
-use Rattle.gen_tree.specs.Tree.{Int, num, var, bin, Fam, Lit, plain, bits, Expr, read, out, value, unary, binary, mux, zext, slice, Stmt, assign, bind, choose, repeat, given, Stmts, no_stmt, stmt, stmts, Else, no_else, otherwise, Param, Conn, Item, wire, reg, inst, comb, ff, repeat_items, given_items, Items, no_item, item, items, ElseItems, no_else_items, otherwise_items, Port, Module}
+use Rattle.gen_tree.specs.Tree.{Int, num, var, bin, Fam, Lit, plain, bits, Expr, read, out, value, unary, binary, mux, zext, slice, Stmt, assign, bind, choose, select, repeat, given, Stmts, no_stmt, stmt, stmts, Else, no_else, otherwise, Arms, no_arm, arm, arms, Param, Conn, Item, wire, reg, inst, comb, ff, repeat_items, given_items, Items, no_item, item, items, ElseItems, no_else_items, otherwise_items, Port, Module}
 
 abbrev pub int_of : code_int.Int → Int
 int_of (ints.Num n) = num n
@@ -40,11 +41,16 @@ expr_of (exprs.Mux' p c q a r b) = mux (expr_of c) (expr_of a) (expr_of b)
 expr_of (exprs.Zext' p e w) = zext (expr_of e) (int_of w)
 expr_of (exprs.Slice' p e h l) = slice (expr_of e) (int_of h.value) (int_of l.value)
 
+-- the bounds of a part
+abbrev pub bounds_of : {A : Type 0} → Box code_int.Int A × Box code_int.Int A → Int × Int
+bounds_of p = (int_of p.0.value, int_of p.1.value)
+
 unfoldable mutual
   pub stmt_of : code_stmt.Stmt → Stmt
-  stmt_of (code_stmts.Assign line f e) = assign line (fam_of f) (expr_of e)
+  stmt_of (code_stmts.Assign line f part e) = assign line (fam_of f) (option_map bounds_of part) (expr_of e)
   stmt_of (code_stmts.Let line f e) = bind line (fam_of f) (expr_of e)
   stmt_of (code_stmts.If' line c shape row rest) = choose line (expr_of c) (row_of row) (held_of rest)
+  stmt_of (code_stmts.Case' line v shape row rest) = select line (expr_of v) (arms_row row) (held_of rest)
   stmt_of (code_stmts.For' line x a b shape row) = repeat line x (int_of a) (int_of b) (row_of row)
   stmt_of (code_stmts.GenIf' line a c b shape row rest) = given line (int_of a) c (int_of b) (row_of row) (held_of rest)
 
@@ -52,17 +58,27 @@ unfoldable mutual
   row_of code_stmt.end_of-Stmt = no_stmt
   row_of (code_stmt.more_of-Stmt s rest) = stmt (stmt_of s) (row_of rest)
 
+  pub arms_row : {m : _} → code_stmt.Row_of-Arm m → Arms
+  arms_row code_stmt.end_of-Arm = no_arm
+  arms_row (code_stmt.more_of-Arm tests shape row rest) = arm (map lit_of tests.items) (row_of row) (arms_row rest)
+
   pub held_of : code_stmt.Held-Stmt-If-3 → Else
   held_of code_stmt.None' = no_else
   held_of (code_stmt.Some' shape row) = otherwise (row_of row)
 
--- statements, and what an `else` holds
+-- statements, arms, and what an `else` or a `default` holds
 abbrev pub stmts_of : List code_stmt.Stmt → Stmts
 stmts_of all = stmts (map stmt_of all)
 
 abbrev pub else_of : {A : Type 0} → Option (Vec code_stmt.Stmt A) → Else
 else_of None = no_else
 else_of (Some v) = otherwise (stmts_of v.items)
+
+abbrev pub arm_of : code_arm.Arm → List Lit × Stmts
+arm_of a = (map lit_of a.tests.items, stmts_of a.body.items)
+
+abbrev pub arms_of : List code_arm.Arm → Arms
+arms_of all = arms (map arm_of all)
 
 abbrev pub param_of : code_param.Param → Param
 param_of p = record { name = p.name; value = int_of p.value }

@@ -13,4 +13,4 @@ pub use dialect::Dialect;
 pub use expr::{Cmp, Expr, Fam, Int, IntOp, Lit, Op, UnOp};
 pub use item::{Conn, Item, Param};
 pub use source::{Module, Port, Source};
-pub use statement::Stmt;
+pub use statement::{Arm, Stmt};

@@ -1,13 +1,16 @@
-use crate::{Cmp, Expr, Fam, Int};
+use crate::{Cmp, Expr, Fam, Int, Lit};
+use std::boxed::Box;
 use text_core::Text;
 
 /// A statement of a block.
 #[derive(Drop)]
+#[cycle(statements)]
 pub enum Stmt {
-    /// `target = value;` in a `comb`, `target <= value;` in an `ff`
+    /// `target = value;` in a `comb`, `target <= value;` in an `ff`; with a part `target[high:low]` in place of the target
     Assign {
         line: u32,
         target: Fam,
+        part: Option<(Box<Int>, Box<Int>)>,
         value: Expr,
     },
     /// `let name = value;`
@@ -22,6 +25,13 @@ pub enum Stmt {
         test: Expr,
         yes: Vec<Stmt>,
         no: Option<Vec<Stmt>>,
+    },
+    /// `case value { arms default { other } }`, one arm at least; None: no `default` stands there
+    Case {
+        line: u32,
+        value: Expr,
+        arms: Vec<Arm>,
+        other: Option<Vec<Stmt>>,
     },
     /// `for var in from..to { body }`
     For {
@@ -40,4 +50,12 @@ pub enum Stmt {
         yes: Vec<Stmt>,
         no: Option<Vec<Stmt>>,
     },
+}
+
+/// `tests: { body }`, an arm of a `case`; its literals, one at least, stand with commas between them
+#[derive(Drop)]
+#[cycle(statements)]
+pub struct Arm {
+    pub tests: Vec<Lit>,
+    pub body: Vec<Stmt>,
 }
