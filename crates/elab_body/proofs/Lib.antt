@@ -3,5 +3,7 @@ pub mod Kept
 pub mod ExprCases
 pub mod Exits
 pub mod Fronts
+pub mod CaseCases
 pub mod StmtCases
 pub mod StmtLoops
+pub mod ArmLoops

@@ -1,26 +1,29 @@
 -- Each case of the walk over statements.
 use Rattle.std.proofs.Common.{◌≡◌, ℕ, ℤ, Bool, true, false, if◌then◌else◌, Option, Result, Ok, Err, refl, sym, ap, ◌∙◌}
 use Rattle.gen_tree.specs.Tree as tree
-use Rattle.gen_tree.specs.Tree.{Int, Fam, Stmts, no_stmt, stmt, no_else, otherwise, assign, bind, choose, repeat, given as gen_given}
+use Rattle.gen_tree.specs.Tree.{Int, Fam, Stmts, no_stmt, stmt, no_else, otherwise, assign, bind, choose, select, repeat, given as gen_given}
 use Rattle.gen_tree.specs.declared.Cmp.{Cmp}
 use Rattle.elab_core.specs.declared.Count.TheVariants.{Statements, Turns}
 use Rattle.elab_core.specs.Walk.{Gives, Faulty, Counted, Fault, Seen, and_then, judge, counts}
 use Rattle.elab_core.specs.Numbers.{index_name, fam_name, two_numbers, turn_count, holds}
 use Rattle.elab_core.specs.Elaborated.{added}
-use Rattle.elab_core.specs.Elab.{expr, statement, statements, else_body, else_statements, turns}
+use Rattle.elab_core.specs.Elab.{expr, part_bounds, statement, statements, else_body, else_statements, turns}
 use Rattle.exec_core.specs.Block.{Name}
 use Rattle.design_core.specs.Design as design
 use Rattle.design_core.specs.Design.{Gens, Expr, Assign, Let, If, Body, Done, Else, NoElse, Otherwise}
 use Rattle.elab_base.specs.Compares.{compares}
 use Rattle.elab_base.specs.Turns.{turns_at}
 use Rattle.elab_base.proofs.Steps.{counted, refused, given, faulty, ends, then_assoc}
+use Rattle.elab_body.proofs.CaseCases.{select_fault_1, select_done}
 use Rattle.elab_body.specs.Body.{assigned, bound_let, tested, branches, chosen, turn, in_turn, else_stmts}
 
-statement_assign : (line : ℕ) (f : Fam) (e : tree.Expr) (gens : Gens) (made : Body) → statement (assign line f e) gens made ≡ and_then (assigned line gens f e) (λ s. Gives (added made s))
+statement_assign : (line : ℕ) (f : Fam) (p : Option (Int × Int)) (e : tree.Expr) (gens : Gens) (made : Body) → statement (assign line f p e) gens made ≡ and_then (assigned line gens f p e) (λ s. Gives (added made s))
 unfolding statement assigned and_then
-statement_assign line f e gens made = ap (Counted Statements line) (sym (
-    then_assoc (fam_name line gens f) (λ x. and_then (expr line gens e) (λ v. Gives (Assign 0 line gens x v))) (λ s. Gives (added made s))
-    ∙ (λ i. and_then (fam_name line gens f) (λ x. then_assoc (expr line gens e) (λ v. Gives (Assign 0 line gens x v)) (λ s. Gives (added made s)) i))))
+statement_assign line f p e gens made = ap (Counted Statements line) (sym (
+    then_assoc (fam_name line gens f) (λ x. and_then (part_bounds line gens p) (λ part. and_then (expr line gens e) (λ v. Gives (Assign 0 line gens x part v)))) (λ s. Gives (added made s))
+    ∙ (λ i. and_then (fam_name line gens f) (λ x. (
+    then_assoc (part_bounds line gens p) (λ part. and_then (expr line gens e) (λ v. Gives (Assign 0 line gens x part v))) (λ s. Gives (added made s))
+    ∙ (λ j. and_then (part_bounds line gens p) (λ part. then_assoc (expr line gens e) (λ v. Gives (Assign 0 line gens x part v)) (λ s. Gives (added made s)) j))) i))))
 
 statement_bind : (line : ℕ) (f : Fam) (e : tree.Expr) (gens : Gens) (made : Body) → statement (bind line f e) gens made ≡ and_then (bound_let line gens f e) (λ s. Gives (added made s))
 unfolding statement bound_let and_then
@@ -72,25 +75,30 @@ pub else_none : (gens : Gens) (seen : Seen) → judge seen (else_body no_else ge
 unfolding else_body
 else_none gens seen = ends _ _
 
-pub assigned_fault_1 : (line : ℕ) (gens : Gens) (f : Name) (i : Option Int) (e : tree.Expr) (seen : Seen) (x : Fault) → judge seen (counts Statements line) ≡ Err x →
-    judge seen (assigned line gens (record { name = f; index = i }) e) ≡ Err x
+pub assigned_fault_1 : (line : ℕ) (gens : Gens) (f : Name) (i : Option Int) (p : Option (Int × Int)) (e : tree.Expr) (seen : Seen) (x : Fault) → judge seen (counts Statements line) ≡ Err x →
+    judge seen (assigned line gens (record { name = f; index = i }) p e) ≡ Err x
 unfolding assigned
-assigned_fault_1 line gens f i e seen x e1 = refused _ _ _ _ e1
+assigned_fault_1 line gens f i p e seen x e1 = refused _ _ _ _ e1
 
-pub assigned_fault_2 : (line : ℕ) (gens : Gens) (f : Name) (i : Option Int) (e : tree.Expr) (seen s1 : Seen) (x : Fault) → judge seen (counts Statements line) ≡ Ok (tt, s1) → index_name line gens f i ≡ Faulty x →
-    judge seen (assigned line gens (record { name = f; index = i }) e) ≡ Err x
+pub assigned_fault_2 : (line : ℕ) (gens : Gens) (f : Name) (i : Option Int) (p : Option (Int × Int)) (e : tree.Expr) (seen s1 : Seen) (x : Fault) → judge seen (counts Statements line) ≡ Ok (tt, s1) → index_name line gens f i ≡ Faulty x →
+    judge seen (assigned line gens (record { name = f; index = i }) p e) ≡ Err x
 unfolding assigned
-assigned_fault_2 line gens f i e seen s1 x e1 e2 = counted _ _ _ _ _ _ e1 (faulty _ _ _ _ e2)
+assigned_fault_2 line gens f i p e seen s1 x e1 e2 = counted _ _ _ _ _ _ e1 (faulty _ _ _ _ e2)
 
-pub assigned_fault_3 : (line : ℕ) (gens : Gens) (f : Name) (i : Option Int) (e : tree.Expr) (y : Name) (seen s1 : Seen) (x : Fault) → judge seen (counts Statements line) ≡ Ok (tt, s1) → index_name line gens f i ≡ Gives y → judge s1 (expr line gens e) ≡ Err x →
-    judge seen (assigned line gens (record { name = f; index = i }) e) ≡ Err x
+pub assigned_fault_3 : (line : ℕ) (gens : Gens) (f : Name) (i : Option Int) (p : Option (Int × Int)) (e : tree.Expr) (y : Name) (seen s1 : Seen) (x : Fault) → judge seen (counts Statements line) ≡ Ok (tt, s1) → index_name line gens f i ≡ Gives y → part_bounds line gens p ≡ Faulty x →
+    judge seen (assigned line gens (record { name = f; index = i }) p e) ≡ Err x
 unfolding assigned
-assigned_fault_3 line gens f i e y seen s1 x e1 e2 e3 = counted _ _ _ _ _ _ e1 (given _ _ _ _ _ e2 (refused _ _ _ _ e3))
+assigned_fault_3 line gens f i p e y seen s1 x e1 e2 e3 = counted _ _ _ _ _ _ e1 (given _ _ _ _ _ e2 (faulty _ _ _ _ e3))
 
-pub assigned_done : (line : ℕ) (gens : Gens) (f : Name) (i : Option Int) (e : tree.Expr) (y : Name) (v : Expr) (seen s1 s2 : Seen) → judge seen (counts Statements line) ≡ Ok (tt, s1) → index_name line gens f i ≡ Gives y → judge s1 (expr line gens e) ≡ Ok (v, s2) →
-    judge seen (assigned line gens (record { name = f; index = i }) e) ≡ Ok (Assign 0 line gens y v, s2)
+pub assigned_fault_4 : (line : ℕ) (gens : Gens) (f : Name) (i : Option Int) (p : Option (Int × Int)) (e : tree.Expr) (y : Name) (part : Option (ℤ × ℤ)) (seen s1 : Seen) (x : Fault) → judge seen (counts Statements line) ≡ Ok (tt, s1) → index_name line gens f i ≡ Gives y
+    → part_bounds line gens p ≡ Gives part → judge s1 (expr line gens e) ≡ Err x → judge seen (assigned line gens (record { name = f; index = i }) p e) ≡ Err x
 unfolding assigned
-assigned_done line gens f i e y v seen s1 s2 e1 e2 e3 = counted _ _ _ _ _ _ e1 (given _ _ _ _ _ e2 (counted _ _ _ _ _ _ e3 (ends _ _)))
+assigned_fault_4 line gens f i p e y part seen s1 x e1 e2 e3 e4 = counted _ _ _ _ _ _ e1 (given _ _ _ _ _ e2 (given _ _ _ _ _ e3 (refused _ _ _ _ e4)))
+
+pub assigned_done : (line : ℕ) (gens : Gens) (f : Name) (i : Option Int) (p : Option (Int × Int)) (e : tree.Expr) (y : Name) (part : Option (ℤ × ℤ)) (v : Expr) (seen s1 s2 : Seen) → judge seen (counts Statements line) ≡ Ok (tt, s1) → index_name line gens f i ≡ Gives y
+    → part_bounds line gens p ≡ Gives part → judge s1 (expr line gens e) ≡ Ok (v, s2) → judge seen (assigned line gens (record { name = f; index = i }) p e) ≡ Ok (Assign 0 line gens y part v, s2)
+unfolding assigned
+assigned_done line gens f i p e y part v seen s1 s2 e1 e2 e3 e4 = counted _ _ _ _ _ _ e1 (given _ _ _ _ _ e2 (given _ _ _ _ _ e3 (counted _ _ _ _ _ _ e4 (ends _ _))))
 
 pub bound_fault_1 : (line : ℕ) (gens : Gens) (f : Name) (i : Option Int) (e : tree.Expr) (seen : Seen) (x : Fault) → judge seen (counts Statements line) ≡ Err x →
     judge seen (bound_let line gens (record { name = f; index = i }) e) ≡ Err x
@@ -167,13 +175,13 @@ pub turn_last_fault : (line : ℕ) (body : Stmts) (inner same : Gens) (made : Bo
 unfolding turn
 turn_last_fault line body inner same made seen s1 x e1 i e2 = counted _ _ _ _ _ _ e1 (ap (λ g. judge s1 (statements body g made)) (sym i) ∙ e2)
 
-pub assign_fault_1 : (line : ℕ) (gens : Gens) (made : Body) (f : Fam) (e : tree.Expr) (seen : Seen) (x : Fault) → judge seen (assigned line gens f e) ≡ Err x →
-    judge seen (statement (assign line f e) gens made) ≡ Err x
-assign_fault_1 line gens made f e seen x e1 = ap (judge seen) (statement_assign line f e gens made) ∙ refused _ _ _ _ e1
+pub assign_fault_1 : (line : ℕ) (gens : Gens) (made : Body) (f : Fam) (p : Option (Int × Int)) (e : tree.Expr) (seen : Seen) (x : Fault) → judge seen (assigned line gens f p e) ≡ Err x →
+    judge seen (statement (assign line f p e) gens made) ≡ Err x
+assign_fault_1 line gens made f p e seen x e1 = ap (judge seen) (statement_assign line f p e gens made) ∙ refused _ _ _ _ e1
 
-pub assign_done : (line : ℕ) (gens : Gens) (made : Body) (f : Fam) (e : tree.Expr) (s : design.Stmt) (seen s1 : Seen) → judge seen (assigned line gens f e) ≡ Ok (s, s1) →
-    judge seen (statement (assign line f e) gens made) ≡ Ok (added made s, s1)
-assign_done line gens made f e s seen s1 e1 = ap (judge seen) (statement_assign line f e gens made) ∙ counted _ _ _ _ _ _ e1 (ends _ _)
+pub assign_done : (line : ℕ) (gens : Gens) (made : Body) (f : Fam) (p : Option (Int × Int)) (e : tree.Expr) (s : design.Stmt) (seen s1 : Seen) → judge seen (assigned line gens f p e) ≡ Ok (s, s1) →
+    judge seen (statement (assign line f p e) gens made) ≡ Ok (added made s, s1)
+assign_done line gens made f p e s seen s1 e1 = ap (judge seen) (statement_assign line f p e gens made) ∙ counted _ _ _ _ _ _ e1 (ends _ _)
 
 pub bind_fault_1 : (line : ℕ) (gens : Gens) (made : Body) (f : Fam) (e : tree.Expr) (seen : Seen) (x : Fault) → judge seen (bound_let line gens f e) ≡ Err x →
     judge seen (statement (bind line f e) gens made) ≡ Err x
@@ -218,7 +226,7 @@ pub repeat_last_fault : (line : ℕ) (gens : Gens) (made : Body) (v : Name) (fro
     judge seen (statement (repeat line v from to body) gens made) ≡ Err x
 repeat_last_fault line gens made v from to body k count seen x e1 e2 = ap (judge seen) (statement_repeat line v from to body gens made) ∙ given _ _ _ _ _ e1 (e2)
 
-pub ruleset assigned_steps = (assigned_fault_1, assigned_fault_2, assigned_fault_3, assigned_done)
+pub ruleset assigned_steps = (assigned_fault_1, assigned_fault_2, assigned_fault_3, assigned_fault_4, assigned_done)
 
 pub ruleset bound_steps = (bound_fault_1, bound_fault_2, bound_fault_3, bound_done)
 
@@ -232,6 +240,6 @@ pub ruleset turn_steps = (turn_fault_1, turn_done, turn_last_fault)
 
 pub ruleset chosen_steps = (chosen_fault_1, chosen_fault_2, chosen_done)
 
-pub ruleset stmt_steps = (assign_fault_1, assign_done, bind_fault_1, bind_done, choose_fault_1, choose_done)
+pub ruleset stmt_steps = (assign_fault_1, assign_done, bind_fault_1, bind_done, choose_fault_1, choose_done, select_fault_1, select_done)
 
 pub ruleset repeat_steps = (repeat_fault_1, repeat_done, repeat_last_fault)

@@ -2,13 +2,13 @@
 
 ghost use Rattle.std.specs.Prelude.{◌≡◌, length, take};
 ghost use Rattle.design_core.specs.Design as design;
-ghost use Rattle.design_core.specs.View.{expr_of, stmt_of, body_of, else_of};
+ghost use Rattle.design_core.specs.View.{expr_of, stmt_of, body_of, arms_of, else_of};
 ghost use Rattle.elab_core.specs.Operators.{unary_of, binary_of};
 ghost use Rattle.elab_core.specs.Elaborated.{added};
 ghost use Rattle.elab_core.specs.Results.{NoMemoryOr};
 ghost use Rattle.elab_body.specs.Body.{made_of};
 
-use design_core::{Expr, Stmt};
+use design_core::{Arm, Expr, Stmt};
 use elab_core::ElabFault;
 use gen_scope::Scope;
 use std::alloc::Global;
@@ -87,14 +87,21 @@ pub(crate) fn slice(value: Box<Expr>, high: i64, low: i64) -> Expr
 
 /// An assignment.
 #[tactic(auto, using(design_core::proofs::Views::design_views))]
-pub(crate) fn assignment(line: u32, gens: Scope, target: Text, value: Expr) -> Stmt
-    ensures { stmt_of result ≡ design.Assign 0 line gens target (expr_of value) }
+pub(crate) fn assignment(
+    line: u32,
+    gens: Scope,
+    target: Text,
+    part: Option<(i64, i64)>,
+    value: Expr,
+) -> Stmt
+    ensures { stmt_of result ≡ design.Assign 0 line gens target part (expr_of value) }
 {
     Stmt::Assign {
         slot: 0,
         line,
         gens,
         target,
+        part,
         value,
     }
 }
@@ -131,6 +138,27 @@ pub(crate) fn choice(
         test,
         yes,
         no,
+    }
+}
+
+/// A `case`.
+#[tactic(auto, using(design_core::proofs::Views::design_views))]
+pub(crate) fn selection(
+    line: u32,
+    gens: Scope,
+    value: Expr,
+    arms: Vec<Arm>,
+    other: Option<Vec<Stmt>>,
+) -> Stmt
+    ensures { stmt_of result ≡ design.Case 0 line gens (expr_of value) (arms_of arms.items) (else_of other) }
+{
+    Stmt::Case {
+        slot: 0,
+        line,
+        gens,
+        value,
+        arms,
+        other,
     }
 }
 

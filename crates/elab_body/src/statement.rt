@@ -1,24 +1,24 @@
 //! Statements one after another: each kind is walked by one function, whose statement is put behind the others. Those of a loop's turns
 //! and of the branch of a `gen if` go there themselves.
 
-ghost use Rattle.std.specs.Prelude.{◌≡◌, true, length, take, if◌then◌else◌};
-ghost use Rattle.gen_tree.specs.View.{expr_of as source_of, stmt_of as source_stmt_of, stmts_of, else_of as source_else_of};
-ghost use Rattle.design_core.specs.View.{stmt_of as design_stmt_of, body_of, else_of};
+ghost use Rattle.std.specs.Prelude.{◌≡◌, true, [], length, map, take, if◌then◌else◌};
+ghost use Rattle.gen_tree.specs.View.{expr_of as source_of, stmt_of as source_stmt_of, stmts_of, arm_of as source_arm_of, arms_of as source_arms_of, else_of as source_else_of};
+ghost use Rattle.design_core.specs.View.{stmt_of as design_stmt_of, arm_of, body_of, else_of};
 ghost use Rattle.design_core.specs.Design.{Done};
 ghost use Rattle.elab_core.specs.Results.{Judged};
 ghost use Rattle.elab_core.specs.Walk.{judge};
-ghost use Rattle.elab_core.specs.Elab.{statement as statement_walk, statements as statements_walk, else_body, turns as turns_walk};
+ghost use Rattle.elab_core.specs.Elab.{statement as statement_walk, statements as statements_walk, arm_bodies as arms_walk, else_body, turns as turns_walk};
 ghost use Rattle.elab_base.specs.Met.{met_of, CountsUp};
 ghost use Rattle.gen_scope.specs.Gens.{bound};
-ghost use Rattle.elab_body.specs.Body.{is_generated, made_of, chosen as chosen_by, branches as branches_walk, turn as turn_walk, in_turn, else_stmts};
+ghost use Rattle.elab_body.specs.Body.{is_generated, made_of, chosen as chosen_by, branches as branches_walk, selected as selected_by, cases as cases_walk, one_arm as arm_walk, turn as turn_walk, in_turn, else_stmts};
 
-use crate::build::{add, choice};
+use crate::build::{add, choice, selection};
 use crate::loops::{Loop, loop_of};
-use crate::simple::{assigned, named, tested};
+use crate::simple::{assigned, literals, named, tested};
 use elab_base::{Met, comparison};
 use elab_core::{Count, ElabFault};
 use gen_scope::Scope;
-use gen_tree::{Expr, Stmt};
+use gen_tree::{Arm, Expr, Stmt};
 use std::alloc::Global;
 
 /// Statements one after another, behind those that were made, which stay as they are, after an error too; and no count is less than
@@ -80,8 +80,12 @@ fn one_statement(
         Stmt::Assign {
             line,
             target,
+            part,
             value,
-        } => add(made, assigned(alloc, met, *line, scope, target, value)?),
+        } => add(
+            made,
+            assigned(alloc, met, *line, scope, target, part, value)?,
+        ),
         Stmt::Let { line, name, value } => add(made, named(alloc, met, *line, scope, name, value)?),
         Stmt::If {
             line,
@@ -89,6 +93,15 @@ fn one_statement(
             yes,
             no,
         } => add(made, chosen(alloc, met, *line, scope, test, yes, no)?),
+        Stmt::Case {
+            line,
+            value,
+            arms,
+            other,
+        } => add(
+            made,
+            selected(alloc, met, *line, scope, value, arms, other)?,
+        ),
         Stmt::For { .. } | Stmt::GenIf { .. } => generated(alloc, met, statement, scope, made),
     }
 }
@@ -131,7 +144,9 @@ fn generated(
             let holds = comparison(alloc, *line, scope, left, *cmp, right)?;
             statements(alloc, met, branch_of(holds, yes, no), scope, made)
         }
-        Stmt::Assign { .. } | Stmt::Let { .. } | Stmt::If { .. } => unreachable!(),
+        Stmt::Assign { .. } | Stmt::Let { .. } | Stmt::If { .. } | Stmt::Case { .. } => {
+            unreachable!()
+        }
     }
 }
 
@@ -176,7 +191,89 @@ fn branches(
     Ok((yes, no))
 }
 
-/// The statements of an `else`, where there is one.
+/// A `case`: its count and value, then its arms and its default.
+#[cycle(statements)]
+#[tactic(auto, using(elab_base::proofs::Counting::count_steps, crate::proofs::CaseCases::selected_steps))]
+fn selected(
+    alloc: Global,
+    met: &mut Met,
+    line: u32,
+    scope: &Scope,
+    value: &Expr,
+    arms: &[Arm],
+    other: &Option<Vec<Stmt>>,
+) -> Result<design_core::Stmt, ElabFault>
+    ensures judged { Judged (λ s. design_stmt_of s) result (met_of met.new) (judge (met_of met.old) (selected_by line scope.now (source_of value.now) (source_arms_of arms.now) (source_else_of other.now))) }
+    ensures instances { met.new.instances ≡ met.old.instances }
+    ensures counts { CountsUp met.old met.new }
+{
+    let value = tested(alloc, met, line, scope, value)?;
+    let (arms, other) = cases(alloc, met, line, arms, other, scope)?;
+    let gens = scope.clone()?;
+    Ok(selection(line, gens, value, arms, other))
+}
+
+/// The arms of a `case`, and its default.
+#[cycle(statements)]
+#[tactic(auto, using(elab_base::proofs::Counting::count_steps, crate::proofs::CaseCases::cases_steps))]
+fn cases(
+    alloc: Global,
+    met: &mut Met,
+    line: u32,
+    arms: &[Arm],
+    other: &Option<Vec<Stmt>>,
+    scope: &Scope,
+) -> Result<(Vec<design_core::Arm>, Option<Vec<design_core::Stmt>>), ElabFault>
+    ensures judged { Judged (λ made. (map arm_of made.0.items, else_of made.1)) result (met_of met.new) (judge (met_of met.old) (cases_walk line (source_arms_of arms.now) (source_else_of other.now) scope.now)) }
+    ensures instances { met.new.instances ≡ met.old.instances }
+    ensures counts { CountsUp met.old met.new }
+{
+    let arms = all_arms(alloc, met, line, arms, scope)?;
+    let other = otherwise(alloc, met, other, scope)?;
+    Ok((arms, other))
+}
+
+/// Arms, one after another.
+#[cycle(statements)]
+#[tactic(auto, using(elab_base::proofs::Counting::count_steps, crate::proofs::ArmLoops::arm_steps, crate::proofs::Heights::height_arm))]
+fn all_arms(
+    alloc: Global,
+    met: &mut Met,
+    line: u32,
+    arms: &[Arm],
+    scope: &Scope,
+) -> Result<Vec<design_core::Arm>, ElabFault>
+    ensures judged { Judged (λ made. map arm_of made.items) result (met_of met.new) (judge (met_of met.old) (arms_walk line (source_arms_of arms.now) scope.now [])) }
+    ensures instances { met.new.instances ≡ met.old.instances }
+    ensures counts { CountsUp met.old met.new }
+{
+    let mut made = Vec::new(alloc);
+    for arm in arms {
+        made.push(one_arm(alloc, met, line, arm, scope)?)?;
+    }
+    Ok(made)
+}
+
+/// An arm: its literals, then its statements.
+#[cycle(statements)]
+#[tactic(auto, using(elab_base::proofs::Counting::count_steps, crate::proofs::CaseCases::arm_case_steps))]
+fn one_arm(
+    alloc: Global,
+    met: &mut Met,
+    line: u32,
+    arm: &Arm,
+    scope: &Scope,
+) -> Result<design_core::Arm, ElabFault>
+    ensures judged { Judged arm_of result (met_of met.new) (judge (met_of met.old) (arm_walk line (source_arm_of arm.now).0 (source_arm_of arm.now).1 scope.now)) }
+    ensures instances { met.new.instances ≡ met.old.instances }
+    ensures counts { CountsUp met.old met.new }
+{
+    let tests = literals(alloc, met, line, scope, &arm.tests)?;
+    let body = block(alloc, met, &arm.body, scope)?;
+    Ok(design_core::Arm { tests, body })
+}
+
+/// The statements of an `else` or a default, where there is one.
 #[cycle(statements)]
 #[tactic(auto, using(elab_base::proofs::Counting::count_steps, crate::proofs::StmtCases::else_steps, crate::proofs::Heights::height_otherwise))]
 fn otherwise(

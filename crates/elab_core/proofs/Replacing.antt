@@ -1,19 +1,20 @@
 -- Elaboration with a list of names and numbers is elaboration by substitution: numbers, expressions and statements.
-use Rattle.std.proofs.Common.{◌≡◌, ℕ, zero, suc, ◌<◌, ◌≤◌, Bool, true, false, ◌&&◌, T, ◌≤ℤ◌, ℤ, pos, negsuc, ◌+ℤ◌, ◌-ℤ◌, int_le, [], ◌∷◌, ◌++◌, Option, Some, None, option_map, if◌then◌else◌, bytes_eq, refl, sym, ap, ap₂, ◌∙◌, subst, arith, nat_le, leb-true, le-leb}
+use Rattle.std.proofs.Common.{◌≡◌, ℕ, zero, suc, ◌<◌, ◌≤◌, Bool, true, false, ◌&&◌, T, ◌≤ℤ◌, ℤ, pos, negsuc, ◌+ℤ◌, ◌-ℤ◌, int_le, List, [], ◌∷◌, ◌++◌, map, Option, Some, None, option_map, if◌then◌else◌, bytes_eq, refl, sym, ap, ap₂, ◌∙◌, subst, arith, nat_le, leb-true, le-leb}
 use Rattle.gen_tree.specs.Tree as tree
-use Rattle.gen_tree.specs.Tree.{Int, num, var, bin, Fam, Lit, plain, bits, read, out, value, unary, binary, mux, zext, slice, assign, bind, choose, repeat, given, Stmts, no_stmt, stmt, no_else, otherwise}
+use Rattle.gen_tree.specs.Tree.{Int, num, var, bin, Fam, Lit, plain, bits, read, out, value, unary, binary, mux, zext, slice, assign, bind, choose, select, repeat, given, Stmts, no_stmt, stmt, no_else, otherwise, no_arm, arm}
 use Rattle.std.proofs.lemmas.Int.{ints}
 use lib.Signed.{le_z_yes}
 use Rattle.std.proofs.lemmas.Slice.Eq.{bytes_eq-Decides}
 use Rattle.elab_core.specs.declared.fault.Count.TheVariants.{Parts, Statements, Turns}
+use Rattle.design_core.specs.declared.Literal.{Literal}
 use Rattle.elab_core.specs.Walk.{Walk, Gives, Faulty, Counted, ElabRange, and_then, counts}
 use Rattle.exec_core.specs.Block.{Name}
 use Rattle.elab_core.specs.Numbers.{find, without, bound, apply_op, in_range, IsInRange, AreInRange, ranged, named, number, family, index_name, fam_name, two_numbers, turn_count, turns_of, holds}
-use Rattle.design_core.specs.Design.{Gens, Read, Out, Value, Unary, Binary, Mux, Zext, Slice, Assign, Let, If, Body, Done, Otherwise}
+use Rattle.design_core.specs.Design.{Gens, Read, Out, Value, Unary, Binary, Mux, Zext, Slice, Assign, Let, If, Case, Body, Done, Otherwise, arms_from}
 use Rattle.elab_core.specs.Operators.{unary_of, binary_of}
 use Rattle.elab_core.specs.Elaborated.{added}
-use Rattle.elab_core.specs.Elab.{literal_of, literal, expr, turns, statement, statements, else_body, else_statements}
-use Rattle.elab_core.specs.Replace.{Numbers, as_int, or_name, put, put_fam, put_lit, put_expr, but, put_stmt, put_stmts, put_else, only_this, closed_stmt, closed_stmts, closed_else, closed_else_stmts, closed_body, loops_stmt, loops_stmts, loops_else}
+use Rattle.elab_core.specs.Elab.{literal_of, literal, expr, literals, part_bounds, turns, statement, statements, arm_bodies, else_body, else_statements}
+use Rattle.elab_core.specs.Replace.{Numbers, as_int, or_name, put, put_fam, put_lit, put_expr, but, put_part, put_stmt, put_stmts, put_arms, put_else, only_this, closed_stmt, closed_stmts, closed_arms, closed_else, closed_else_stmts, closed_body, loops_stmt, loops_stmts, loops_arms, loops_else}
 
 -- ---- what a walk gives
 
@@ -111,6 +112,16 @@ expr_put line gens (mux e f g) h = λ i. and_then (counts Parts line) (λ part. 
 expr_put line gens (zext e w) h = ap₂ (λ v w. and_then (counts Parts line) (λ part. and_then v (λ a. and_then w (λ n. Gives (Zext a n))))) (expr_put line gens e h) (number_put line gens w h)
 expr_put line gens (slice e t l) h = ap₂ (λ v w. and_then (counts Parts line) (λ part. and_then v (λ a. and_then w (λ pair. Gives (Slice a pair.0 pair.1))))) (expr_put line gens e h) (two_put line gens t l h)
 
+pub literals_put : (line : ℕ) (gens : Gens) (ls : List Lit) (made : List Literal) → AreInRange gens → literals line gens ls made ≡ literals line [] (map (put_lit (find gens)) ls) made
+unfolding literals
+literals_put line gens [] made h = refl
+literals_put line gens (l ∷ ls) made h = λ i. and_then (counts Parts line) (λ part. and_then (lit_put line gens l h i) (λ v. literals_put line gens ls (made ++ v ∷ []) h i))
+
+pub part_put : (line : ℕ) (gens : Gens) (p : Option (Int × Int)) → AreInRange gens → part_bounds line gens p ≡ part_bounds line [] (option_map (put_part (find gens)) p)
+unfolding part_bounds
+part_put line gens None h = refl
+part_put line gens (Some p) h = ap (λ w. and_then w (λ pair. Gives (Some pair))) (two_put line gens p.0 p.1 h)
+
 -- ---- two replacements, one after the other
 
 abbrev pub or_then : Option ℤ → Option ℤ → Option ℤ
@@ -154,6 +165,14 @@ expr_twice σ τ (mux e f g) = λ i. mux (expr_twice σ τ e i) (expr_twice σ �
 expr_twice σ τ (zext e w) = ap₂ (λ k l. zext k l) (expr_twice σ τ e) (put_twice σ τ w)
 expr_twice σ τ (slice e t l) = λ i. slice (expr_twice σ τ e i) (put_twice σ τ t i) (put_twice σ τ l i)
 
+literals_twice : (σ τ : Numbers) (ls : List Lit) → map (put_lit τ) (map (put_lit σ) ls) ≡ map (put_lit (both σ τ)) ls
+literals_twice σ τ [] = refl
+literals_twice σ τ (l ∷ ls) = ap₂ (λ a b. a ∷ b) (lit_twice σ τ l) (literals_twice σ τ ls)
+
+part_twice : (σ τ : Numbers) (p : Option (Int × Int)) → option_map (put_part τ) (option_map (put_part σ) p) ≡ option_map (put_part (both σ τ)) p
+part_twice σ τ None = refl
+part_twice σ τ (Some p) = λ i. Some (put_twice σ τ p.0 i, put_twice σ τ p.1 i)
+
 but_at : (b : Bool) (o p : Option ℤ) → or_then (if b then None else o) (if b then None else p) ≡ (if b then None else or_then o p)
 but_at true o p = refl
 but_at false o p = refl
@@ -165,11 +184,16 @@ mutual
   unfolding put_stmt
 
   stmt_twice : (σ τ : Numbers) (s : tree.Stmt) → put_stmt τ (put_stmt σ s) ≡ put_stmt (both σ τ) s
-  stmt_twice σ τ (assign line f e) = ap₂ (λ g k. assign line g k) (fam_twice σ τ f) (expr_twice σ τ e)
+  stmt_twice σ τ (assign line f p e) = λ i. assign line (fam_twice σ τ f i) (part_twice σ τ p i) (expr_twice σ τ e i)
   stmt_twice σ τ (bind line f e) = ap₂ (λ g k. bind line g k) (fam_twice σ τ f) (expr_twice σ τ e)
   stmt_twice σ τ (choose line c first second) = λ i. choose line (expr_twice σ τ c i) (stmts_twice σ τ first i) (else_twice σ τ second i)
+  stmt_twice σ τ (select line v cases other) = λ i. select line (expr_twice σ τ v i) (arms_twice σ τ cases i) (else_twice σ τ other i)
   stmt_twice σ τ (repeat line x from to body) = λ i. repeat line x (put_twice σ τ from i) (put_twice σ τ to i) ((stmts_twice (but x σ) (but x τ) body ∙ ap (λ ρ. put_stmts ρ body) (but_both x σ τ)) i)
   stmt_twice σ τ (given line left c right first second) = λ i. given line (put_twice σ τ left i) c (put_twice σ τ right i) (stmts_twice σ τ first i) (else_twice σ τ second i)
+
+  arms_twice : (σ τ : Numbers) (cases : tree.Arms) → put_arms τ (put_arms σ cases) ≡ put_arms (both σ τ) cases
+  arms_twice σ τ no_arm = refl
+  arms_twice σ τ (arm tests body more) = λ i. arm (literals_twice σ τ tests i) (stmts_twice σ τ body i) (arms_twice σ τ more i)
 
   pub stmts_twice : (σ τ : Numbers) (body : Stmts) → put_stmts τ (put_stmts σ body) ≡ put_stmts (both σ τ) body
   stmts_twice σ τ no_stmt = refl
@@ -341,12 +365,17 @@ module _ (d : ℕ) (inner : Below d) where
     unfolding statement closed_stmt put_stmt loops_stmt
 
     stmt_level : (s : tree.Stmt) (gens : Gens) (made : Body) → AreInRange gens → loops_stmt s ≤ d → statement s gens made ≡ closed_stmt (closed_body d) gens (put_stmt (find gens) s) made
-    stmt_level (assign line f e) gens made h l = ap₂ (λ v w. and_then (counts Statements line) (λ u. and_then v (λ x. and_then w (λ y. Gives (added made (Assign 0 line gens x y)))))) (fam_put line gens f h) (expr_put line gens e h)
+    stmt_level (assign line f p e) gens made h l =
+        λ j. and_then (counts Statements line) (λ u. and_then (fam_put line gens f h j) (λ x. and_then (part_put line gens p h j) (λ part. and_then (expr_put line gens e h j) (λ y. Gives (added made (Assign 0 line gens x part y))))))
     stmt_level (bind line f e) gens made h l = ap₂ (λ v w. and_then (counts Statements line) (λ u. and_then v (λ x. and_then w (λ y. Gives (added made (Let 0 line gens x y)))))) (fam_put line gens f h) (expr_put line gens e h)
     stmt_level (choose line c first second) gens made h l =
         let m : loops_stmts first ≤ d = omega arith in
         let n : loops_else second ≤ d = omega arith in
         λ j. and_then (counts Statements line) (λ u. and_then (expr_put line gens c h j) (λ test. and_then (stmts_level first gens Done h m j) (λ yes_body. and_then (else_level second gens h n j) (λ no_body. Gives (added made (If 0 line gens test yes_body no_body))))))
+    stmt_level (select line v cases other) gens made h l =
+        let m : loops_arms cases ≤ d = omega arith in
+        let n : loops_else other ≤ d = omega arith in
+        λ j. and_then (counts Statements line) (λ u. and_then (expr_put line gens v h j) (λ chosen. and_then (arms_level line cases gens [] h m j) (λ all. and_then (else_level other gens h n j) (λ last. Gives (added made (Case 0 line gens chosen (arms_from all) last))))))
     stmt_level (repeat line x from to body) gens made h l =
         let m : loops_stmts body < d = omega arith in
         same_then Both (two_numbers line gens from to) _ _ (two_yields line gens from to h) (λ range p. all_turns line x body gens made range h m p)
@@ -362,6 +391,14 @@ module _ (d : ℕ) (inner : Below d) where
         let m : loops_stmt s ≤ d = omega arith in
         let n : loops_stmts rest ≤ d = omega arith in
         λ j. and_then (stmt_level s gens made h m j) (λ more. stmts_level rest gens more h n j)
+
+    arms_level : (line : ℕ) (cases : tree.Arms) (gens : Gens) (made : List (List Literal × Body)) → AreInRange gens → loops_arms cases ≤ d
+        → arm_bodies line cases gens made ≡ closed_arms (closed_body d) line gens (put_arms (find gens) cases) made
+    arms_level line no_arm gens made h l = refl
+    arms_level line (arm tests body more) gens made h l =
+        let m : loops_stmts body ≤ d = omega arith in
+        let n : loops_arms more ≤ d = omega arith in
+        λ j. and_then (literals_put line gens tests [] h j) (λ ls. and_then (stmts_level body gens Done h m j) (λ b. arms_level line more gens (made ++ (ls, b) ∷ []) h n j))
 
     else_level : (e : tree.Else) (gens : Gens) → AreInRange gens → loops_else e ≤ d → else_body e gens ≡ closed_else (closed_body d) gens (put_else (find gens) e)
     else_level no_else gens h l = refl

@@ -7,10 +7,10 @@ use Rattle.gen_tree.specs.Tree.{Module}
 use Rattle.elab_core.specs.declared.fault.Count.TheVariants.{Cells}
 use Rattle.elab_core.specs.Walk.{Fault, too_large, limit, Seen, none_seen, judge}
 use Rattle.exec_core.specs.Block.{Name}
-use Rattle.design_core.specs.Design.{Gens, Stmt, Assign, Let, If, Body, Done, Then, Else, NoElse, Otherwise, Block, Variant}
+use Rattle.design_core.specs.Design.{Gens, Stmt, Assign, Let, If, Case, Body, Done, Then, Else, NoElse, Otherwise, Arms, NoArms, ThenArm, Block, Variant}
 use Rattle.design_core.specs.declared.Instance as design_instance
 use Rattle.design_core.specs.Design as design
-pub use Rattle.design_core.specs.Slots.{stmt_size, size, else_size, lets_of, blocks_size}
+pub use Rattle.design_core.specs.Slots.{stmt_size, size, else_size, arms_size, lets_of, blocks_size}
 use Rattle.elab_core.specs.Elaborated.{Child, Content, Instance}
 use Rattle.elab_core.specs.Elab.{top_walk}
 
@@ -72,9 +72,10 @@ elab modules top rest = unless_large (judge none_seen (top_walk modules top rest
 -- the same with slots from a number on, in preorder
 abbrev mutual
   pub numbered_stmt : ℕ → Stmt → Stmt
-  numbered_stmt k (Assign slot line gens x e) = Assign k line gens x e
+  numbered_stmt k (Assign slot line gens x part e) = Assign k line gens x part e
   numbered_stmt k (Let slot line gens x e) = Let k line gens x e
   numbered_stmt k (If slot line gens c first second) = If k line gens c (numbered (k + 1) first) (numbered_else (k + 1 + size first) second)
+  numbered_stmt k (Case slot line gens v arms other) = Case k line gens v (numbered_arms (k + 1) arms) (numbered_else (k + 1 + arms_size arms) other)
 
   pub numbered : ℕ → Body → Body
   numbered k Done = Done
@@ -83,6 +84,10 @@ abbrev mutual
   pub numbered_else : ℕ → Else → Else
   numbered_else k NoElse = NoElse
   numbered_else k (Otherwise body) = Otherwise (numbered k body)
+
+  pub numbered_arms : ℕ → Arms → Arms
+  numbered_arms k NoArms = NoArms
+  numbered_arms k (ThenArm tests body rest) = ThenArm tests (numbered k body) (numbered_arms (k + size body) rest)
 
 abbrev pub block_from : ℕ → Block → Block
 block_from k b = record b { body = numbered k b.body }

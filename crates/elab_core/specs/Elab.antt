@@ -2,7 +2,7 @@
 use Rattle.std.specs.Prelude.{ℕ, zero, suc, ◌+◌, Bool, true, false, not, ◌&&◌, ◌||◌, ℤ, pos, negsuc, ◌+ℤ◌, List, [], ◌∷◌, ◌++◌, length, Option, Some, None, is_some, if◌then◌else◌, codes, bytes_eq}
 use Rattle.std.specs.List.{flat_map}
 use Rattle.gen_tree.specs.Tree as tree
-use Rattle.gen_tree.specs.Tree.{Int, Fam, Lit, plain, bits, read, out, value, unary, binary, mux, zext, slice, assign, bind, choose, repeat, given, Stmts, no_stmt, stmt, no_else, otherwise, Param, wire, reg, inst, comb, ff, repeat_items, given_items, Items, no_item, item, ElseItems, no_else_items, otherwise_items, Port, Module}
+use Rattle.gen_tree.specs.Tree.{Int, Fam, Lit, plain, bits, read, out, value, unary, binary, mux, zext, slice, assign, bind, choose, select, repeat, given, Stmts, no_stmt, stmt, no_else, otherwise, no_arm, arm, Param, wire, reg, inst, comb, ff, repeat_items, given_items, Items, no_item, item, ElseItems, no_else_items, otherwise_items, Port, Module}
 use Rattle.elab_core.specs.declared.fault.Count.TheVariants.{Instances, Turns, Statements, Signals, Parts}
 use Rattle.elab_core.specs.Walk.{Walk, Gives, Faulty, ◌>>=◌, and_then, counts, UnknownModule, UnknownParameter, TooDeep}
 use Rattle.exec_core.specs.Block.{Name}
@@ -11,7 +11,7 @@ use Rattle.design_core.specs.declared.Literal.{Literal}
 use Rattle.design_core.specs.declared.Kind.{Kind}
 use Rattle.design_core.specs.declared.Kind.TheVariants.{Input, Output, Wire, Reg, ChildOut}
 use Rattle.design_core.specs.declared.Signal.{Signal}
-use Rattle.design_core.specs.Design.{Gens, Expr, Read, Out, Value, Unary, Binary, Mux, Zext, Slice, Assign, Let, If, Body, Done, Else, NoElse, Otherwise, Conn, Block}
+use Rattle.design_core.specs.Design.{Gens, Expr, Read, Out, Value, Unary, Binary, Mux, Zext, Slice, Assign, Let, If, Case, Body, Done, Else, NoElse, Otherwise, arms_from, Conn, Block}
 use Rattle.elab_core.specs.Operators.{unary_of, binary_of}
 use Rattle.elab_core.specs.Elaborated.{added, Child, Content, Instance}
 
@@ -67,6 +67,21 @@ expr line gens (slice e h l) = do
   pair ← two_numbers line gens h l
   Gives (Slice a pair.0 pair.1)
 
+-- the literals of an arm; each is a part
+unfoldable pub literals : ℕ → Gens → List Lit → List Literal → Walk (List Literal)
+literals line gens [] made = Gives made
+literals line gens (l ∷ ls) made = do
+  part ← counts Parts line
+  v ← literal line gens l
+  literals line gens ls (made ++ v ∷ [])
+
+-- the bounds of the part that is assigned, if there is one; they are no parts
+unfoldable pub part_bounds : ℕ → Gens → Option (Int × Int) → Walk (Option (ℤ × ℤ))
+part_bounds line gens None = Gives None
+part_bounds line gens (Some p) = do
+  pair ← two_numbers line gens p.0 p.1
+  Gives (Some pair)
+
 -- ---- loops
 
 -- one turn after another, from a number on; each is counted as it begins
@@ -81,11 +96,12 @@ turns line f k (suc count) made = do
 
 unfoldable mutual
   pub statement : tree.Stmt → Gens → Body → Walk Body
-  statement (assign line f e) gens made = do
+  statement (assign line f p e) gens made = do
     counted ← counts Statements line
     x ← fam_name line gens f
+    part ← part_bounds line gens p
     v ← expr line gens e
-    Gives (added made (Assign 0 line gens x v))
+    Gives (added made (Assign 0 line gens x part v))
   statement (bind line f e) gens made = do
     counted ← counts Statements line
     x ← fam_name line gens f
@@ -97,6 +113,12 @@ unfoldable mutual
     yes_body ← statements first gens Done
     no_body ← else_body second gens
     Gives (added made (If 0 line gens test yes_body no_body))
+  statement (select line v cases other) gens made = do
+    counted ← counts Statements line
+    chosen ← expr line gens v
+    all ← arm_bodies line cases gens []
+    last ← else_body other gens
+    Gives (added made (Case 0 line gens chosen (arms_from all) last))
   statement (repeat line x from to body) gens made = do
     range ← two_numbers line gens from to
     count ← turn_count line range.0 range.1
@@ -111,7 +133,15 @@ unfoldable mutual
     more ← statement s gens made
     statements rest gens more
 
-  -- the statements of an `else`, as a body of their own
+  -- arms, behind those that were made: of each its literals, on the line of the `case`, and its statements, as a body of their own
+  pub arm_bodies : ℕ → tree.Arms → Gens → List (List Literal × Body) → Walk (List (List Literal × Body))
+  arm_bodies line no_arm gens made = Gives made
+  arm_bodies line (arm tests body more) gens made = do
+    ls ← literals line gens tests []
+    b ← statements body gens Done
+    arm_bodies line more gens (made ++ (ls, b) ∷ [])
+
+  -- the statements of an `else` or a `default`, as a body of their own
   pub else_body : tree.Else → Gens → Walk Else
   else_body no_else gens = Gives NoElse
   else_body (otherwise body) gens = do

@@ -1,15 +1,16 @@
 -- Names replaced by numbers in a source, and elaboration by it: no name is ever looked up.
-use Rattle.std.specs.Prelude.{ℕ, zero, suc, max, ℤ, pos, negsuc, List, [], ◌∷◌, Option, Some, None, option_map, if◌then◌else◌, bytes_eq}
+use Rattle.std.specs.Prelude.{ℕ, zero, suc, max, ℤ, pos, negsuc, List, [], ◌∷◌, Option, Some, None, option_map, map, if◌then◌else◌, bytes_eq, ◌++◌}
 use Rattle.gen_tree.specs.declared.IntOp.TheVariants as int_op
 use Rattle.gen_tree.specs.Tree as tree
-use Rattle.gen_tree.specs.Tree.{Int, num, var, bin, Fam, Lit, plain, bits, read, out, value, unary, binary, mux, zext, slice, assign, bind, choose, repeat, given, Stmts, no_stmt, stmt, no_else, otherwise, Param, wire, reg, inst, comb, ff, repeat_items, given_items, Items, no_item, item, ElseItems, no_else_items, otherwise_items, Port, Module}
+use Rattle.gen_tree.specs.Tree.{Int, num, var, bin, Fam, Lit, plain, bits, read, out, value, unary, binary, mux, zext, slice, assign, bind, choose, select, repeat, given, Stmts, no_stmt, stmt, no_else, otherwise, no_arm, arm, Param, wire, reg, inst, comb, ff, repeat_items, given_items, Items, no_item, item, ElseItems, no_else_items, otherwise_items, Port, Module}
 use Rattle.elab_core.specs.declared.fault.Count.TheVariants.{Statements}
+use Rattle.design_core.specs.declared.Literal.{Literal}
 use Rattle.elab_core.specs.Walk.{Walk, Gives, ◌>>=◌, counts}
 use Rattle.exec_core.specs.Block.{Name}
 use Rattle.elab_core.specs.Numbers.{bound, fam_name, two_numbers, turn_count, holds}
-use Rattle.design_core.specs.Design.{Gens, Assign, Let, If, Body, Done, Else, NoElse, Otherwise}
+use Rattle.design_core.specs.Design.{Gens, Assign, Let, If, Case, Body, Done, Else, NoElse, Otherwise, arms_from}
 use Rattle.elab_core.specs.Elaborated.{added}
-use Rattle.elab_core.specs.Elab.{expr, turns}
+use Rattle.elab_core.specs.Elab.{expr, literals, part_bounds, turns}
 
 -- what a name stands for, if it is to be replaced
 abbrev pub Numbers : Type 0
@@ -46,15 +47,19 @@ put_expr σ (mux c a b) = mux (put_expr σ c) (put_expr σ a) (put_expr σ b)
 put_expr σ (zext a w) = zext (put_expr σ a) (put σ w)
 put_expr σ (slice a h l) = slice (put_expr σ a) (put σ h) (put σ l)
 
+abbrev pub put_part : Numbers → Int × Int → Int × Int
+put_part σ p = (put σ p.0, put σ p.1)
+
 -- inside a loop over x, x is another name
 abbrev pub but : Name → Numbers → Numbers
 but x σ y = if bytes_eq x y then None else σ y
 
 unfoldable mutual
   pub put_stmt : Numbers → tree.Stmt → tree.Stmt
-  put_stmt σ (assign line f e) = assign line (put_fam σ f) (put_expr σ e)
+  put_stmt σ (assign line f p e) = assign line (put_fam σ f) (option_map (put_part σ) p) (put_expr σ e)
   put_stmt σ (bind line f e) = bind line (put_fam σ f) (put_expr σ e)
   put_stmt σ (choose line c first second) = choose line (put_expr σ c) (put_stmts σ first) (put_else σ second)
+  put_stmt σ (select line v cases other) = select line (put_expr σ v) (put_arms σ cases) (put_else σ other)
   put_stmt σ (repeat line x from to body) = repeat line x (put σ from) (put σ to) (put_stmts (but x σ) body)
   put_stmt σ (given line left c right first second) = given line (put σ left) c (put σ right) (put_stmts σ first) (put_else σ second)
 
@@ -65,6 +70,10 @@ unfoldable mutual
   pub put_else : Numbers → tree.Else → tree.Else
   put_else σ no_else = no_else
   put_else σ (otherwise body) = otherwise (put_stmts σ body)
+
+  pub put_arms : Numbers → tree.Arms → tree.Arms
+  put_arms σ no_arm = no_arm
+  put_arms σ (arm tests body more) = arm (map (put_lit σ) tests) (put_stmts σ body) (put_arms σ more)
 
 abbrev pub put_params : Numbers → List Param → List Param
 put_params σ [] = []
@@ -106,11 +115,12 @@ only_this x n y = if bytes_eq x y then Some n else None
 module _ (turn : Gens → Stmts → Body → Walk Body) where
   unfoldable mutual
     pub closed_stmt : Gens → tree.Stmt → Body → Walk Body
-    closed_stmt shown (assign line f e) made = do
+    closed_stmt shown (assign line f p e) made = do
       counted ← counts Statements line
       x ← fam_name line [] f
+      part ← part_bounds line [] p
       v ← expr line [] e
-      Gives (added made (Assign 0 line shown x v))
+      Gives (added made (Assign 0 line shown x part v))
     closed_stmt shown (bind line f e) made = do
       counted ← counts Statements line
       x ← fam_name line [] f
@@ -122,6 +132,12 @@ module _ (turn : Gens → Stmts → Body → Walk Body) where
       yes_body ← closed_stmts shown first Done
       no_body ← closed_else shown second
       Gives (added made (If 0 line shown test yes_body no_body))
+    closed_stmt shown (select line v cases other) made = do
+      counted ← counts Statements line
+      chosen ← expr line [] v
+      all ← closed_arms line shown cases []
+      last ← closed_else shown other
+      Gives (added made (Case 0 line shown chosen (arms_from all) last))
     closed_stmt shown (repeat line x from to body) made = do
       range ← two_numbers line [] from to
       count ← turn_count line range.0 range.1
@@ -135,6 +151,13 @@ module _ (turn : Gens → Stmts → Body → Walk Body) where
     closed_stmts shown (stmt s rest) made = do
       more ← closed_stmt shown s made
       closed_stmts shown rest more
+
+    pub closed_arms : ℕ → Gens → tree.Arms → List (List Literal × Body) → Walk (List (List Literal × Body))
+    closed_arms line shown no_arm made = Gives made
+    closed_arms line shown (arm tests body more) made = do
+      ls ← literals line [] tests []
+      b ← closed_stmts shown body Done
+      closed_arms line shown more (made ++ (ls, b) ∷ [])
 
     pub closed_else : Gens → tree.Else → Walk Else
     closed_else shown no_else = Gives NoElse
@@ -154,9 +177,10 @@ closed_body (suc depth) shown body made = closed_stmts (closed_body depth) shown
 -- how deep loops nest
 unfoldable mutual
   pub loops_stmt : tree.Stmt → ℕ
-  loops_stmt (assign line f e) = 0
+  loops_stmt (assign line f p e) = 0
   loops_stmt (bind line f e) = 0
   loops_stmt (choose line c first second) = max (loops_stmts first) (loops_else second)
+  loops_stmt (select line v cases other) = max (loops_arms cases) (loops_else other)
   loops_stmt (repeat line x from to body) = suc (loops_stmts body)
   loops_stmt (given line left c right first second) = max (loops_stmts first) (loops_else second)
 
@@ -167,3 +191,7 @@ unfoldable mutual
   pub loops_else : tree.Else → ℕ
   loops_else no_else = 0
   loops_else (otherwise body) = loops_stmts body
+
+  pub loops_arms : tree.Arms → ℕ
+  loops_arms no_arm = 0
+  loops_arms (arm tests body more) = max (loops_stmts body) (loops_arms more)

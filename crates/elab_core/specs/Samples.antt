@@ -36,7 +36,7 @@ loops = record {
   name = codes "D";
   params = record { name = codes "N"; value = num 3 } ∷ [];
   ports = record { line = 2; output = false; name = codes "a"; width = num 4 } ∷ record { line = 3; output = true; name = codes "s"; width = num 4 } ∷ [];
-  items = item (comb 4 (two (assign 4 (plainly (codes "s")) (value (plain 4 0))) (repeat 4 (codes "i") (num 0) (var (codes "N")) (one_of (assign 5 (plainly (codes "s")) (binary op.Add (reads (codes "s")) (reads (codes "a")))))))) no_item;
+  items = item (comb 4 (two (assign 4 (plainly (codes "s")) None (value (plain 4 0))) (repeat 4 (codes "i") (num 0) (var (codes "N")) (one_of (assign 5 (plainly (codes "s")) None (binary op.Add (reads (codes "s")) (reads (codes "a")))))))) no_item;
 }
 
 -- the statements of each variant
@@ -85,7 +85,7 @@ leaf = record {
   name = codes "L";
   params = record { name = codes "W"; value = num 4 } ∷ [];
   ports = record { line = 2; output = false; name = codes "a"; width = var (codes "W") } ∷ record { line = 3; output = true; name = codes "y"; width = var (codes "W") } ∷ [];
-  items = item (comb 4 (two (assign 4 (plainly (codes "y")) (reads (codes "a"))) (choose 4 (reads (codes "a")) (one_of (assign 4 (plainly (codes "y")) (unary un_op.Not (reads (codes "a"))))) no_else))) no_item;
+  items = item (comb 4 (two (assign 4 (plainly (codes "y")) None (reads (codes "a"))) (choose 4 (reads (codes "a")) (one_of (assign 4 (plainly (codes "y")) None (unary un_op.Not (reads (codes "a"))))) no_else))) no_item;
 }
 
 abbrev joined : ℕ → Expr → Conn

@@ -3,20 +3,21 @@ use Rattle.std.proofs.Common.{◌≡◌, ℕ, zero, suc, ◌+◌, ◌<◌, ◌�
 use Rattle.std.proofs.lemmas.Int.{ints}
 use Rattle.std.specs.List.{slice_get, flat_map}
 use Rattle.gen_tree.specs.Tree as tree
-use Rattle.gen_tree.specs.Tree.{Fam, Int, Lit, Param, assign, bind, choose, repeat, given, Stmts, no_stmt, stmt, no_else, otherwise, wire, reg, inst, comb, ff, repeat_items, given_items, Items, no_item, item, ElseItems, no_else_items, otherwise_items, Port, Module}
+use Rattle.gen_tree.specs.Tree.{Fam, Int, Lit, Param, assign, bind, choose, select, repeat, given, Stmts, no_stmt, stmt, no_else, otherwise, no_arm, arm, wire, reg, inst, comb, ff, repeat_items, given_items, Items, no_item, item, ElseItems, no_else_items, otherwise_items, Port, Module}
 use Rattle.exec_core.specs.Block.{Name}
 use Rattle.list_core.specs.Lists.{EachOf}
 use Rattle.design_core.specs.declared.Signal.{Signal}
 use Rattle.design_core.specs.declared.Kind.{Kind}
 use Rattle.design_core.specs.declared.Kind.TheVariants.{Input, Output, Wire, Reg, ChildOut}
-use Rattle.design_core.specs.Design.{Gens, IsInRange, AreInRange, Stmt, Assign, Let, If, Body, Done, Then, Else, NoElse, Otherwise, Conn, Block}
-use Rattle.design_core.specs.Slots.{Head, heads, stmt_heads, else_heads}
+use Rattle.design_core.specs.Design.{Gens, IsInRange, AreInRange, Stmt, Assign, Let, If, Case, Body, Done, Then, Else, NoElse, Otherwise, Arms, NoArms, ThenArm, arms_from, Conn, Block}
+use Rattle.design_core.specs.declared.Literal.{Literal}
+use Rattle.design_core.specs.Slots.{Head, heads, stmt_heads, else_heads, arms_heads, arms_size}
 use Rattle.design_core.specs.WellFormed.{IfPort, IsLine, AreFew}
 use Rattle.elab_core.specs.Walk.{Walk, Gives, Faulty, Counted, and_then, ElabRange}
 use Rattle.elab_core.specs.Numbers.{bound, without, number, family, index_name, fam_name, two_numbers, turn_count, turns_of, holds}
 use Rattle.elab_core.specs.Elaborated.{added, Child, Content, Instance}
-use Rattle.elab_core.specs.Elab.{literal, expr, turns, statement, statements, else_body, else_statements, places, only, module_named, values, conns, Asked, asked, Made, nothing, with_signal, with_block, with_child, first_signals, child_of, output_as, child_outputs, port_kind, Here, Enter, register, wire_signal, item_walk, items_walk, else_walk, ports, module_walk, instance}
-use Rattle.elab_core.specs.Design.{size, stmt_size, numbered, numbered_stmt, numbered_else, numbered_blocks}
+use Rattle.elab_core.specs.Elab.{literal, literals, part_bounds, expr, turns, statement, statements, arm_bodies, else_body, else_statements, places, only, module_named, values, conns, Asked, asked, Made, nothing, with_signal, with_block, with_child, first_signals, child_of, output_as, child_outputs, port_kind, Here, Enter, register, wire_signal, item_walk, items_walk, else_walk, ports, module_walk, instance}
+use Rattle.elab_core.specs.Design.{size, stmt_size, numbered, numbered_stmt, numbered_else, numbered_arms, numbered_blocks}
 use Rattle.elab_core.proofs.Replacing.{Yields, yields_then, number_yields, two_yields, Both, turn_fine, fine_bound}
 use Rattle.elab_core.proofs.ReplacingItems.{Anything, any_yields, values_yield}
 use Rattle.elab_laws.proofs.Contents.{out, HasSome}
@@ -91,9 +92,10 @@ Stands n line = IsLine line × (n < 2 ^ 32)
 -- statements on lines, with so many generator variables at most at each, and one more in each loop
 abbrev mutual
   pub StmtOf : ℕ → tree.Stmt → Type 0
-  StmtOf n (assign line f e) = Stands n line
+  StmtOf n (assign line f p e) = Stands n line
   StmtOf n (bind line f e) = Stands n line
   StmtOf n (choose line c first second) = Stands n line × StmtsOf n first × ElseOf n second
+  StmtOf n (select line v all other) = Stands n line × ArmsOf n all × ElseOf n other
   StmtOf n (repeat line x from to body) = StmtsOf (n + 1) body
   StmtOf n (given line left c right first second) = StmtsOf n first × ElseOf n second
 
@@ -104,6 +106,10 @@ abbrev mutual
   pub ElseOf : ℕ → tree.Else → Type 0
   ElseOf n no_else = Unit {0}
   ElseOf n (otherwise body) = StmtsOf n body
+
+  pub ArmsOf : ℕ → tree.Arms → Type 0
+  ArmsOf n no_arm = Unit {0}
+  ArmsOf n (arm tests body more) = StmtsOf n body × ArmsOf n more
 
 head_fine : (n slot line : ℕ) (gens : Gens) → Stands n line → GensFine n gens → HeadFine (record { slot = slot; line = line; gens = gens })
 head_fine n slot line gens p h = (h.0, omega (arith, h.1, p.1), p.0)
@@ -120,13 +126,22 @@ added_fine (Then first rest) s h g =
 abbrev ElseFine : Else → Type 0
 ElseFine e = EachOf HeadFine (else_heads e)
 
+abbrev ArmsFine : List (List Literal × Body) → Type 0
+ArmsFine made = EachOf HeadFine (arms_heads (arms_from made))
+
+arm_added : (made : List (List Literal × Body)) (ls : List Literal) (b : Body) → ArmsFine made → BodyFine b → ArmsFine (made ++ (ls, b) ∷ [])
+arm_added [] ls b h g = both_each HeadFine (heads b) [] g tt
+arm_added (first ∷ rest) ls b h g =
+    let parts = each_parts HeadFine (heads first.1) (arms_heads (arms_from rest)) h in
+    both_each HeadFine (heads first.1) (arms_heads (arms_from (rest ++ (ls, b) ∷ []))) parts.0 (arm_added rest ls b parts.1 g)
+
 mutual
   unfolding statement Yields and_then
 
   stmt_fine : (n : ℕ) (s : tree.Stmt) (gens : Gens) (made : Body) → StmtOf n s → GensFine n gens → BodyFine made → Yields BodyFine (statement s gens made)
-  stmt_fine n (assign line f e) gens made p h g =
-      yields_then Anything BodyFine (fam_name line gens f) _ (any_yields (fam_name line gens f)) (λ x t. yields_then Anything BodyFine (expr line gens e) _ (any_yields (expr line gens e)) (λ v u.
-      added_fine made (Assign 0 line gens x v) g (head_fine n 0 line gens p h, tt)))
+  stmt_fine n (assign line f p e) gens made q h g =
+      yields_then Anything BodyFine (fam_name line gens f) _ (any_yields (fam_name line gens f)) (λ x t. yields_then Anything BodyFine (part_bounds line gens p) _ (any_yields (part_bounds line gens p)) (λ part w.
+      yields_then Anything BodyFine (expr line gens e) _ (any_yields (expr line gens e)) (λ v u. added_fine made (Assign 0 line gens x part v) g (head_fine n 0 line gens q h, tt))))
   stmt_fine n (bind line f e) gens made p h g =
       yields_then Anything BodyFine (fam_name line gens f) _ (any_yields (fam_name line gens f)) (λ x t. yields_then Anything BodyFine (expr line gens e) _ (any_yields (expr line gens e)) (λ v u.
       added_fine made (Let 0 line gens x v) g (head_fine n 0 line gens p h, tt)))
@@ -135,6 +150,11 @@ mutual
       yields_then BodyFine BodyFine (statements first gens Done) _ (stmts_fine n first gens Done p.1 h tt) (λ yes_body q.
       yields_then ElseFine BodyFine (else_body second gens) _ (else_fine n second gens p.2 h) (λ no_body r.
       added_fine made (If 0 line gens test yes_body no_body) g (head_fine n 0 line gens p.0 h, both_each HeadFine (heads yes_body) (else_heads no_body) q r))))
+  stmt_fine n (select line v all other) gens made p h g =
+      yields_then Anything BodyFine (expr line gens v) _ (any_yields (expr line gens v)) (λ value t.
+      yields_then ArmsFine BodyFine (arm_bodies line all gens []) _ (arms_fine n line all gens [] p.1 h tt) (λ cases q.
+      yields_then ElseFine BodyFine (else_body other gens) _ (else_fine n other gens p.2 h) (λ last r.
+      added_fine made (Case 0 line gens value (arms_from cases) last) g (head_fine n 0 line gens p.0 h, both_each HeadFine (arms_heads (arms_from cases)) (else_heads last) q r))))
   stmt_fine n (repeat line x from to body) gens made p h g =
       yields_then Both BodyFine (two_numbers line gens from to) _ (two_yields line gens from to h.0) (λ range q.
       yields_loop BodyFine line (λ k more. statements body (bound x k gens) more) range made q g (λ k r more u. stmts_fine (n + 1) body (bound x k gens) more p (bound_gens n x k gens h r) u))
@@ -146,6 +166,12 @@ mutual
   stmts_fine n no_stmt gens made p h g = g
   stmts_fine n (stmt s rest) gens made p h g =
       yields_then BodyFine BodyFine (statement s gens made) (λ more. statements rest gens more) (stmt_fine n s gens made p.0 h g) (λ more q. stmts_fine n rest gens more p.1 h q)
+
+  arms_fine : (n line : ℕ) (all : tree.Arms) (gens : Gens) (made : List (List Literal × Body)) → ArmsOf n all → GensFine n gens → ArmsFine made → Yields ArmsFine (arm_bodies line all gens made)
+  arms_fine n line no_arm gens made p h g = g
+  arms_fine n line (arm tests body more) gens made p h g =
+      yields_then Anything ArmsFine (literals line gens tests []) _ (any_yields (literals line gens tests [])) (λ ls t. yields_then BodyFine ArmsFine (statements body gens Done) _ (stmts_fine n body gens Done p.0 h tt) (λ b q.
+      arms_fine n line more gens (made ++ (ls, b) ∷ []) p.1 h (arm_added made ls b g q)))
 
   else_fine : (n : ℕ) (e : tree.Else) (gens : Gens) → ElseOf n e → GensFine n gens → Yields ElseFine (else_body e gens)
   else_fine n no_else gens p h = tt
@@ -414,11 +440,20 @@ mutual
       both_each HeadFine (stmt_heads (numbered_stmt k s)) (heads (numbered (k + stmt_size s) rest)) (numbered_stmt_fine k s parts.0) (numbered_fine (k + stmt_size s) rest parts.1)
 
   numbered_stmt_fine : (k : ℕ) (s : Stmt) → EachOf HeadFine (stmt_heads s) → EachOf HeadFine (stmt_heads (numbered_stmt k s))
-  numbered_stmt_fine k (Assign slot line gens x e) h = h
+  numbered_stmt_fine k (Assign slot line gens x part e) h = h
   numbered_stmt_fine k (Let slot line gens x e) h = h
   numbered_stmt_fine k (If slot line gens c first second) h =
       let parts = each_parts HeadFine (heads first) (else_heads second) h.1 in
       (h.0, both_each HeadFine (heads (numbered (k + 1) first)) (else_heads (numbered_else (k + 1 + size first) second)) (numbered_fine (k + 1) first parts.0) (numbered_else_fine (k + 1 + size first) second parts.1))
+  numbered_stmt_fine k (Case slot line gens v arms other) h =
+      let parts = each_parts HeadFine (arms_heads arms) (else_heads other) h.1 in
+      (h.0, both_each HeadFine (arms_heads (numbered_arms (k + 1) arms)) (else_heads (numbered_else (k + 1 + arms_size arms) other)) (numbered_arms_fine (k + 1) arms parts.0) (numbered_else_fine (k + 1 + arms_size arms) other parts.1))
+
+  numbered_arms_fine : (k : ℕ) (arms : Arms) → EachOf HeadFine (arms_heads arms) → EachOf HeadFine (arms_heads (numbered_arms k arms))
+  numbered_arms_fine k NoArms h = tt
+  numbered_arms_fine k (ThenArm tests body rest) h =
+      let parts = each_parts HeadFine (heads body) (arms_heads rest) h in
+      both_each HeadFine (heads (numbered k body)) (arms_heads (numbered_arms (k + size body) rest)) (numbered_fine k body parts.0) (numbered_arms_fine (k + size body) rest parts.1)
 
   numbered_else_fine : (k : ℕ) (e : Else) → EachOf HeadFine (else_heads e) → EachOf HeadFine (else_heads (numbered_else k e))
   numbered_else_fine k NoElse h = tt

@@ -3,10 +3,10 @@ use Rattle.std.proofs.Common.{◌≡◌, ℕ, zero, suc, ◌+◌, List, [], ◌�
 use Rattle.std.specs.List.{flat_map}
 use Rattle.gen_tree.specs.Tree.{Module}
 use Rattle.list_core.specs.Lists.{EachOf, from}
-use Rattle.design_core.specs.Design.{Stmt, Assign, Let, If, Body, Done, Then, Else, NoElse, Otherwise, Block}
-use Rattle.design_core.specs.Slots.{Head, heads, stmt_heads, else_heads, slots_of, AreNumbered, size, stmt_size, else_size}
+use Rattle.design_core.specs.Design.{Stmt, Assign, Let, If, Case, Body, Done, Then, Else, NoElse, Otherwise, Arms, NoArms, ThenArm, Block}
+use Rattle.design_core.specs.Slots.{Head, heads, stmt_heads, else_heads, arms_heads, slots_of, AreNumbered, size, stmt_size, else_size, arms_size}
 use Rattle.elab_core.specs.Elaborated.{Instance}
-use Rattle.elab_core.specs.Design.{numbered, numbered_stmt, numbered_else, numbered_blocks, blocks_size, numbered_variant, first_slot}
+use Rattle.elab_core.specs.Design.{numbered, numbered_stmt, numbered_else, numbered_arms, numbered_blocks, blocks_size, numbered_variant, first_slot}
 use Rattle.design_exec.proofs.Slots.{slots-append, block_heads}
 
 -- ---- numbers one after another
@@ -39,13 +39,23 @@ mutual
       joined k (stmt_size s) (size rest) (stmt_heads (numbered_stmt k s)) (heads (numbered (k + stmt_size s) rest)) (stmt_numbered k s) (numbered_slots (k + stmt_size s) rest)
 
   stmt_numbered : (k : ℕ) (s : Stmt) → slots_of (stmt_heads (numbered_stmt k s)) ≡ from k (stmt_size s)
-  stmt_numbered k (Assign slot line gens x e) = refl
+  stmt_numbered k (Assign slot line gens x part e) = refl
   stmt_numbered k (Let slot line gens x e) = refl
   stmt_numbered k (If slot line gens c first second) =
       ap (λ l. k ∷ l)
       (joined (k + 1) (size first) (else_size second) (heads (numbered (k + 1) first)) (else_heads (numbered_else (k + 1 + size first) second))
       (numbered_slots (k + 1) first) (else_numbered (k + 1 + size first) second))
       ∙ ap (from k) (sym (with_one (size first) (else_size second)))
+  stmt_numbered k (Case slot line gens v arms other) =
+      ap (λ l. k ∷ l)
+      (joined (k + 1) (arms_size arms) (else_size other) (arms_heads (numbered_arms (k + 1) arms)) (else_heads (numbered_else (k + 1 + arms_size arms) other))
+      (arms_numbered (k + 1) arms) (else_numbered (k + 1 + arms_size arms) other))
+      ∙ ap (from k) (sym (with_one (arms_size arms) (else_size other)))
+
+  arms_numbered : (k : ℕ) (arms : Arms) → slots_of (arms_heads (numbered_arms k arms)) ≡ from k (arms_size arms)
+  arms_numbered k NoArms = refl
+  arms_numbered k (ThenArm tests body rest) =
+      joined k (size body) (arms_size rest) (heads (numbered k body)) (arms_heads (numbered_arms (k + size body) rest)) (numbered_slots k body) (arms_numbered (k + size body) rest)
 
   else_numbered : (k : ℕ) (b : Else) → slots_of (else_heads (numbered_else k b)) ≡ from k (else_size b)
   else_numbered k NoElse = refl

@@ -1,13 +1,14 @@
 -- The parts of expressions are counted.
-use Rattle.std.proofs.Common.{◌≡◌, ℕ, ◌+◌, ◌≤◌, List, [], ◌∷◌, ◌++◌, ap, ◌∙◌, arith}
+use Rattle.std.proofs.Common.{◌≡◌, ℕ, ◌+◌, ◌≤◌, List, [], ◌∷◌, ◌++◌, length, length-append, ap, ◌∙◌, arith}
 use Rattle.gen_tree.specs.Tree as tree
-use Rattle.gen_tree.specs.Tree.{read, out, value, unary, binary, mux, zext, slice}
+use Rattle.gen_tree.specs.Tree.{Lit, read, out, value, unary, binary, mux, zext, slice}
 use Rattle.elab_core.specs.declared.Count.TheVariants.{Parts}
 use Rattle.elab_core.specs.Walk.{and_then, Seen, one_more}
 use Rattle.elab_core.specs.Numbers.{fam_name, number, two_numbers}
+use Rattle.design_core.specs.declared.Literal.{Literal}
 use Rattle.design_core.specs.Design.{Gens, Conn}
 use Rattle.design_core.specs.Sizes.{expr_parts, conns_parts}
-use Rattle.elab_core.specs.Elab.{literal, expr, conns}
+use Rattle.elab_core.specs.Elab.{literal, literals, expr, conns}
 use Rattle.elab_laws.proofs.Counts.{Ends, ends_then, ends_as, after_any, Rises, rises_on, stays, one_rises}
 
 -- no count falls, and so many parts are counted at least
@@ -70,3 +71,11 @@ conns_counts (c ∷ cs) gens made seen =
     ends_then _ _ (expr c.line gens c.value) _ seen (expr_counts c.line gens c.value seen) (λ s v p.
     let d : Conn = record { line = c.line; port = c.port; value = v } in
     ends_as _ _ (conns cs gens (made ++ d ∷ [])) s (conns_counts cs gens (made ++ d ∷ []) s) (λ t more q. one_conn seen s t made more d p q))
+
+-- the literals of an arm: each is a part
+pub literals_count : (line : ℕ) (gens : Gens) (ls : List Lit) (made : List Literal) (seen : Seen) → Ends (λ s more. Rises seen s × (length more + seen.parts ≤ s.parts + length made)) seen (literals line gens ls made)
+unfolding literals Ends and_then
+literals_count line gens [] made seen = (stays seen, omega arith)
+literals_count line gens (l ∷ ls) made seen =
+    after_any _ (literal line gens l) _ (one_more Parts seen) (λ s v r. ends_as _ _ (literals line gens ls (made ++ v ∷ [])) s (literals_count line gens ls (made ++ v ∷ []) s) (λ t more p.
+    (rises_on seen s t (rises_on seen (one_more Parts seen) s (one_rises Parts seen) r) p.0, omega (arith, r.parts, p.1, length-append made (v ∷ [])))))

@@ -4,13 +4,13 @@ use Rattle.std.proofs.lemmas.List.{length-map}
 use Rattle.exec_core.specs.Block.{Name}
 use Rattle.list_core.specs.Lists.{EachOf}
 use Rattle.design_core.specs.declared.Signal.{Signal}
-use Rattle.design_core.specs.Design.{Stmt, Assign, Let, If, Body, Done, Then, Else, NoElse, Otherwise, Block, Variant}
-use Rattle.design_core.specs.Slots.{stmt_size, size, else_size, let_of, lets_of, else_lets, scope, blocks_size}
-use Rattle.design_core.specs.Sizes.{expr_parts, stmt_parts, body_parts, else_parts, blocks_parts, conns_parts}
+use Rattle.design_core.specs.Design.{Stmt, Assign, Let, If, Case, Body, Done, Then, Else, NoElse, Otherwise, Arms, NoArms, ThenArm, Block, Variant}
+use Rattle.design_core.specs.Slots.{stmt_size, size, else_size, arms_size, let_of, lets_of, else_lets, arms_lets, scope, blocks_size}
+use Rattle.design_core.specs.Sizes.{expr_parts, stmt_parts, body_parts, else_parts, arms_parts, blocks_parts, conns_parts}
 use Rattle.design_core.specs.Sizes as sizes
 use Rattle.design_core.specs.WellFormed.{AreFew}
 use Rattle.elab_core.specs.Elaborated.{Child, Content, Instance}
-use Rattle.elab_core.specs.Design.{numbered, numbered_stmt, numbered_else, numbered_blocks, child_in}
+use Rattle.elab_core.specs.Design.{numbered, numbered_stmt, numbered_else, numbered_arms, numbered_blocks, child_in}
 use Rattle.elab_core.specs.Design as elab
 use Rattle.elab_laws.specs.Sizes.{children_parts}
 
@@ -20,9 +20,14 @@ mutual
   size_same k (Then s rest) = ap₂ (λ m n. m + n) (stmt_size_same k s) (size_same (k + stmt_size s) rest)
 
   stmt_size_same : (k : ℕ) (s : Stmt) → stmt_size (numbered_stmt k s) ≡ stmt_size s
-  stmt_size_same k (Assign slot line gens x e) = refl
+  stmt_size_same k (Assign slot line gens x part e) = refl
   stmt_size_same k (Let slot line gens x e) = refl
   stmt_size_same k (If slot line gens c first second) = ap₂ (λ m n. 1 + m + n) (size_same (k + 1) first) (else_size_same (k + 1 + size first) second)
+  stmt_size_same k (Case slot line gens v arms other) = ap₂ (λ m n. 1 + m + n) (arms_size_same (k + 1) arms) (else_size_same (k + 1 + arms_size arms) other)
+
+  arms_size_same : (k : ℕ) (arms : Arms) → arms_size (numbered_arms k arms) ≡ arms_size arms
+  arms_size_same k NoArms = refl
+  arms_size_same k (ThenArm tests body rest) = ap₂ (λ m n. m + n) (size_same k body) (arms_size_same (k + size body) rest)
 
   else_size_same : (k : ℕ) (e : Else) → else_size (numbered_else k e) ≡ else_size e
   else_size_same k NoElse = refl
@@ -34,9 +39,14 @@ mutual
   lets_same k (Then s rest) = ap₂ (λ (l m : List Name). l ++ m) (let_same k s) (lets_same (k + stmt_size s) rest)
 
   let_same : (k : ℕ) (s : Stmt) → let_of (numbered_stmt k s) ≡ let_of s
-  let_same k (Assign slot line gens x e) = refl
+  let_same k (Assign slot line gens x part e) = refl
   let_same k (Let slot line gens x e) = refl
   let_same k (If slot line gens c first second) = ap₂ (λ (l m : List Name). l ++ m) (lets_same (k + 1) first) (else_lets_same (k + 1 + size first) second)
+  let_same k (Case slot line gens v arms other) = ap₂ (λ (l m : List Name). l ++ m) (arms_lets_same (k + 1) arms) (else_lets_same (k + 1 + arms_size arms) other)
+
+  arms_lets_same : (k : ℕ) (arms : Arms) → arms_lets (numbered_arms k arms) ≡ arms_lets arms
+  arms_lets_same k NoArms = refl
+  arms_lets_same k (ThenArm tests body rest) = ap₂ (λ (l m : List Name). l ++ m) (lets_same k body) (arms_lets_same (k + size body) rest)
 
   else_lets_same : (k : ℕ) (e : Else) → else_lets (numbered_else k e) ≡ else_lets e
   else_lets_same k NoElse = refl
@@ -48,9 +58,14 @@ mutual
   parts_same k (Then s rest) = ap₂ (λ m n. m + n) (stmt_parts_same k s) (parts_same (k + stmt_size s) rest)
 
   stmt_parts_same : (k : ℕ) (s : Stmt) → stmt_parts (numbered_stmt k s) ≡ stmt_parts s
-  stmt_parts_same k (Assign slot line gens x e) = refl
+  stmt_parts_same k (Assign slot line gens x part e) = refl
   stmt_parts_same k (Let slot line gens x e) = refl
   stmt_parts_same k (If slot line gens c first second) = ap₂ (λ m n. expr_parts c + m + n) (parts_same (k + 1) first) (else_parts_same (k + 1 + size first) second)
+  stmt_parts_same k (Case slot line gens v arms other) = ap₂ (λ m n. expr_parts v + m + n) (arms_parts_same (k + 1) arms) (else_parts_same (k + 1 + arms_size arms) other)
+
+  arms_parts_same : (k : ℕ) (arms : Arms) → arms_parts (numbered_arms k arms) ≡ arms_parts arms
+  arms_parts_same k NoArms = refl
+  arms_parts_same k (ThenArm tests body rest) = ap₂ (λ m n. length tests + m + n) (parts_same k body) (arms_parts_same (k + size body) rest)
 
   else_parts_same : (k : ℕ) (e : Else) → else_parts (numbered_else k e) ≡ else_parts e
   else_parts_same k NoElse = refl
@@ -89,9 +104,14 @@ mutual
   lets_within (Then s rest) = omega (arith, length-append (let_of s) (lets_of rest), let_within s, lets_within rest)
 
   let_within : (s : Stmt) → length (let_of s) ≤ stmt_size s
-  let_within (Assign slot line gens x e) = omega arith
+  let_within (Assign slot line gens x part e) = omega arith
   let_within (Let slot line gens x e) = omega arith
   let_within (If slot line gens c first second) = omega (arith, length-append (lets_of first) (else_lets second), lets_within first, else_within second)
+  let_within (Case slot line gens v arms other) = omega (arith, length-append (arms_lets arms) (else_lets other), arms_within arms, else_within other)
+
+  arms_within : (arms : Arms) → length (arms_lets arms) ≤ arms_size arms
+  arms_within NoArms = omega arith
+  arms_within (ThenArm tests body rest) = omega (arith, length-append (lets_of body) (arms_lets rest), lets_within body, arms_within rest)
 
   else_within : (e : Else) → length (else_lets e) ≤ else_size e
   else_within NoElse = omega arith

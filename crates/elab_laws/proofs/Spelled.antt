@@ -13,11 +13,11 @@ use Rattle.gen_token.proofs.Beginnings.{first_of, text_begins}
 use Rattle.gen_token.proofs.ReadToken.{exact}
 use Rattle.gen_text.specs.Source.{Reads}
 use Rattle.gen_tree.specs.declared.Dialect.TheVariants as dialect
-use Rattle.gen_tree.specs.Grammar.{◌⨾◌, Single, StartsAt, Key, Sym, Each, Braces, int_op_mark, cmp_mark, SourceInt, SourceFam, SourceExpr, SpellsIndex, SpellsLit, un_op_word, op_mark, SpellsTwo, SpellsPrim, SpellsTurns, SpellsGiven, SpellsParam, SpellsParams, assign_mark, SpellsStmt, SpellsStmts, SpellsElse, SpellsConn, SpellsItem, SpellsItems, SpellsElseItems, direction, SpellsPort, SpellsModule, Spells}
-use Rattle.gen_tree.specs.Tree.{Int, num, var, bin, Fam, Lit, plain, bits, Expr, read, out, value, unary, binary, mux, zext, slice, Stmt, assign, bind, choose, repeat, given, Stmts, no_stmt, stmt, Else, no_else, otherwise, Param, Conn, Item, wire, reg, inst, comb, ff, repeat_items, given_items, Items, no_item, item, ElseItems, no_else_items, otherwise_items, Port, Module}
+use Rattle.gen_tree.specs.Grammar.{◌⨾◌, Single, StartsAt, Key, Sym, Each, Braces, int_op_mark, cmp_mark, SourceInt, SourceFam, SourceExpr, SpellsIndex, SpellsLit, un_op_word, op_mark, SpellsTwo, SpellsPrim, SpellsTurns, SpellsGiven, SpellsParam, SpellsParams, assign_mark, SpellsPart, SpellsTests, SpellsStmt, SpellsStmts, SpellsElse, SpellsDefault, SpellsArms, SpellsSomeArms, SpellsConn, SpellsItem, SpellsItems, SpellsElseItems, direction, SpellsPort, SpellsModule, Spells}
+use Rattle.gen_tree.specs.Tree.{Int, num, var, bin, Fam, Lit, plain, bits, Expr, read, out, value, unary, binary, mux, zext, slice, Stmt, assign, bind, choose, select, repeat, given, Stmts, no_stmt, stmt, Else, no_else, otherwise, Arms, no_arm, arm, Param, Conn, Item, wire, reg, inst, comb, ff, repeat_items, given_items, Items, no_item, item, ElseItems, no_else_items, otherwise_items, Port, Module}
 use Rattle.list_core.specs.Lists.{EachOf}
 use Rattle.design_core.specs.WellFormed.{IsLine}
-use Rattle.elab_laws.proofs.Fine.{Stands, StmtOf, StmtsOf, ElseOf, most_params, ItemOf, ItemsOf, ElseItemsOf, PortOf, ModuleOf}
+use Rattle.elab_laws.proofs.Fine.{Stands, StmtOf, StmtsOf, ElseOf, ArmsOf, most_params, ItemOf, ItemsOf, ElseItemsOf, PortOf, ModuleOf}
 
 -- what holds of tokens, and then of those behind the first of them
 pub record Falls : Type 1 where
@@ -112,11 +112,20 @@ params P (p ∷ ps) = record {
   on = λ ts rest s h. (mark_of P mark.LeftParen ▷ param P p ▷ each P (λ q. Sym mark.Comma ⨾ SpellsParam q) (λ q. mark_of P mark.Comma ▷ param P q) ps ▷ mark_of P mark.RightParen).on ts rest s h;
 }
 
+part : (P : Falls) (p : Option (Int × Int)) → Keeps P (SpellsPart p)
+part P None = record { on = λ ts rest e h. subst P.holds e h }
+part P (Some p) = record { on = λ ts rest s h. (mark_of P mark.LeftBracket ▷ int P p.0 ▷ mark_of P mark.Colon ▷ int P p.1 ▷ mark_of P mark.RightBracket).on ts rest s h }
+
+tests_of : (P : Falls) (ls : List Lit) → Keeps P (SpellsTests ls)
+tests_of P [] = record { on = λ ts rest s h. absurd s }
+tests_of P (l ∷ ls) = record { on = λ ts rest s h. (lit P l ▷ each P (λ k. Sym mark.Comma ⨾ SpellsLit dialect.Source k) (λ k. mark_of P mark.Comma ▷ lit P k) ls).on ts rest s h }
+
 mutual
   statement : (P : Falls) (clocked : Bool) (s : Stmt) → Keeps P (SpellsStmt clocked s)
-  statement P clocked (assign line f e) = record { on = λ ts rest s h. (fam P f ▷ mark_of P (assign_mark clocked) ▷ expr P e ▷ mark_of P mark.Semicolon).on ts rest s.1 h }
+  statement P clocked (assign line f p e) = record { on = λ ts rest s h. (fam P f ▷ part P p ▷ mark_of P (assign_mark clocked) ▷ expr P e ▷ mark_of P mark.Semicolon).on ts rest s.1 h }
   statement P clocked (bind line f e) = record { on = λ ts rest s h. (key P keyword.Let ▷ fam P f ▷ mark_of P mark.Equals ▷ expr P e ▷ mark_of P mark.Semicolon).on ts rest s.1 h }
   statement P clocked (choose line c a b) = record { on = λ ts rest s h. (key P keyword.If ▷ expr P c ▷ braces P (statements P clocked a) ▷ else_part P clocked b).on ts rest s.1 h }
+  statement P clocked (select line v cases other) = record { on = λ ts rest s h. (key P keyword.Case ▷ expr P v ▷ braces P (some_arms P clocked cases ▷ default_part P clocked other)).on ts rest s.1 h }
   statement P clocked (repeat line x a b body) = record { on = λ ts rest s h. (loop P x a b ▷ braces P (statements P clocked body)).on ts rest s.1 h }
   statement P clocked (given line a c b first second) = record { on = λ ts rest s h. (either P a c b ▷ braces P (statements P clocked first) ▷ else_part P clocked second).on ts rest s.1 h }
 
@@ -127,6 +136,18 @@ mutual
   else_part : (P : Falls) (clocked : Bool) (e : Else) → Keeps P (SpellsElse clocked e)
   else_part P clocked no_else = record { on = λ ts rest e h. subst P.holds e h }
   else_part P clocked (otherwise body) = record { on = λ ts rest s h. (key P keyword.Else ▷ braces P (statements P clocked body)).on ts rest s h }
+
+  default_part : (P : Falls) (clocked : Bool) (e : Else) → Keeps P (SpellsDefault clocked e)
+  default_part P clocked no_else = record { on = λ ts rest e h. subst P.holds e h }
+  default_part P clocked (otherwise body) = record { on = λ ts rest s h. (key P keyword.Default ▷ braces P (statements P clocked body)).on ts rest s h }
+
+  arm_list : (P : Falls) (clocked : Bool) (cases : Arms) → Keeps P (SpellsArms clocked cases)
+  arm_list P clocked no_arm = record { on = λ ts rest e h. subst P.holds e h }
+  arm_list P clocked (arm tests body more) = record { on = λ ts rest s h. ((tests_of P tests ▷ mark_of P mark.Colon ▷ braces P (statements P clocked body)) ▷ arm_list P clocked more).on ts rest s h }
+
+  some_arms : (P : Falls) (clocked : Bool) (cases : Arms) → Keeps P (SpellsSomeArms clocked cases)
+  some_arms P clocked no_arm = record { on = λ ts rest s h. absurd s }
+  some_arms P clocked (arm tests body more) = record { on = λ ts rest s h. ((tests_of P tests ▷ mark_of P mark.Colon ▷ braces P (statements P clocked body)) ▷ arm_list P clocked more).on ts rest s h }
 
 -- ---- items
 
@@ -206,7 +227,7 @@ in_loop n x a b ts rest s h =
 
 mutual
   stmt_of : (n : ℕ) (clocked : Bool) (s : Stmt) (ts rest : List Tok) → SpellsStmt clocked s ts rest → AreSound n ts → StmtOf n s
-  stmt_of n clocked (assign line f e) ts rest s h = here n line ts s.0 h
+  stmt_of n clocked (assign line f p e) ts rest s h = here n line ts s.0 h
   stmt_of n clocked (bind line f e) ts rest s h = here n line ts s.0 h
   stmt_of n clocked (choose line c first second) ts rest s h =
       let P = sound n in
@@ -219,6 +240,18 @@ mutual
         here n line ts s.0 h,
         stmts_of n clocked first body.0 inner.0 inner.1 ((mark_of P mark.LeftBrace).on q.0 body.0 body.1 before),
         else_of n clocked second r.0 rest r.2 ((braces P (statements P clocked first)).on q.0 r.0 r.1 before),
+      )
+  stmt_of n clocked (select line v cases other) ts rest s h =
+      let P = sound n in
+      let p = s.1 in
+      let q = p.2 in
+      let body = q.2 in
+      let inner = body.2 in
+      let split = inner.1 in
+      let at_arms = (mark_of P mark.LeftBrace).on q.0 body.0 body.1 ((key P keyword.Case ▷ expr P v).on ts q.0 (p.0, p.1, q.1) h) in (
+        here n line ts s.0 h,
+        some_arms_of n clocked cases body.0 split.0 split.1 at_arms,
+        default_of n clocked other split.0 inner.0 split.2 ((some_arms P clocked cases).on body.0 split.0 split.1 at_arms),
       )
   stmt_of n clocked (repeat line x a b body) ts rest s h =
       let p = s.1 in
@@ -245,6 +278,38 @@ mutual
       let q = s.2 in
       let r = q.2 in
       stmts_of n clocked body q.0 r.0 r.1 ((mark_of P mark.LeftBrace).on s.0 q.0 q.1 ((key P keyword.Else).on ts s.0 s.1 h))
+
+  default_of : (n : ℕ) (clocked : Bool) (e : Else) (ts rest : List Tok) → SpellsDefault clocked e ts rest → AreSound n ts → ElseOf n e
+  default_of n clocked no_else ts rest s h = tt
+  default_of n clocked (otherwise body) ts rest s h =
+      let P = sound n in
+      let q = s.2 in
+      let r = q.2 in
+      stmts_of n clocked body q.0 r.0 r.1 ((mark_of P mark.LeftBrace).on s.0 q.0 q.1 ((key P keyword.Default).on ts s.0 s.1 h))
+
+  arms_of : (n : ℕ) (clocked : Bool) (cases : Arms) (ts rest : List Tok) → SpellsArms clocked cases ts rest → AreSound n ts → ArmsOf n cases
+  arms_of n clocked no_arm ts rest s h = tt
+  arms_of n clocked (arm tests body more) ts rest s h =
+      let P = sound n in
+      let first = s.1 in
+      let colon = first.2 in
+      let brace = colon.2 in
+      let inner = brace.2 in (
+        stmts_of n clocked body brace.0 inner.0 inner.1 ((mark_of P mark.LeftBrace).on colon.0 brace.0 brace.1 ((tests_of P tests ▷ mark_of P mark.Colon).on ts colon.0 (first.0, first.1, colon.1) h)),
+        arms_of n clocked more s.0 rest s.2 ((tests_of P tests ▷ mark_of P mark.Colon ▷ braces P (statements P clocked body)).on ts s.0 s.1 h),
+      )
+
+  some_arms_of : (n : ℕ) (clocked : Bool) (cases : Arms) (ts rest : List Tok) → SpellsSomeArms clocked cases ts rest → AreSound n ts → ArmsOf n cases
+  some_arms_of n clocked no_arm ts rest s h = absurd s
+  some_arms_of n clocked (arm tests body more) ts rest s h =
+      let P = sound n in
+      let first = s.1 in
+      let colon = first.2 in
+      let brace = colon.2 in
+      let inner = brace.2 in (
+        stmts_of n clocked body brace.0 inner.0 inner.1 ((mark_of P mark.LeftBrace).on colon.0 brace.0 brace.1 ((tests_of P tests ▷ mark_of P mark.Colon).on ts colon.0 (first.0, first.1, colon.1) h)),
+        arms_of n clocked more s.0 rest s.2 ((tests_of P tests ▷ mark_of P mark.Colon ▷ braces P (statements P clocked body)).on ts s.0 s.1 h),
+      )
 
 conns_of : (n : ℕ) (cs : List Conn) (ts rest : List Tok) → Each SpellsConn cs ts rest → AreSound n ts → EachOf (λ (c : Conn). IsLine c.line) cs
 conns_of n [] ts rest s h = tt

@@ -3,24 +3,26 @@ use Rattle.std.proofs.Common.{◌≡◌, ℕ, ◌+◌, ◌*◌, ◌<◌, ◌≤�
 use Rattle.std.proofs.lemmas.List.{drop_more, length-map}
 use Rattle.std.proofs.Math.ListN.{drop_of_length-le}
 use Rattle.design_core.specs.declared.Stmt as code_stmt
+use Rattle.design_core.specs.declared.statement.Arm as code_arm
 use Rattle.design_core.specs.declared.Block as code_block
-use Rattle.design_core.specs.Design.{Stmt, Assign, Let, If, Body, Done, Then, Else, NoElse, Otherwise, Block}
-use Rattle.design_core.specs.Slots.{lets_of, let_of, else_lets}
-use Rattle.design_core.specs.View.{stmt_of, body_of, block_of}
+use Rattle.design_core.specs.Design.{Stmt, Assign, Let, If, Case, Body, Done, Then, Else, NoElse, Otherwise, Arms, NoArms, ThenArm, Block}
+use Rattle.design_core.specs.Slots.{lets_of, let_of, else_lets, arms_lets}
+use Rattle.design_core.specs.View.{stmt_of, body_of, arms_of, block_of}
 use Rattle.elab_core.specs.declared.Instance as code_instance
 use Rattle.elab_core.specs.Elaborated.{Content}
 use Rattle.elab_core.specs.declared.Content as code_content_type
 use Rattle.elab_core.specs.View.{content_of, instance_of}
-use Rattle.elab_core.specs.Design.{size, stmt_size, else_size, block_cells, blocks_cells, blocks_size, cells}
+use Rattle.elab_core.specs.Design.{size, stmt_size, else_size, arms_size, block_cells, blocks_cells, blocks_size, cells}
 use Rattle.gen_elab.specs.Offsets.{all_statements}
-use Rattle.gen_elab.proofs.SizeLemmas.{size_next, blocks_next}
+use Rattle.gen_elab.proofs.SizeLemmas.{size_next, arms_next, blocks_next}
 
 -- lets are statements
 mutual
   let_few : (s : Stmt) → length (let_of s) ≤ stmt_size s
-  let_few (Assign slot line gens x e) = omega arith
+  let_few (Assign slot line gens x part e) = omega arith
   let_few (Let slot line gens x e) = omega arith
   let_few (If slot line gens c first second) = omega (arith, lets_few first, else_few second, length-append (lets_of first) (else_lets second))
+  let_few (Case slot line gens v arms other) = omega (arith, arm_few arms, else_few other, length-append (arms_lets arms) (else_lets other))
 
   pub lets_few : (body : Body) → length (lets_of body) ≤ size body
   lets_few Done = omega arith
@@ -29,6 +31,10 @@ mutual
   else_few : (e : Else) → length (else_lets e) ≤ else_size e
   else_few NoElse = omega arith
   else_few (Otherwise body) = lets_few body
+
+  pub arm_few : (arms : Arms) → length (arms_lets arms) ≤ arms_size arms
+  arm_few NoArms = omega arith
+  arm_few (ThenArm tests body rest) = omega (arith, lets_few body, arm_few rest, length-append (lets_of body) (arms_lets rest))
 
 pub lets_next : (body : List code_stmt.Stmt) (i : ℕ) (s : code_stmt.Stmt) → i < length body → s ≡ get_or body i s
     → length (lets_of (body_of (drop i body))) ≡ length (let_of (stmt_of s)) + length (lets_of (body_of (drop (i + 1) body)))
@@ -39,6 +45,23 @@ lets_next body i s below at =
 
 pub lets_end : (body : List code_stmt.Stmt) (i : ℕ) → length body ≤ i → length (lets_of (body_of (drop i body))) ≡ 0
 lets_end body i past = ap (λ (l : List code_stmt.Stmt). length (lets_of (body_of l))) (drop_of_length-le body past)
+
+pub arm_lets_next : (arms : List code_arm.Arm) (i : ℕ) (a : code_arm.Arm) → i < length arms → a ≡ get_or arms i a
+    → length (arms_lets (arms_of (drop i arms))) ≡ length (lets_of (body_of a.body.items)) + length (arms_lets (arms_of (drop (i + 1) arms)))
+arm_lets_next arms i a below at =
+    ap (λ (l : List code_arm.Arm). length (arms_lets (arms_of l))) (drop_more arms i a below)
+    ∙ length-append (lets_of (body_of (get_or arms i a).body.items)) (arms_lets (arms_of (drop (i + 1) arms)))
+    ∙ ap (λ (x : code_arm.Arm). length (lets_of (body_of x.body.items)) + length (arms_lets (arms_of (drop (i + 1) arms)))) (sym at)
+
+pub arm_lets_end : (arms : List code_arm.Arm) (i : ℕ) → length arms ≤ i → length (arms_lets (arms_of (drop i arms))) ≡ 0
+arm_lets_end arms i past = ap (λ (l : List code_arm.Arm). length (arms_lets (arms_of l))) (drop_of_length-le arms past)
+
+pub case_lets : (arms : Arms) (other : Else) → length (arms_lets arms ++ else_lets other) ≡ length (arms_lets arms) + length (else_lets other)
+case_lets arms other = length-append (arms_lets arms) (else_lets other)
+
+-- one arm is no more than those that are left, and those after it are fewer
+pub arm_left : (arms : List code_arm.Arm) (i all : ℕ) (a : code_arm.Arm) → i < length arms → a ≡ get_or arms i a → arms_size (arms_of (drop i arms)) ≤ all → size (body_of a.body.items) + arms_size (arms_of (drop (i + 1) arms)) ≤ all
+arm_left arms i all a below at h = omega (arith, h, arms_next arms i a below at)
 
 pub if_lets : (first : Body) (second : Else) → length (lets_of first ++ else_lets second) ≡ length (lets_of first) + length (else_lets second)
 if_lets first second = length-append (lets_of first) (else_lets second)
@@ -112,4 +135,4 @@ pub code_blocks : (c : code_content_type.Content) → (content_of c).blocks ≡ 
 unfolding content_of
 code_blocks c = refl
 
-pub ruleset cell_steps = (lets_next, lets_end, if_lets, lets_few, size_left)
+pub ruleset cell_steps = (lets_next, lets_end, arm_lets_next, arm_lets_end, if_lets, case_lets, lets_few, arm_few, size_left, arm_left)

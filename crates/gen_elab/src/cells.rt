@@ -1,12 +1,12 @@
 ghost use Rattle.std.specs.Prelude.{◌≡◌, ◌+◌, ◌*◌, ◌<◌, ◌≤◌, ◌^◌, min, nat_lt, length, map};
-ghost use Rattle.design_core.specs.Slots.{lets_of, let_of, else_lets};
-ghost use Rattle.design_core.specs.View.{block_of, body_of, else_of, stmt_of};
-ghost use Rattle.elab_core.specs.Design.{blocks_cells, blocks_size, cells, size, stmt_size, else_size};
+ghost use Rattle.design_core.specs.Slots.{arms_lets, lets_of, let_of, else_lets};
+ghost use Rattle.design_core.specs.View.{arms_of, block_of, body_of, else_of, stmt_of};
+ghost use Rattle.elab_core.specs.Design.{arms_size, blocks_cells, blocks_size, cells, size, stmt_size, else_size};
 ghost use Rattle.elab_core.specs.View.{content_of, instance_of};
 ghost use Rattle.gen_elab.specs.Offsets.{all_statements};
 
 use crate::sizes::count;
-use design_core::{Block, Stmt};
+use design_core::{Arm, Block, Stmt};
 use elab_core::{Content, Instance};
 
 /// The most cells that a design has.
@@ -41,10 +41,29 @@ fn stmt_lets(stmt: &Stmt) -> u32
             let second = count_else_lets(no);
             first + second
         }
+        Stmt::Case { arms, other, .. } => {
+            let first = count_arm_lets(arms);
+            let second = count_else_lets(other);
+            first + second
+        }
     }
 }
 
-/// How many lets an `else` holds, if one stands there.
+/// How many lets arms have.
+#[cycle(lets)]
+#[tactic(auto, using(crate::proofs::CellLemmas::cell_steps))]
+fn count_arm_lets(arms: &[Arm]) -> u32
+    requires { arms_size (arms_of arms.now) < 2 ^ 32 }
+    ensures { result ≡ length (arms_lets (arms_of arms.now)) }
+{
+    let mut total = 0;
+    for arm in arms {
+        total += count_lets(&arm.body);
+    }
+    total
+}
+
+/// How many lets an `else` or a default holds, if one stands there.
 #[cycle(lets)]
 fn count_else_lets(no: &Option<Vec<Stmt>>) -> u32
     requires { else_size (else_of no.now) < 2 ^ 32 }

@@ -1,8 +1,8 @@
 ghost use Rattle.std.specs.Prelude.{◌≡◌, ◌<◌, ◌^◌, map};
-ghost use Rattle.design_core.specs.View.{block_of, body_of, else_of, stmt_of};
-ghost use Rattle.elab_core.specs.Design.{blocks_size, size, else_size, stmt_size};
+ghost use Rattle.design_core.specs.View.{arms_of, block_of, body_of, else_of, stmt_of};
+ghost use Rattle.elab_core.specs.Design.{arms_size, blocks_size, size, else_size, stmt_size};
 
-use design_core::{Block, Stmt};
+use design_core::{Arm, Block, Stmt};
 
 /// How many statements stand in a body, with those inside others.
 #[cycle(counting)]
@@ -33,10 +33,29 @@ fn count_stmt(stmt: &Stmt) -> u32
             let second = count_else(no);
             1 + first + second
         }
+        Stmt::Case { arms, other, .. } => {
+            let first = count_arms(arms);
+            let second = count_else(other);
+            1 + first + second
+        }
     }
 }
 
-/// How many statements an `else` holds, if one stands there.
+/// How many statements arms have.
+#[cycle(counting)]
+#[tactic(auto, using(crate::proofs::SizeLemmas::sizes))]
+fn count_arms(arms: &[Arm]) -> u32
+    requires { arms_size (arms_of arms.now) < 2 ^ 32 }
+    ensures { result ≡ arms_size (arms_of arms.now) }
+{
+    let mut total = 0;
+    for arm in arms {
+        total += count(&arm.body);
+    }
+    total
+}
+
+/// How many statements an `else` or a default holds, if one stands there.
 #[cycle(counting)]
 fn count_else(no: &Option<Vec<Stmt>>) -> u32
     requires { else_size (else_of no.now) < 2 ^ 32 }

@@ -2,10 +2,10 @@
 
 ghost use Rattle.std.specs.Prelude.{◌≡◌, ◌+◌, ◌<◌, ◌^◌};
 ghost use Rattle.design_core.specs.Design as design;
-ghost use Rattle.design_core.specs.View.{body_of, else_of, expr_of, stmt_of};
-ghost use Rattle.elab_core.specs.Design.{size, else_size, stmt_size, numbered, numbered_else, numbered_stmt};
+ghost use Rattle.design_core.specs.View.{arm_of, arms_of, body_of, else_of, expr_of, stmt_of};
+ghost use Rattle.elab_core.specs.Design.{size, arms_size, else_size, stmt_size, numbered, numbered_arms, numbered_else, numbered_stmt};
 
-use design_core::{Expr, Stmt};
+use design_core::{Arm, Expr, Stmt};
 use gen_scope::Scope;
 use std::alloc::Global;
 use std::mem;
@@ -25,14 +25,22 @@ fn nothing(alloc: Global) -> Stmt {
 
 /// An assignment.
 #[tactic(auto, using(design_core::proofs::Views::design_views))]
-fn assignment(slot: u32, line: u32, gens: Scope, target: Text, value: Expr) -> Stmt
-    ensures { stmt_of result ≡ design.Assign slot line gens target (expr_of value) }
+fn assignment(
+    slot: u32,
+    line: u32,
+    gens: Scope,
+    target: Text,
+    part: Option<(i64, i64)>,
+    value: Expr,
+) -> Stmt
+    ensures { stmt_of result ≡ design.Assign slot line gens target part (expr_of value) }
 {
     Stmt::Assign {
         slot,
         line,
         gens,
         target,
+        part,
         value,
     }
 }
@@ -73,6 +81,28 @@ fn choice(
     }
 }
 
+/// A `case`.
+#[tactic(auto, using(design_core::proofs::Views::design_views))]
+fn selection(
+    slot: u32,
+    line: u32,
+    gens: Scope,
+    value: Expr,
+    arms: Vec<Arm>,
+    other: Option<Vec<Stmt>>,
+) -> Stmt
+    ensures { stmt_of result ≡ design.Case slot line gens (expr_of value) (arms_of arms.items) (else_of other) }
+{
+    Stmt::Case {
+        slot,
+        line,
+        gens,
+        value,
+        arms,
+        other,
+    }
+}
+
 /// Gives the statements of a body their slots from this one on, in preorder, and answers the slot behind them.
 #[cycle(numbering)]
 pub(crate) fn number(alloc: Global, body: &mut [Stmt], first: u32) -> u32
@@ -103,9 +133,13 @@ fn number_stmt(alloc: Global, stmt: Stmt, first: u32) -> (Stmt, u32)
             line,
             gens,
             target,
+            part,
             value,
             ..
-        } => (assignment(first, line, gens, target, value), first + 1),
+        } => (
+            assignment(first, line, gens, target, part, value),
+            first + 1,
+        ),
         Stmt::Let {
             line,
             gens,
@@ -121,6 +155,14 @@ fn number_stmt(alloc: Global, stmt: Stmt, first: u32) -> (Stmt, u32)
             no,
             ..
         } => number_if(alloc, first, line, gens, test, yes, no),
+        Stmt::Case {
+            line,
+            gens,
+            value,
+            arms,
+            other,
+            ..
+        } => number_case(alloc, first, line, gens, value, arms, other),
     }
 }
 
@@ -144,7 +186,51 @@ fn number_if(
     (choice(slot, line, gens, test, yes, no), after)
 }
 
-/// The same for what an `else` holds, if one stands there.
+/// A `case` with this slot, those inside it with the next ones, and the slot behind them.
+#[cycle(numbering)]
+fn number_case(
+    alloc: Global,
+    slot: u32,
+    line: u32,
+    gens: Scope,
+    value: Expr,
+    mut arms: Vec<Arm>,
+    other: Option<Vec<Stmt>>,
+) -> (Stmt, u32)
+    requires { slot + (1 + arms_size (arms_of arms.items) + else_size (else_of other)) < 2 ^ 32 }
+    ensures slots { stmt_of result.0 ≡ design.Case slot line gens (expr_of value) (numbered_arms (slot + 1) (arms_of arms.items)) (numbered_else (slot + 1 + arms_size (arms_of arms.items)) (else_of other)) }
+    ensures next { result.1 ≡ slot + (1 + arms_size (arms_of arms.items) + else_size (else_of other)) }
+{
+    let next = number_arms(alloc, &mut arms, slot + 1);
+    let (other, after) = number_else(alloc, other, next);
+    (selection(slot, line, gens, value, arms, other), after)
+}
+
+/// The same for arms, one after another.
+#[cycle(numbering)]
+fn number_arms(alloc: Global, arms: &mut [Arm], first: u32) -> u32
+    requires { first + arms_size (arms_of arms.old) < 2 ^ 32 }
+    ensures slots { arms_of arms.new ≡ numbered_arms first (arms_of arms.old) }
+    ensures next { result ≡ first + arms_size (arms_of arms.old) }
+{
+    let mut next = first;
+    for index in 0..arms.len() {
+        next = number_arm(alloc, &mut arms[index], next);
+    }
+    next
+}
+
+/// The same for an arm.
+#[cycle(numbering)]
+fn number_arm(alloc: Global, arm: &mut Arm, first: u32) -> u32
+    requires { first + size (arm_of arm.old).1 < 2 ^ 32 }
+    ensures slots { arm_of arm.new ≡ ((arm_of arm.old).0, numbered first (arm_of arm.old).1) }
+    ensures next { result ≡ first + size (arm_of arm.old).1 }
+{
+    number(alloc, &mut arm.body, first)
+}
+
+/// The same for what an `else` or a default holds, if one stands there.
 #[cycle(numbering)]
 fn number_else(alloc: Global, no: Option<Vec<Stmt>>, first: u32) -> (Option<Vec<Stmt>>, u32)
     requires { first + else_size (else_of no) < 2 ^ 32 }

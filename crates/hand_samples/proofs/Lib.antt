@@ -2,3 +2,4 @@ mod Defaults
 mod Stimuli
 mod Dumps
 mod Removed
+mod Cases

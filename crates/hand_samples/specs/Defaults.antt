@@ -29,7 +29,7 @@ valued = record {
       ∷ by_default (codes "C") (bin int_op.Sub (var (codes "B")) (var (codes "A")))
       ∷ [];
   ports = record { line = 2; output = true; name = codes "y"; width = var (codes "C") } ∷ [];
-  items = item (comb 3 (stmt (assign 3 (record { name = codes "y"; index = None }) (value (bits (var (codes "C")) (var (codes "B"))))) no_stmt)) no_item;
+  items = item (comb 3 (stmt (assign 3 (record { name = codes "y"; index = None }) None (value (bits (var (codes "C")) (var (codes "B"))))) no_stmt)) no_item;
 }
 
 -- the arguments are computed from the loop variable and the parameter of the module that the instances stand in
@@ -71,7 +71,7 @@ made path a b c = (
   path,
   gens a b c,
   pos c ∷ [],
-  Then (Assign 0 3 (gens a b c) (codes "y") (Value (record { width = pos c; negative = false; value = b }))) Done ∷ [],
+  Then (Assign 0 3 (gens a b c) (codes "y") None (Value (record { width = pos c; negative = false; value = b }))) Done ∷ [],
 )
 
 -- the top with this number, whose signals are the outputs of its children

@@ -2,3 +2,4 @@ pub mod Defaults
 pub mod Stimuli
 pub mod Dumps
 pub mod Removed
+pub mod Cases

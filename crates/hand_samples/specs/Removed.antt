@@ -49,12 +49,12 @@ driving = record {
   body =
       body (Let 0 6 gens (codes "k") (Value (literal 3))
       ∷ Let 1 7 gens (codes "t") (Binary two.Add (reads (codes "x")) (reads (codes "r")))
-      ∷ Assign 2 8 gens (codes "y") (reads (codes "x"))
+      ∷ Assign 2 8 gens (codes "y") None (reads (codes "x"))
       ∷ []);
 }
 
 abbrev pub counting : Block
-counting = record { line = 9; clocked = true; body = body (Assign 3 10 gens (codes "r") (Binary two.Add (reads (codes "r")) (Value (literal 1))) ∷ []) }
+counting = record { line = 9; clocked = true; body = body (Assign 3 10 gens (codes "r") None (Binary two.Add (reads (codes "r")) (Value (literal 1))) ∷ []) }
 
 -- the output needs neither `t` nor `r`; `k` is a constant
 abbrev pub top : Variant

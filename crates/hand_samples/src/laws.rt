@@ -4,6 +4,7 @@ ghost use Rattle.hand_samples.specs.Defaults.{DefaultsAreSeen};
 ghost use Rattle.hand_samples.specs.Stimuli.{StimuliAreRead, StimuliAreRefused};
 ghost use Rattle.hand_samples.specs.Dumps.{DumpIsRead, DumpsAreRefused};
 ghost use Rattle.hand_samples.specs.Removed.{IsKeptByHand, IsTrailByHand, RunsByHand};
+ghost use Rattle.hand_samples.specs.Cases.{CasesRunByHand, IsCasesTrailByHand, IsElaboratedByHand};
 
 /// Parameters of instances: defaults that name an earlier parameter, arguments computed where the `inst` stands. The walk
 /// and substitution both give them, and both refuse a default that names a later parameter and an argument that names one of the
@@ -31,4 +32,12 @@ pub fn keeps_by_hand()
     ensures kept { IsKeptByHand }
     ensures runs { RunsByHand }
     ensures trail { IsTrailByHand }
+{}
+
+/// A `case` whose arms assign a part of a signal: the design that its source is elaborated to, a run of two cycles, which an
+/// arm of two literals and the default take, and their trail in both modes. Computes nothing.
+pub fn cases_by_hand()
+    ensures elaborated { IsElaboratedByHand }
+    ensures runs { CasesRunByHand }
+    ensures trail { IsCasesTrailByHand }
 {}

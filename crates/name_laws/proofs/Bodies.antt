@@ -5,20 +5,21 @@ use Rattle.std.proofs.lemmas.Fmt.{IsAscii-decimal}
 use Rattle.std.proofs.lemmas.Str.{IsUtf8-append, IsUtf8-from_ascii}
 use Rattle.json.proofs.Printed.Utf8.{IsUtf8-are_ascii}
 use Rattle.gen_tree.specs.Tree as tree
-use Rattle.gen_tree.specs.Tree.{Int, Fam, assign, bind, choose, repeat, given, Stmts, no_stmt, stmt, no_else, otherwise}
+use Rattle.gen_tree.specs.Tree.{Int, Fam, assign, bind, choose, select, repeat, given, Stmts, no_stmt, stmt, no_else, otherwise, no_arm, arm}
 use Rattle.exec_core.specs.Block.{Name}
 use Rattle.list_core.specs.Lists.{EachOf}
-use Rattle.design_core.specs.Design.{Gens, IsInRange, AreInRange, Stmt, Assign, Let, If, Body, Done, Then, Else}
-use Rattle.design_core.specs.Slots.{Head, heads, stmt_heads, else_heads, let_of, lets_of, else_lets}
+use Rattle.design_core.specs.Design.{Gens, IsInRange, AreInRange, Stmt, Assign, Let, If, Case, Body, Done, Then, Else, arms_from}
+use Rattle.design_core.specs.declared.Literal.{Literal}
+use Rattle.design_core.specs.Slots.{Head, heads, stmt_heads, else_heads, arms_heads, let_of, lets_of, else_lets, arms_lets}
 use Rattle.elab_core.specs.Walk.{Walk, Gives, Faulty, and_then, ElabRange}
 use Rattle.elab_core.specs.Numbers.{bound, without, number, family, index_name, fam_name, two_numbers, turn_count, turns_of, holds}
 use Rattle.elab_core.specs.Elaborated.{added}
-use Rattle.elab_core.specs.Elab.{expr, turns, statement, statements, else_body, else_statements}
+use Rattle.elab_core.specs.Elab.{literals, part_bounds, expr, turns, statement, statements, arm_bodies, else_body, else_statements}
 use Rattle.elab_core.proofs.Replacing.{Yields, yields_then, number_yields, two_yields, Both, turn_fine, fine_bound}
 use Rattle.elab_core.proofs.ReplacingItems.{Anything, any_yields}
 use Rattle.elab_laws.proofs.Fine.{both_each, each_parts}
 use Rattle.name_laws.specs.Texts.{GensAreTexts}
-use Rattle.name_laws.proofs.Source.{StmtNamed, StmtsNamed, ElseNamed}
+use Rattle.name_laws.proofs.Source.{StmtNamed, StmtsNamed, ElseNamed, ArmsNamed}
 
 -- ---- loops
 
@@ -120,13 +121,22 @@ added_named (Then first rest) s h g =
     let parts = parts_named (stmt_heads first) (heads rest) (let_of first) (lets_of rest) h in
     both_named (stmt_heads first) (heads (added rest s)) (let_of first) (lets_of (added rest s)) parts.0 (added_named rest s parts.1 g)
 
+abbrev CasesNamed : List (List Literal × Body) → Type 0
+CasesNamed made = AllNamed (arms_heads (arms_from made)) (arms_lets (arms_from made))
+
+case_added : (made : List (List Literal × Body)) (ls : List Literal) (b : Body) → CasesNamed made → BodyNamed b → CasesNamed (made ++ (ls, b) ∷ [])
+case_added [] ls b h g = both_named (heads b) [] (lets_of b) [] g none_named
+case_added (first ∷ rest) ls b h g =
+    let parts = parts_named (heads first.1) (arms_heads (arms_from rest)) (lets_of first.1) (arms_lets (arms_from rest)) h in
+    both_named (heads first.1) (arms_heads (arms_from (rest ++ (ls, b) ∷ []))) (lets_of first.1) (arms_lets (arms_from (rest ++ (ls, b) ∷ []))) parts.0 (case_added rest ls b parts.1 g)
+
 mutual
   unfolding statement Yields and_then
 
   stmt_named : (s : tree.Stmt) (gens : Gens) (made : Body) → StmtNamed s → GensNamed gens → BodyNamed made → Yields BodyNamed (statement s gens made)
-  stmt_named (assign line f e) gens made p h g =
-      yields_then Anything BodyNamed (fam_name line gens f) _ (any_yields (fam_name line gens f)) (λ x t. yields_then Anything BodyNamed (expr line gens e) _ (any_yields (expr line gens e)) (λ v u.
-      added_named made (Assign 0 line gens x v) g (record { gens = (h.1, tt); lets = tt })))
+  stmt_named (assign line f p e) gens made q h g =
+      yields_then Anything BodyNamed (fam_name line gens f) _ (any_yields (fam_name line gens f)) (λ x t. yields_then Anything BodyNamed (part_bounds line gens p) _ (any_yields (part_bounds line gens p)) (λ part w.
+      yields_then Anything BodyNamed (expr line gens e) _ (any_yields (expr line gens e)) (λ v u. added_named made (Assign 0 line gens x part v) g (record { gens = (h.1, tt); lets = tt }))))
   stmt_named (bind line f e) gens made p h g =
       yields_then IsUtf8 BodyNamed (fam_name line gens f) _ (fam_text line gens f p h.0) (λ x t. yields_then Anything BodyNamed (expr line gens e) _ (any_yields (expr line gens e)) (λ v u.
       added_named made (Let 0 line gens x v) g (record { gens = (h.1, tt); lets = (t, tt) })))
@@ -136,6 +146,12 @@ mutual
       yields_then BranchNamed BodyNamed (else_body second gens) _ (else_named second gens p.1 h) (λ no_body r.
       let inner = both_named (heads yes_body) (else_heads no_body) (lets_of yes_body) (else_lets no_body) q r in
       added_named made (If 0 line gens test yes_body no_body) g (record { gens = (h.1, inner.gens); lets = inner.lets }))))
+  stmt_named (select line v all other) gens made p h g =
+      yields_then Anything BodyNamed (expr line gens v) _ (any_yields (expr line gens v)) (λ value t.
+      yields_then CasesNamed BodyNamed (arm_bodies line all gens []) _ (arms_named line all gens [] p.0 h none_named) (λ cases q.
+      yields_then BranchNamed BodyNamed (else_body other gens) _ (else_named other gens p.1 h) (λ last r.
+      let inner = both_named (arms_heads (arms_from cases)) (else_heads last) (arms_lets (arms_from cases)) (else_lets last) q r in
+      added_named made (Case 0 line gens value (arms_from cases) last) g (record { gens = (h.1, inner.gens); lets = inner.lets }))))
   stmt_named (repeat line x from to body) gens made p h g =
       yields_then Both BodyNamed (two_numbers line gens from to) _ (two_yields line gens from to h.0) (λ range q.
       yields_loop BodyNamed line (λ k more. statements body (bound x k gens) more) range made q g (λ k r more u. stmts_named body (bound x k gens) more p.1 (bound_named x k gens p.0 h r) u))
@@ -147,6 +163,12 @@ mutual
   stmts_named no_stmt gens made p h g = g
   stmts_named (stmt s rest) gens made p h g =
       yields_then BodyNamed BodyNamed (statement s gens made) (λ more. statements rest gens more) (stmt_named s gens made p.0 h g) (λ more q. stmts_named rest gens more p.1 h q)
+
+  arms_named : (line : ℕ) (all : tree.Arms) (gens : Gens) (made : List (List Literal × Body)) → ArmsNamed all → GensNamed gens → CasesNamed made → Yields CasesNamed (arm_bodies line all gens made)
+  arms_named line no_arm gens made p h g = g
+  arms_named line (arm tests body more) gens made p h g =
+      yields_then Anything CasesNamed (literals line gens tests []) _ (any_yields (literals line gens tests [])) (λ ls t. yields_then BodyNamed CasesNamed (statements body gens Done) _ (stmts_named body gens Done p.0 h none_named) (λ b q.
+      arms_named line more gens (made ++ (ls, b) ∷ []) p.1 h (case_added made ls b g q)))
 
   else_named : (e : tree.Else) (gens : Gens) → ElseNamed e → GensNamed gens → Yields BranchNamed (else_body e gens)
   else_named no_else gens p h = none_named

@@ -7,13 +7,13 @@ use Rattle.exec_core.specs.Block.{Name}
 use Rattle.list_core.specs.Lists.{EachOf}
 use Rattle.design_core.specs.declared.Instance.{Instance as Placed}
 use Rattle.design_core.specs.declared.Signal.{Signal}
-use Rattle.design_core.specs.Design.{Gens, Stmt, Assign, Let, If, Body, Done, Then, Else, NoElse, Otherwise, Block, Variant, Design}
-use Rattle.design_core.specs.Slots.{Head, heads, stmt_heads, else_heads, let_of, lets_of, else_lets, scope}
+use Rattle.design_core.specs.Design.{Gens, Stmt, Assign, Let, If, Case, Body, Done, Then, Else, NoElse, Otherwise, Arms, NoArms, ThenArm, Block, Variant, Design}
+use Rattle.design_core.specs.Slots.{Head, heads, stmt_heads, else_heads, arms_heads, arms_size, let_of, lets_of, else_lets, arms_lets, scope}
 use Rattle.elab_core.specs.Walk.{Fault, Seen, none_seen, judge, too_large}
 use Rattle.elab_core.specs.declared.Count.TheVariants.{Cells}
 use Rattle.elab_core.specs.Elaborated.{Instance}
 use Rattle.elab_core.specs.Elab.{top_walk}
-use Rattle.elab_core.specs.Design.{size, stmt_size, numbered, numbered_stmt, numbered_else, numbered_blocks, variant_of, firsts, variants_of, name_at, first_slot, numbered_variant, instance_in, designed, cells, unless_large, design_from}
+use Rattle.elab_core.specs.Design.{size, stmt_size, numbered, numbered_stmt, numbered_else, numbered_arms, numbered_blocks, variant_of, firsts, variants_of, name_at, first_slot, numbered_variant, instance_in, designed, cells, unless_large, design_from}
 use Rattle.elab_laws.proofs.Fine.{both_each}
 use Rattle.name_laws.specs.Texts.{VariantHasTexts, HasTexts, NamesAreTexts}
 use Rattle.name_laws.proofs.Source.{ModuleNamed}
@@ -42,9 +42,14 @@ mutual
   same_lets k (Then s rest) = ap₂ (λ (x y : List Name). x ++ y) (stmt_lets k s) (same_lets (k + stmt_size s) rest)
 
   stmt_lets : (k : ℕ) (s : Stmt) → let_of (numbered_stmt k s) ≡ let_of s
-  stmt_lets k (Assign slot line gens x e) = refl
+  stmt_lets k (Assign slot line gens x part e) = refl
   stmt_lets k (Let slot line gens x e) = refl
   stmt_lets k (If slot line gens c first second) = ap₂ (λ (x y : List Name). x ++ y) (same_lets (k + 1) first) (branch_lets (k + 1 + size first) second)
+  stmt_lets k (Case slot line gens v arms other) = ap₂ (λ (x y : List Name). x ++ y) (lets_in (k + 1) arms) (branch_lets (k + 1 + arms_size arms) other)
+
+  lets_in : (k : ℕ) (arms : Arms) → arms_lets (numbered_arms k arms) ≡ arms_lets arms
+  lets_in k NoArms = refl
+  lets_in k (ThenArm tests body rest) = ap₂ (λ (x y : List Name). x ++ y) (same_lets k body) (lets_in (k + size body) rest)
 
   branch_lets : (k : ℕ) (e : Else) → else_lets (numbered_else k e) ≡ else_lets e
   branch_lets k NoElse = refl
@@ -62,11 +67,20 @@ mutual
       both_each HeadNamed (stmt_heads (numbered_stmt k s)) (heads (numbered (k + stmt_size s) rest)) (stmt_same k s parts.0) (same_heads (k + stmt_size s) rest parts.1)
 
   stmt_same : (k : ℕ) (s : Stmt) → EachOf HeadNamed (stmt_heads s) → EachOf HeadNamed (stmt_heads (numbered_stmt k s))
-  stmt_same k (Assign slot line gens x e) h = h
+  stmt_same k (Assign slot line gens x part e) h = h
   stmt_same k (Let slot line gens x e) h = h
   stmt_same k (If slot line gens c first second) h =
       let parts = each_parts HeadNamed (heads first) (else_heads second) h.1 in
       (h.0, both_each HeadNamed (heads (numbered (k + 1) first)) (else_heads (numbered_else (k + 1 + size first) second)) (same_heads (k + 1) first parts.0) (branch_same (k + 1 + size first) second parts.1))
+  stmt_same k (Case slot line gens v arms other) h =
+      let parts = each_parts HeadNamed (arms_heads arms) (else_heads other) h.1 in
+      (h.0, both_each HeadNamed (arms_heads (numbered_arms (k + 1) arms)) (else_heads (numbered_else (k + 1 + arms_size arms) other)) (arms_same (k + 1) arms parts.0) (branch_same (k + 1 + arms_size arms) other parts.1))
+
+  arms_same : (k : ℕ) (arms : Arms) → EachOf HeadNamed (arms_heads arms) → EachOf HeadNamed (arms_heads (numbered_arms k arms))
+  arms_same k NoArms h = tt
+  arms_same k (ThenArm tests body rest) h =
+      let parts = each_parts HeadNamed (heads body) (arms_heads rest) h in
+      both_each HeadNamed (heads (numbered k body)) (arms_heads (numbered_arms (k + size body) rest)) (same_heads k body parts.0) (arms_same (k + size body) rest parts.1)
 
   branch_same : (k : ℕ) (e : Else) → EachOf HeadNamed (else_heads e) → EachOf HeadNamed (else_heads (numbered_else k e))
   branch_same k NoElse h = tt

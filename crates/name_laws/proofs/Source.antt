@@ -1,15 +1,16 @@
 -- What it is that the names of a source are texts.
 use Rattle.std.proofs.Common.{IsUtf8}
 use Rattle.gen_tree.specs.Tree as tree
-use Rattle.gen_tree.specs.Tree.{assign, bind, choose, repeat, given, Stmts, no_stmt, stmt, no_else, otherwise, Param, wire, reg, inst, comb, ff, repeat_items, given_items, Items, no_item, item, ElseItems, no_else_items, otherwise_items, Port, Module}
+use Rattle.gen_tree.specs.Tree.{assign, bind, choose, select, repeat, given, Stmts, no_stmt, stmt, no_else, otherwise, no_arm, arm, Param, wire, reg, inst, comb, ff, repeat_items, given_items, Items, no_item, item, ElseItems, no_else_items, otherwise_items, Port, Module}
 use Rattle.list_core.specs.Lists.{EachOf}
 
 -- the names of `let`s and of the variables of loops
 abbrev mutual
   pub StmtNamed : tree.Stmt → Type 0
-  StmtNamed (assign line f e) = Unit {0}
+  StmtNamed (assign line f p e) = Unit {0}
   StmtNamed (bind line f e) = IsUtf8 f.name
   StmtNamed (choose line c first second) = StmtsNamed first × ElseNamed second
+  StmtNamed (select line v all other) = ArmsNamed all × ElseNamed other
   StmtNamed (repeat line x from to body) = IsUtf8 x × StmtsNamed body
   StmtNamed (given line left c right first second) = StmtsNamed first × ElseNamed second
 
@@ -20,6 +21,10 @@ abbrev mutual
   pub ElseNamed : tree.Else → Type 0
   ElseNamed no_else = Unit {0}
   ElseNamed (otherwise body) = StmtsNamed body
+
+  pub ArmsNamed : tree.Arms → Type 0
+  ArmsNamed no_arm = Unit {0}
+  ArmsNamed (arm tests body more) = StmtsNamed body × ArmsNamed more
 
 -- and those of signals and instances
 abbrev mutual

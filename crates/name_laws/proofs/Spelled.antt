@@ -17,10 +17,10 @@ use Rattle.gen_token.specs.Words.{Word, Name, Number, Literal, Reserved, Sign, T
 use Rattle.gen_token.proofs.ReadToken.{exact}
 use Rattle.gen_text.specs.Source.{Reads}
 use Rattle.gen_tree.specs.declared.Dialect.TheVariants as dialect
-use Rattle.gen_tree.specs.Grammar.{Span, ◌⨾◌, Single, Key, Sym, Each, Braces, int_op_mark, cmp_mark, SourceInt, SourceFam, SourceExpr, SpellsIndex, SpellsLit, un_op_word, op_mark, SpellsTwo, SpellsPrim, SpellsTurns, SpellsGiven, SpellsParam, SpellsMoreParams, SpellsParams, assign_mark, SpellsStmt, SpellsStmts, SpellsElse, SpellsConn, SpellsItem, SpellsItems, SpellsElseItems, direction, SpellsPort, SpellsModule, Spells}
-use Rattle.gen_tree.specs.Tree.{Int, num, var, bin, Fam, Lit, plain, bits, Expr, read, out, value, unary, binary, mux, zext, slice, Stmt, assign, bind, choose, repeat, given, Stmts, no_stmt, stmt, Else, no_else, otherwise, Param, Conn, Item, wire, reg, inst, comb, ff, repeat_items, given_items, Items, no_item, item, ElseItems, no_else_items, otherwise_items, Port, Module}
+use Rattle.gen_tree.specs.Grammar.{Span, ◌⨾◌, Single, Key, Sym, Each, Braces, int_op_mark, cmp_mark, SourceInt, SourceFam, SourceExpr, SpellsIndex, SpellsLit, un_op_word, op_mark, SpellsTwo, SpellsPrim, SpellsTurns, SpellsGiven, SpellsParam, SpellsMoreParams, SpellsParams, assign_mark, SpellsPart, SpellsTests, SpellsStmt, SpellsStmts, SpellsElse, SpellsDefault, SpellsArms, SpellsSomeArms, SpellsConn, SpellsItem, SpellsItems, SpellsElseItems, direction, SpellsPort, SpellsModule, Spells}
+use Rattle.gen_tree.specs.Tree.{Int, num, var, bin, Fam, Lit, plain, bits, Expr, read, out, value, unary, binary, mux, zext, slice, Stmt, assign, bind, choose, select, repeat, given, Stmts, no_stmt, stmt, Else, no_else, otherwise, Arms, no_arm, arm, Param, Conn, Item, wire, reg, inst, comb, ff, repeat_items, given_items, Items, no_item, item, ElseItems, no_else_items, otherwise_items, Port, Module}
 use Rattle.gen_tree.specs.declared.Cmp.{Cmp}
-use Rattle.name_laws.proofs.Source.{StmtNamed, StmtsNamed, ElseNamed, ItemNamed, ItemsNamed, ElseItemsNamed, ParamNamed, PortNamed, ModuleNamed}
+use Rattle.name_laws.proofs.Source.{StmtNamed, StmtsNamed, ElseNamed, ArmsNamed, ItemNamed, ItemsNamed, ElseItemsNamed, ParamNamed, PortNamed, ModuleNamed}
 
 -- ---- bytes
 
@@ -163,11 +163,20 @@ loop x a b = giving (λ x. x.1.0) (key keyword.For ▷ single (Name x) ▷ key k
 choice : (a : Int) (c : Cmp) (b : Int) → Gives (SpellsGiven a c b) (Unit {0})
 choice a c b = nothing (key keyword.Gen ▷ key keyword.If ▷ sign mark.LeftParen ▷ int a ▷ sign (cmp_mark c) ▷ int b ▷ sign mark.RightParen)
 
+part : (p : Option (Int × Int)) → Gives (SpellsPart p) (Unit {0})
+part None ts rest h w = (tt, subst Named h w)
+part (Some p) ts rest h w = nothing (sign mark.LeftBracket ▷ int p.0 ▷ sign mark.Colon ▷ int p.1 ▷ sign mark.RightBracket) ts rest h w
+
+tests_of : (ls : List Lit) → Gives (SpellsTests ls) (Unit {0})
+tests_of [] ts rest h w = absurd h
+tests_of (l ∷ ls) ts rest h w = nothing (lit l ▷ each (λ k. Sym mark.Comma ⨾ SpellsLit dialect.Source k) (λ k. Unit {0}) (λ k. nothing (sign mark.Comma ▷ lit k)) ls) ts rest h w
+
 mutual
   statement : (clocked : Bool) (s : Stmt) → Gives (SpellsStmt clocked s) (StmtNamed s)
-  statement clocked (assign line f e) = λ ts rest h w. nothing (fam f ▷ sign (assign_mark clocked) ▷ expr e ▷ sign mark.Semicolon) ts rest h.1 w
+  statement clocked (assign line f p e) = λ ts rest h w. nothing (fam f ▷ part p ▷ sign (assign_mark clocked) ▷ expr e ▷ sign mark.Semicolon) ts rest h.1 w
   statement clocked (bind line f e) = λ ts rest h w. giving (λ x. x.1.0) (key keyword.Let ▷ fam f ▷ sign mark.Equals ▷ expr e ▷ sign mark.Semicolon) ts rest h.1 w
   statement clocked (choose line c a b) = λ ts rest h w. giving (λ x. x.1.1) (key keyword.If ▷ expr c ▷ braces (statements clocked a) ▷ else_part clocked b) ts rest h.1 w
+  statement clocked (select line v cases other) = λ ts rest h w. giving (λ x. x.1.1) (key keyword.Case ▷ expr v ▷ braces (some_arms clocked cases ▷ default_part clocked other)) ts rest h.1 w
   statement clocked (repeat line x a b body) = λ ts rest h w. (loop x a b ▷ braces (statements clocked body)) ts rest h.1 w
   statement clocked (given line a c b first second) = λ ts rest h w. giving (λ x. x.1) (choice a c b ▷ braces (statements clocked first) ▷ else_part clocked second) ts rest h.1 w
 
@@ -178,6 +187,18 @@ mutual
   else_part : (clocked : Bool) (e : Else) → Gives (SpellsElse clocked e) (ElseNamed e)
   else_part clocked no_else = λ ts rest h w. (tt, subst Named h w)
   else_part clocked (otherwise body) = λ ts rest h w. giving (λ x. x.1) (key keyword.Else ▷ braces (statements clocked body)) ts rest h w
+
+  default_part : (clocked : Bool) (e : Else) → Gives (SpellsDefault clocked e) (ElseNamed e)
+  default_part clocked no_else = λ ts rest h w. (tt, subst Named h w)
+  default_part clocked (otherwise body) = λ ts rest h w. giving (λ x. x.1) (key keyword.Default ▷ braces (statements clocked body)) ts rest h w
+
+  arm_list : (clocked : Bool) (cases : Arms) → Gives (SpellsArms clocked cases) (ArmsNamed cases)
+  arm_list clocked no_arm = λ ts rest h w. (tt, subst Named h w)
+  arm_list clocked (arm tests body more) = λ ts rest h w. (giving (λ x. x.1.1) (tests_of tests ▷ sign mark.Colon ▷ braces (statements clocked body)) ▷ arm_list clocked more) ts rest h w
+
+  some_arms : (clocked : Bool) (cases : Arms) → Gives (SpellsSomeArms clocked cases) (ArmsNamed cases)
+  some_arms clocked no_arm = λ ts rest h w. absurd h
+  some_arms clocked (arm tests body more) = λ ts rest h w. (giving (λ x. x.1.1) (tests_of tests ▷ sign mark.Colon ▷ braces (statements clocked body)) ▷ arm_list clocked more) ts rest h w
 
 -- ---- items
 
