@@ -4,7 +4,7 @@ use Rattle.std.specs.List.{list_any}
 use Rattle.design_core.specs.declared.variant.Signal.{Signal}
 use Rattle.design_core.specs.declared.variant.Kind.{Kind}
 use Rattle.design_core.specs.declared.variant.Kind.TheVariants.{Input, Output, Wire, Reg, ChildOut}
-use Rattle.design_core.specs.Design.{Expr, Read, Out, Value, Unary, Binary, Mux, Zext, Slice, Stmt, Assign, Let, If, Conn, Child, Block, Variant}
+use Rattle.design_core.specs.Design.{Expr, Read, Out, Value, Unary, Binary, Mux, Zext, Slice, Stmt, Assign, Let, If, Case, Conn, Child, Block, Variant}
 use Rattle.check_core.specs.declared.fault.CheckFault.{CheckFault}
 use Rattle.check_core.specs.declared.fault.CheckFault.TheVariants.{UnknownName, DuplicateName}
 use Rattle.check_core.specs.declared.kinds.Kinds.{Kinds}
@@ -99,9 +99,10 @@ unknown_read scope lets line (Slice e h l) = unknown_read scope lets line e
 
 -- a statement without those inside it, where these names may be assigned: its expression, then its target
 abbrev pub unknown_in : Scope → Known → Known → Stmt → Option CheckFault
-unknown_in scope assigned lets (Assign slot line gens x e) = earlier (unknown_read scope lets line e) (unless_known (assigned x) (UnknownName (spot line x)))
+unknown_in scope assigned lets (Assign slot line gens x part e) = earlier (unknown_read scope lets line e) (unless_known (assigned x) (UnknownName (spot line x)))
 unknown_in scope assigned lets (Let slot line gens x e) = unknown_read scope lets line e
 unknown_in scope assigned lets (If slot line gens c first second) = unknown_read scope lets line c
+unknown_in scope assigned lets (Case slot line gens v arms other) = unknown_read scope lets line v
 
 -- one name more, if there is one
 abbrev pub with_name : Option Name → Known → Known

@@ -4,7 +4,7 @@ use Rattle.design_core.specs.declared.expr.Literal.{Literal}
 use Rattle.design_core.specs.declared.variant.Signal.{Signal}
 use Rattle.design_core.specs.declared.variant.Kind.{Kind}
 use Rattle.design_core.specs.declared.variant.Kind.TheVariants.{Input, Output, ChildOut}
-use Rattle.design_core.specs.Design.{Expr, Read, Value, Stmt, Assign, Let, If, Body, Done, Then, NoElse, Conn, Block, Variant, Design}
+use Rattle.design_core.specs.Design.{Expr, Read, Value, Stmt, Assign, Let, If, Case, Body, body, Done, Then, NoElse, Otherwise, arms_from, Conn, Block, Variant, Design}
 use Rattle.check_core.specs.declared.fault.Spot.{Spot}
 use Rattle.check_core.specs.declared.fault.CheckFault.TheVariants.{UnknownName, DuplicateName, BadWidth, UnknownPort, UnboundInput, WidthMismatch, TwoDrivers, Undriven, Latch, ReadBeforeWrite}
 use Rattle.names.specs.Known.{Name}
@@ -17,7 +17,7 @@ abbrev literal : ℕ → ℕ → Literal
 literal w n = record { width = pos w; negative = false; value = n }
 
 abbrev set : Name → Expr → Stmt
-set x e = Assign 0 1 [] x e
+set x e = Assign 0 1 [] x None e
 
 abbrev named : Name → Expr → Stmt
 named x e = Let 0 1 [] x e
@@ -145,3 +145,41 @@ unknown_port_is_refused = verdict (above (to a ∷ to (codes "b") ∷ to (codes 
 
 abbrev pub connected_is_accepted : Type 0
 connected_is_accepted = verdict (above (to a ∷ to (codes "b") ∷ [])) ≡ None
+
+-- ---- parts and arms
+
+abbrev s : Name
+s = codes "s"
+
+abbrev z : Name
+z = codes "z"
+
+abbrev set_part : Name → ℕ → ℕ → Expr → Stmt
+set_part x h l e = Assign 0 1 [] x (Some (pos h, pos l)) e
+
+-- case s { 2'd0: { y[7:4] = 4'h0; } 2'd1, 2'd2: { y[7:4] = a; } default { .. } }
+abbrev by_s : Body → Stmt
+by_s other =
+    Case 0 1 [] (Read s)
+    (arms_from ((literal 2 0 ∷ [], just (set_part y 7 4 (Value (literal 4 0)))) ∷ (literal 2 1 ∷ literal 2 2 ∷ [], just (set_part y 7 4 (Read a))) ∷ []))
+    (Otherwise other)
+
+-- module X { input s : 2; input a : 4; output y : 8; output z : 8; comb { .. } }
+abbrev of_parts : List Stmt → Design
+of_parts stmts = design (signal s Input 2 ∷ signal a Input 4 ∷ signal y Output 8 ∷ signal z Output 8 ∷ []) (comb (body stmts) ∷ [])
+
+-- y[3:0] = a; case s { .. default { y = 8'hff; } } z = y;
+abbrev pub parts_are_accepted : Type 0
+parts_are_accepted = verdict (of_parts (set_part y 3 0 (Read a) ∷ by_s (just (set y (Value (literal 8 255)))) ∷ set z (Read y) ∷ [])) ≡ None
+
+-- the default leaves bits 7 to 4
+abbrev pub part_is_refused : Type 0
+part_is_refused = verdict (of_parts (set_part y 3 0 (Read a) ∷ by_s Done ∷ set z (Value (literal 8 0)) ∷ [])) ≡ Some (Latch (at y))
+
+-- y[3:0] = a; z = y; and the rest of y behind it
+abbrev pub early_part_is_refused : Type 0
+early_part_is_refused = verdict (of_parts (set_part y 3 0 (Read a) ∷ set z (Read y) ∷ set_part y 7 4 (Read a) ∷ [])) ≡ Some (ReadBeforeWrite (at y))
+
+-- y[8:5] = a;
+abbrev pub high_part_is_refused : Type 0
+high_part_is_refused = verdict (of_parts (set_part y 8 5 (Read a) ∷ set y (Value (literal 8 0)) ∷ set z (Read y) ∷ [])) ≡ Some (WidthMismatch (at y) 8 9)

@@ -1,5 +1,6 @@
 -- Widths that are no widths, and widths that do not go together.
-use Rattle.std.specs.Prelude.{◌≡◌, ℕ, ◌+◌, ◌-◌, ◌^◌, ℤ, pos, int_le, Bool, true, false, ◌&&◌, not, ◌==◌, nat_le, nat_lt, bytes_eq, List, [], ◌∷◌, Option, Some, None, Result, Ok, Err, unwrap_or, if◌then◌else◌, codes}
+use Rattle.std.specs.Prelude.{◌≡◌, ℕ, ◌+◌, ◌-◌, ◌^◌, ℤ, pos, int_le, Bool, true, false, ◌&&◌, not, ◌==◌, nat_le, nat_lt, bytes_eq, List, [], ◌∷◌, ◌++◌, Option, Some, None, Result, Ok, Err, unwrap_or, if◌then◌else◌, codes}
+use Rattle.std.specs.List.{list_all}
 use Rattle.design_core.specs.declared.expr.UnOp.{UnOp}
 use Rattle.design_core.specs.declared.expr.UnOp.TheVariants as one
 use Rattle.design_core.specs.declared.expr.Op.{Op}
@@ -8,7 +9,7 @@ use Rattle.design_core.specs.declared.expr.Literal.{Literal}
 use Rattle.design_core.specs.declared.variant.Signal.{Signal}
 use Rattle.design_core.specs.declared.variant.Kind.{Kind}
 use Rattle.design_core.specs.declared.variant.Kind.TheVariants.{Input, Output, Wire, Reg, ChildOut}
-use Rattle.design_core.specs.Design.{Expr, Read, Out, Value, Unary, Binary, Mux, Zext, Slice, Stmt, Assign, Let, If, Conn, Child, Block, Variant}
+use Rattle.design_core.specs.Design.{Expr, Read, Out, Value, Unary, Binary, Mux, Zext, Slice, Stmt, Assign, Let, If, Case, Arms, NoArms, ThenArm, Conn, Child, Block, Variant}
 use Rattle.check_core.specs.declared.fault.CheckFault.{CheckFault}
 use Rattle.check_core.specs.declared.fault.CheckFault.TheVariants.{BadWidth, WidthMismatch}
 use Rattle.check_core.specs.declared.fault.Clash.{Clash}
@@ -64,11 +65,22 @@ bad_signal s = unless_sized (is_declared s.kind s.width) s.line s.name
 abbrev pub bad_conn : Conn → Option CheckFault
 bad_conn c = unless_sized (is_sized c.value) c.line c.port
 
+-- the bounds of what is assigned
+abbrev pub is_part : Option (ℤ × ℤ) → Bool
+is_part None = true
+is_part (Some bounds) = is_slice bounds.0 bounds.1
+
+-- the literals of the arms of a `case`, arm by arm
+abbrev pub arm_literals : Arms → List Literal
+arm_literals NoArms = []
+arm_literals (ThenArm tests body rest) = tests ++ arm_literals rest
+
 -- a statement without those inside it
 abbrev pub bad_stmt : Stmt → Option CheckFault
-bad_stmt (Assign slot line gens x e) = unless_sized (is_sized e) line x
+bad_stmt (Assign slot line gens x part e) = unless_sized (is_sized e && is_part part) line x
 bad_stmt (Let slot line gens x e) = unless_sized (is_sized e) line x
 bad_stmt (If slot line gens c first second) = unless_sized (is_sized c) line (codes "if")
+bad_stmt (Case slot line gens v arms other) = unless_sized (is_sized v && list_all is_literal (arm_literals arms)) line (codes "case")
 
 abbrev pub bad_in_child : Child → Option CheckFault
 bad_in_child c = first_of bad_conn c.conns
@@ -208,11 +220,33 @@ signal_mismatch s = mismatch s.line s.name (start_width s.kind (bits s.width))
 abbrev pub conn_mismatch : Widths → Widths → Conn → Option CheckFault
 conn_mismatch widths ports c = mismatch c.line c.port (needed (width_of ports c.port) (width_in widths c.value))
 
--- a statement without those inside it: its expression, then its target
+-- the width of what is assigned, of a target of this width
+abbrev pub part_width : ℕ → Option (ℤ × ℤ) → Result ℕ Clash
+part_width w None = Ok w
+part_width w (Some bounds) = slice_width w (bits bounds.0) (bits bounds.1)
+
+-- a width that has to be the other, which is judged behind it
+abbrev pub needed_by : Result ℕ Clash → Result ℕ Clash → Result ℕ Clash
+needed_by (Ok want) (Ok have) = needed_width want have
+needed_by (Err found) (Ok have) = Err found
+needed_by want (Err found) = Err found
+
+-- literals that have to have this width
+abbrev pub literals_width : ℕ → List Literal → Result ℕ Clash
+literals_width w [] = Ok w
+literals_width w (l ∷ rest) = if bits l.width == w then literals_width w rest else clash (bits l.width) w
+
+-- those of the arms of a `case` have that of its value
+abbrev pub arms_width : Result ℕ Clash → List Literal → Result ℕ Clash
+arms_width (Ok w) literals = literals_width w literals
+arms_width (Err found) literals = Err found
+
+-- a statement without those inside it: its expression, then the literals of arms, then its target
 abbrev pub stmt_mismatch : Widths → Stmt → Option CheckFault
-stmt_mismatch widths (Assign slot line gens x e) = mismatch line x (needed (width_of widths x) (width_in widths e))
+stmt_mismatch widths (Assign slot line gens x part e) = mismatch line x (needed_by (part_width (width_of widths x) part) (width_in widths e))
 stmt_mismatch widths (Let slot line gens x e) = mismatch line x (width_in widths e)
 stmt_mismatch widths (If slot line gens c first second) = mismatch line (codes "if") (needed 1 (width_in widths c))
+stmt_mismatch widths (Case slot line gens v arms other) = mismatch line (codes "case") (arms_width (width_in widths v) (arm_literals arms))
 
 -- a let has the width of its expression
 abbrev pub put_let : Name → Result ℕ Clash → Widths → Widths
@@ -220,9 +254,10 @@ put_let x (Ok w) widths = put_width x w widths
 put_let x (Err found) widths = widths
 
 abbrev pub widths_after : Widths → Stmt → Widths
-widths_after widths (Assign slot line gens x e) = widths
+widths_after widths (Assign slot line gens x part e) = widths
 widths_after widths (Let slot line gens x e) = put_let x (width_in widths e) widths
 widths_after widths (If slot line gens c first second) = widths
+widths_after widths (Case slot line gens v arms other) = widths
 
 abbrev pub mismatch_among : Widths → List Stmt → Option CheckFault
 mismatch_among widths [] = None

@@ -1,11 +1,14 @@
 -- The blocks of an accepted design are checked.
-use Rattle.std.proofs.Common.{◌≡◌, ℕ, ◌||◌, Bool, true, false, ◌∷◌, None, refl, sym, ap, ◌∙◌, subst, if◌then◌else◌}
+use Rattle.std.proofs.Common.{◌≡◌, ℕ, ◌||◌, Bool, true, false, List, [], ◌∷◌, ◌++◌, map, Option, None, refl, sym, ap, ◌∙◌, subst, if◌then◌else◌}
 use Rattle.std.proofs.lemmas.Bool.{or_left, or_right}
-use Rattle.exec_core.specs.Block.{Name, own, key_name}
+use Rattle.exec_core.specs.Block.{Name, Part, own, key_name}
 use Rattle.list_core.specs.Lists.{EachOf, IsIn}
 use Rattle.exec_core.specs.Paths as exec
-use Rattle.exec_core.specs.Paths.{HasWidth, BodyWidths, IsWidth, Checked, known_in}
-use Rattle.tree_core.specs.Tree.{Tree}
+use Rattle.exec_core.specs.Paths.{HasWidth, BodyWidths, IsWidth, PartFits, part_width, Checked, known_in}
+use Rattle.exec_core.specs.Cases.{arms_body}
+use Rattle.bv_core.specs.Operators.{flag_of}
+use Rattle.design_core.specs.declared.expr.Literal.{Literal}
+use Rattle.tree_core.specs.Tree.{Tree, Const}
 use Rattle.tree_core.specs.Width.{width_of, WellFormed}
 use Rattle.std.specs.Prelude.{bytes_eq}
 use Rattle.std.specs.List.{list_any}
@@ -15,18 +18,20 @@ use Rattle.check_exec.proofs.Wide.{formed_as, name_wide}
 use Rattle.exec_core.specs.Design.{Process, place, signals_of, width_in}
 use Rattle.list_core.proofs.Lists.{each_member, each_from}
 use Rattle.design_core.specs.declared.design.Instance.{Instance}
-use Rattle.design_core.specs.Design.{Stmt, Assign, Let, If, Body, Done, Then, Else, NoElse, Otherwise, Block, Variant, Design}
-use Rattle.design_exec.specs.Processes.{tree_of, target, stmt_of, body_of, else_of, body_widths, signal_width, instance_signals, is_signal_of, process, processes_of}
+use Rattle.design_core.specs.Design.{Expr, Stmt, Assign, Let, If, Case, Body, Done, Then, Else, NoElse, Otherwise, Arms, NoArms, ThenArm, Block, Variant, Design}
+use Rattle.design_exec.specs.Processes.{tree_of, target, part_of, value_of, stmt_of, body_of, else_of, arms_of, body_widths, signal_width, instance_signals, is_signal_of, process, processes_of}
 use Rattle.names.specs.Known.{none}
-use Rattle.design_core.specs.Statements.{inside, statements, else_statements}
+use Rattle.design_core.specs.Statements.{inside, statements, else_statements, arms_statements}
 use Rattle.check_core.specs.Faults.{first_of}
 use Rattle.check_core.specs.Names.{scope_of, targets, named, any_kind, is_child_output, child_named, taken_in}
-use Rattle.check_core.specs.Widths.{widths_of, bad_signal, bad_in_child, bad_in_block, bad_stmt, signal_mismatch, mismatch_in_child, mismatch_in_block}
+use Rattle.check_core.specs.Widths.{widths_of, arm_literals, signal_mismatch, mismatch_in_child, mismatch_in_block}
 use Rattle.check_exec.specs.Premises.{IsSound, BlocksAreChecked}
 use Rattle.check_exec.proofs.Facts.{each_left, each_right, none_found, earlier_right}
 use Rattle.check_exec.proofs.Instances.{IsClean, Stands, clean, signals_are, each_process}
 use Rattle.check_exec.proofs.Names.{signals_named, signals_differ, lets_differ}
-use Rattle.check_exec.proofs.Targets.{block_known, named_any, target_signal}
+use Rattle.check_exec.proofs.Targets.{MayAssign, block_known, targets_known, named_any, target_signal}
+use Rattle.check_exec.proofs.Arms.{IsLiteralOf, false_bits, test_wide}
+use Rattle.check_exec.proofs.Latches.{block_sized, signal_declared}
 use Rattle.check_exec.proofs.Statements.{sets, Sets, SetIn, set_by}
 use Rattle.check_exec.proofs.Reading.{ports_known, block_reads}
 use Rattle.check_exec.proofs.SignalWidths.{put_known}
@@ -38,21 +43,54 @@ module _ (clocked : Bool) (known : Name → Bool) (F : Name → ℕ) where
   abbrev Good : Name → Type 0
   Good x = known x ≡ true
 
-  target_width : (x : Name) (e : _) → HasWidth known F (tree_of e) (F x) → HasWidth known F (tree_of e) (F (key_name (target clocked x)))
-  target_width x e h = subst (λ y. HasWidth known F (tree_of e) (F y)) (sym (named_by clocked)) h
+  target_width : (x : Name) (part : Option Part) (e : Tree Name) → PartFits part (F x) × HasWidth known F e (part_width part (F x))
+      → PartFits part (F (key_name (target clocked x))) × HasWidth known F e (part_width part (F (key_name (target clocked x))))
+  target_width x part e h = subst (λ y. PartFits part (F y) × HasWidth known F e (part_width part (F y))) (sym (named_by clocked)) h
     where
       named_by : (c : Bool) → key_name (target c x) ≡ x
       named_by true = refl
       named_by false = refl
 
+  -- the condition of a `case` without an arm
+  nothing_wide : HasWidth known F (Const (flag_of false)) 1
+  nothing_wide = (false_bits, refl)
+
+  each_values : (w : ℕ) (ls : List Literal) → EachOf (λ l. IsLiteralOf w (value_of l)) ls → EachOf (IsLiteralOf w) (map value_of ls)
+  each_values w [] h = tt
+  each_values w (l ∷ ls) h = (h.0, each_values w ls h.1)
+
   mutual
     stmt_fits : (s : Stmt) → EachOf (FitsStmt Good F) (s ∷ inside s) → exec.Widths known F (stmt_of clocked s)
-    stmt_fits (Assign slot line gens x e) h = (tt, target_width x e h.0)
+    stmt_fits (Assign slot line gens x part e) h = target_width x (part_of part) (tree_of e) h.0
     stmt_fits (Let slot line gens x e) h = (tt, h.0)
     stmt_fits (If slot line gens c first second) h = (
       h.0,
       body_fits first (each_left (FitsStmt Good F) (statements first) (else_statements second) h.1),
       else_fits second (each_right (FitsStmt Good F) (statements first) (else_statements second) h.1),
+    )
+    stmt_fits (Case slot line gens v NoArms other) h = (nothing_wide, tt, else_fits other h.1)
+    stmt_fits (Case slot line gens v (ThenArm tests body rest) other) h =
+        let arms : List Stmt = statements body ++ arms_statements rest in
+        let w : ℕ = h.0.0 in
+        let literals = h.0.2 in
+        let inner = each_left (FitsStmt Good F) arms (else_statements other) h.1 in (
+          test_wide known F (tree_of v) w h.0.1 (map value_of tests) (each_values w tests (each_left (λ l. IsLiteralOf w (value_of l)) tests (arm_literals rest) literals)),
+          body_fits body (each_left (FitsStmt Good F) (statements body) (arms_statements rest) inner),
+          arms_fit v rest other w h.0.1 (each_right (λ l. IsLiteralOf w (value_of l)) tests (arm_literals rest) literals) (each_right (FitsStmt Good F) (statements body) (arms_statements rest) inner)
+              (else_fits other (each_right (FitsStmt Good F) arms (else_statements other) h.1)),
+        )
+
+    -- arms, each in the else-branch of the one before it
+    arms_fit : (v : Expr) (arms : Arms) (other : Else) (w : ℕ) → HasWidth known F (tree_of v) w → EachOf (λ l. IsLiteralOf w (value_of l)) (arm_literals arms) → EachOf (FitsStmt Good F) (arms_statements arms)
+        → BodyWidths known F (else_of clocked other) → BodyWidths known F (arms_body (tree_of v) (arms_of clocked arms) (else_of clocked other))
+    arms_fit v NoArms other w wide literals h last = last
+    arms_fit v (ThenArm tests body rest) other w wide literals h last = (
+      (
+        test_wide known F (tree_of v) w wide (map value_of tests) (each_values w tests (each_left (λ l. IsLiteralOf w (value_of l)) tests (arm_literals rest) literals)),
+        body_fits body (each_left (FitsStmt Good F) (statements body) (arms_statements rest) h),
+        arms_fit v rest other w wide (each_right (λ l. IsLiteralOf w (value_of l)) tests (arm_literals rest) literals) (each_right (FitsStmt Good F) (statements body) (arms_statements rest) h) last,
+      ),
+      tt,
     )
 
     pub body_fits : (b : Body) → EachOf (FitsStmt Good F) (statements b) → BodyWidths known F (body_of clocked b)
@@ -117,9 +155,10 @@ module _ (d : Design) (sound : IsSound d) (i : ℕ) (r : Instance) (v : Variant)
   lets_good = each_from (LetIsGood IsFine F) (statements b.body) by_kind
     where
       by_kind : (s : Stmt) → IsIn s (statements b.body) → LetIsGood IsFine F s
-      by_kind (Assign slot line gens x e) j = tt
+      by_kind (Assign slot line gens x part e) j = tt
       by_kind (Let slot line gens x e) j = λ h. (or_left (own its.body x) (signals_of (processes_of d) its x) (sets b.clocked x (Let slot line gens x e) refl b.body j), fit_wide x (tree_of e) h)
       by_kind (If slot line gens t first second) j = tt
+      by_kind (Case slot line gens t arms other) j = tt
 
   is_at : IsAt (scope_of v) (targets (scope_of v) b.clocked) none (taken_in v) (named is_child_output v.signals) (widths_of any_kind v.signals) (signal_width v.signals) F IsFine (statements b.body)
   is_at = record {
@@ -139,26 +178,28 @@ module _ (d : Design) (sound : IsSound d) (i : ℕ) (r : Instance) (v : Variant)
       (each_member (λ k. mismatch_in_block (widths_of any_kind v.signals) k ≡ None) v.blocks
       (none_found (mismatch_in_block (widths_of any_kind v.signals)) v.blocks
       (earlier_right (first_of (mismatch_in_child (widths_of any_kind v.signals) d.variants) v.children) _ (earlier_right (first_of signal_mismatch v.signals) _ c.widths))) b at)
-      (none_found bad_stmt (statements b.body)
-      (each_member (λ k. bad_in_block k ≡ None) v.blocks
-      (none_found bad_in_block v.blocks (earlier_right (first_of bad_in_child v.children) _ (earlier_right (first_of bad_signal v.signals) _ c.sized))) b at))
+      (block_sized d.variants v b c at)
       (ports_known d.variants v b c at)
 
   known_fit : EachOf (FitsStmt (λ x. known x ≡ true) F) (statements b.body)
   known_fit = each_from (FitsStmt (λ x. known x ≡ true) F) (statements b.body) (λ s j. by_kind s (each_member (FitsStmt IsFine F) (statements b.body) all_fit s j))
     where
       by_kind : (s : Stmt) → FitsStmt IsFine F s → FitsStmt (λ x. known x ≡ true) F s
-      by_kind (Assign slot line gens x e) h = (formed_as IsFine (λ x. known x ≡ true) F (λ y g. g.0) (tree_of e) h.0, h.1)
+      by_kind (Assign slot line gens x part e) h = (h.0, (formed_as IsFine (λ x. known x ≡ true) F (λ y g. g.0) (tree_of e) h.1.0, h.1.1))
       by_kind (Let slot line gens x e) h = (formed_as IsFine (λ x. known x ≡ true) F (λ y g. g.0) (tree_of e) h.0, h.1)
       by_kind (If slot line gens t first second) h = (formed_as IsFine (λ x. known x ≡ true) F (λ y g. g.0) (tree_of t) h.0, h.1)
+      by_kind (Case slot line gens t arms other) h = (h.0, (formed_as IsFine (λ x. known x ≡ true) F (λ y g. g.0) (tree_of t) h.1.0, h.1.1), h.2)
 
   own_wide : (x : Name) → own its.body x ≡ true → IsWidth (F x)
   own_wide x e = by_statement (set_by b.clocked x b.body e)
     where
       by_kind : (s : Stmt) → IsIn s (statements b.body) → Sets b.clocked x s → FitsStmt IsFine F s → IsWidth (F x)
-      by_kind (Assign slot line gens y t) here sets h = subst (λ z. IsWidth (F z)) sets.1 (fit_wide y (tree_of t) h)
+      by_kind (Assign slot line gens y part t) here sets h =
+          let may = each_member (MayAssign (targets (scope_of v) b.clocked)) (statements b.body) (targets_known d.variants v b c at) (Assign slot line gens y part t) here in
+          subst (λ z. IsWidth (F z)) sets.1 (signal_fine y (signals_named d i r v stands y ∙ target_signal v b.clocked y may))
       by_kind (Let slot line gens y t) here sets h = subst (λ z. IsWidth (F z)) sets (fit_wide y (tree_of t) h)
       by_kind (If slot line gens t first second) here sets h = absurd sets
+      by_kind (Case slot line gens t arms other) here sets h = absurd sets
 
       by_statement : SetIn b.clocked x (statements b.body) → IsWidth (F x)
       by_statement h = by_kind h.statement h.stands h.sets (each_member (FitsStmt IsFine F) (statements b.body) all_fit h.statement h.stands)
@@ -174,7 +215,7 @@ module _ (d : Design) (sound : IsSound d) (i : ℕ) (r : Instance) (v : Variant)
   block_widths = body_fits b.clocked known F b.body known_fit
 
   pub block_checked : Checked (signals_of (processes_of d) its) F its.body
-  block_checked = record { reads = block_reads F d.variants v b c at; widths = block_widths; names = known_wide }
+  block_checked = record { reads = block_reads F d.variants v b (λ x e. signal_declared d i r v b stands x (signals_named d i r v stands x ∙ e)) c at; widths = block_widths; names = known_wide }
 
 pub blocks_are_checked : BlocksAreChecked
 blocks_are_checked d sound = each_process d _ (λ i r v b s at. block_checked d sound i r v b s (clean d sound.accepted i r v s) at)

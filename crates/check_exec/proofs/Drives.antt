@@ -1,5 +1,5 @@
 -- A signal that blocks drive is assigned by one of them; no block assigns another.
-use Rattle.std.proofs.Common.{◌≡◌, ℕ, ◌+◌, Bool, true, false, true≢false, ◌||◌, not, bytes_eq, List, [], ◌∷◌, Option, Some, None, is_some, ◌⊎◌, inl, inr, refl, sym, ap, ◌∙◌, subst, if◌then◌else◌}
+use Rattle.std.proofs.Common.{◌≡◌, ℕ, ℤ, ◌+◌, Bool, true, false, true≢false, ◌||◌, not, bytes_eq, List, [], ◌∷◌, Option, Some, None, is_some, ◌⊎◌, inl, inr, refl, sym, ap, ◌∙◌, subst, if◌then◌else◌}
 use Rattle.std.specs.Prelude.{count_by}
 use Rattle.std.proofs.lemmas.Bool.{or_cases, cases_Bool, false_from_ne_true}
 use Rattle.exec_core.specs.Block.{Name, own}
@@ -8,7 +8,7 @@ use Rattle.list_core.proofs.Lists.{each_member, each_from}
 use Rattle.design_core.specs.declared.variant.Signal.{Signal}
 use Rattle.design_core.specs.declared.variant.Kind.{Kind}
 use Rattle.design_core.specs.declared.variant.Kind.TheVariants as kind
-use Rattle.design_core.specs.Design.{Expr, Stmt, Assign, Let, If, Block, Variant}
+use Rattle.design_core.specs.Design.{Expr, Stmt, Assign, Let, If, Case, Block, Variant}
 use Rattle.design_exec.specs.Processes.{body_of}
 use Rattle.names.specs.Known.{none}
 use Rattle.design_core.specs.Statements.{statements}
@@ -91,16 +91,18 @@ one_block before (b ∷ blocks) x e a = by_block (cases_Bool (Of x b)) (λ more.
 record IsAssigned (list : List Stmt) (line : ℕ) (x : Name) : Type 0 where
   slot : ℕ
   gens : _
+  part : Option (ℤ × ℤ)
   value : Expr
-  stands : IsIn (Assign slot line gens x value) list
+  stands : IsIn (Assign slot line gens x part value) list
 
 assigned_at : (list : List Stmt) (d : Drive) → IsIn d (assignments list) → IsAssigned list d.0 d.1
 assigned_at [] d i = absurd i
-assigned_at (Assign slot line gens y e ∷ list) d (inl same) =
-    subst (λ (z : Drive). IsAssigned (Assign slot line gens y e ∷ list) z.0 z.1) (sym same) (record { slot = slot; gens = gens; value = e; stands = inl refl })
-assigned_at (Assign slot line gens y e ∷ list) d (inr i) = let h = assigned_at list d i in record { slot = h.slot; gens = h.gens; value = h.value; stands = inr h.stands }
-assigned_at (Let slot line gens y e ∷ list) d i = let h = assigned_at list d i in record { slot = h.slot; gens = h.gens; value = h.value; stands = inr h.stands }
-assigned_at (If slot line gens c first second ∷ list) d i = let h = assigned_at list d i in record { slot = h.slot; gens = h.gens; value = h.value; stands = inr h.stands }
+assigned_at (Assign slot line gens y part e ∷ list) d (inl same) =
+    subst (λ (z : Drive). IsAssigned (Assign slot line gens y part e ∷ list) z.0 z.1) (sym same) (record { slot = slot; gens = gens; part = part; value = e; stands = inl refl })
+assigned_at (Assign slot line gens y part e ∷ list) d (inr i) = let h = assigned_at list d i in record { slot = h.slot; gens = h.gens; part = h.part; value = h.value; stands = inr h.stands }
+assigned_at (Let slot line gens y e ∷ list) d i = let h = assigned_at list d i in record { slot = h.slot; gens = h.gens; part = h.part; value = h.value; stands = inr h.stands }
+assigned_at (If slot line gens c first second ∷ list) d i = let h = assigned_at list d i in record { slot = h.slot; gens = h.gens; part = h.part; value = h.value; stands = inr h.stands }
+assigned_at (Case slot line gens v arms other ∷ list) d i = let h = assigned_at list d i in record { slot = h.slot; gens = h.gens; part = h.part; value = h.value; stands = inr h.stands }
 
 register_driven : (k : Kind) → is_driven k ≡ true → is_register k ≡ true → ⊥
 register_driven kind.Input e f = true≢false (sym e)
@@ -138,14 +140,14 @@ module _ (variants : List Variant) (v : Variant) (c : IsClean variants v) (s : S
       one = assigned_at (statements b.body) found.0 found.1.0
 
       may : targets (scope_of v) b.clocked found.0.1 ≡ true
-      may = each_member (MayAssign (targets (scope_of v) b.clocked)) (statements b.body) (targets_known variants v b c here) (Assign one.slot found.0.0 one.gens found.0.1 one.value) one.stands
+      may = each_member (MayAssign (targets (scope_of v) b.clocked)) (statements b.body) (targets_known variants v b c here) (Assign one.slot found.0.0 one.gens found.0.1 one.part one.value) one.stands
 
       by_clock : (b.clocked ≡ true) ⊎ (b.clocked ≡ false) → Owns s.name b ≡ true
       by_clock (inl clocked) =
           let register : named is_register v.signals s.name ≡ true = subst (λ y. named is_register v.signals y ≡ true) (sym (same_name s.name found.0.1 found.1.1)) (ap (λ k. targets (scope_of v) k found.0.1) (sym clocked) ∙ may) in
           absurd (register_driven s.kind driven (the_same is_register register))
       by_clock (inr comb) =
-          sets b.clocked s.name (Assign one.slot found.0.0 one.gens found.0.1 one.value) (comb, sym (same_name s.name found.0.1 found.1.1)) b.body one.stands
+          sets b.clocked s.name (Assign one.slot found.0.0 one.gens found.0.1 one.part one.value) (comb, sym (same_name s.name found.0.1 found.1.1)) b.body one.stands
 
   -- so one block assigns a driven signal, and none another
   pub one_owner : is_driven s.kind ≡ true → count_by (Owns s.name) v.blocks ≡ 1

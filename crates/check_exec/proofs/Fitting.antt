@@ -64,7 +64,7 @@ mux_fits c a b w e = by_test (c == 1) refl e
     by_test false h f = absurd (err_ok _ w f)
 
 -- places of a slice
-slice_from : (h l : ℤ) → is_slice h l ≡ true → bits l ≤ bits h
+pub slice_from : (h l : ℤ) → is_slice h l ≡ true → bits l ≤ bits h
 slice_from (pos h) (pos l) e =
     let all = both_true (int_le (pos 0) (pos l)) (int_le (pos l) (pos h) && int_le (pos h) (pos 127)) e in
     leb-true l h (both_true (int_le (pos l) (pos h)) (int_le (pos h) (pos 127)) all.1).0

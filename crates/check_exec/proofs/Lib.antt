@@ -24,4 +24,6 @@ pub mod Settling
 pub mod Sampled
 pub mod Orders
 pub mod Wide
-pub mod Whole
+pub mod Arms
+pub mod Declared
+pub mod PartWidths

@@ -9,7 +9,7 @@ use Rattle.list_core.proofs.Lists.{each_member}
 use Rattle.list_core.proofs.Options.{none_if}
 use Rattle.design_core.specs.declared.design.Instance.{Instance}
 use Rattle.design_core.specs.declared.variant.Signal.{Signal}
-use Rattle.design_core.specs.Design.{Stmt, Assign, Let, If, Block, Variant, Design}
+use Rattle.design_core.specs.Design.{Stmt, Assign, Let, If, Case, Block, Variant, Design}
 use Rattle.design_exec.specs.Processes.{is_signal_of}
 use Rattle.check_core.specs.declared.fault.CheckFault.TheVariants.{DuplicateName}
 use Rattle.names.specs.Known.{Known, none, with}
@@ -97,9 +97,10 @@ signals_named d i r v s x = ap (list_any (λ (t : Signal). bytes_eq t.name x)) (
 pub let_in : (list : List Stmt) (slot line : ℕ) (gens : _) (x : Name) (e : _) → IsIn (Let slot line gens x e) list → IsIn (line, x) (lets_in list)
 let_in [] slot line gens x e i = absurd i
 let_in (s ∷ list) slot line gens x e (inl same) = subst (λ t. IsIn (line, x) (lets_in (t ∷ list))) same (inl refl)
-let_in (Assign n l g y f ∷ list) slot line gens x e (inr i) = let_in list slot line gens x e i
+let_in (Assign n l g y part f ∷ list) slot line gens x e (inr i) = let_in list slot line gens x e i
 let_in (Let n l g y f ∷ list) slot line gens x e (inr i) = inr (let_in list slot line gens x e i)
 let_in (If n l g c a b ∷ list) slot line gens x e (inr i) = let_in list slot line gens x e i
+let_in (Case n l g v a b ∷ list) slot line gens x e (inr i) = let_in list slot line gens x e i
 
 -- a let is no signal
 pub let_no_signal : (v : Variant) (b : Block) → IsIn b v.blocks → duplicate_name v ≡ None → (slot line : ℕ) (gens : _) (x : Name) (e : _) → IsIn (Let slot line gens x e) (statements b.body)

@@ -5,15 +5,15 @@ use Rattle.exec_core.specs.Block.{Name}
 use Rattle.list_core.specs.Lists.{IsIn, IsNotIn, AreApart}
 use Rattle.list_core.proofs.Lists.{each_member, in_left, in_right, in_cases}
 use Rattle.design_core.specs.declared.variant.Signal.{Signal}
-use Rattle.design_core.specs.Design.{Stmt, Assign, Let, If, Body, Done, Then, Else, NoElse, Otherwise, Conn, Child, Block, Variant}
+use Rattle.design_core.specs.Design.{Stmt, Assign, Let, If, Case, Body, Done, Then, Else, NoElse, Otherwise, Arms, NoArms, ThenArm, Conn, Child, Block, Variant}
 use Rattle.check_core.specs.declared.fault.CheckFault.TheVariants as fault
 use Rattle.check_core.specs.declared.fault.Refusal.TheVariants.{TwoDrivers, Undriven}
 use Rattle.check_core.specs.Drivers.{Drive, Lines, undriven_yet, driven_also, all_driven, second_drive, conn_drive, connected_twice, twice_in_child, assignments, driven_in, driven_twice, two_drivers, drives, is_assigned, undriven_at}
 use Rattle.check_core.specs.Faults.{earlier, first_of, spot}
 use Rattle.check_core.specs.Names.{is_driven}
-use Rattle.design_core.specs.Statements.{inside, statements, else_statements}
+use Rattle.design_core.specs.Statements.{inside, statements, else_statements, arms_statements}
 use Rattle.check_exec.proofs.Facts.{name_same, in_any}
-use Rattle.check_laws.specs.Driving.{Assigns, BodyAssigns, ElseAssigns, AssignApart, IsAssigned, DrivenOnce, AllDriven, OnceAreNotRefused, DrivenAreNotRefused}
+use Rattle.check_laws.specs.Driving.{Assigns, BodyAssigns, ElseAssigns, ArmsAssign, AssignApart, IsAssigned, DrivenOnce, AllDriven, OnceAreNotRefused, DrivenAreNotRefused}
 use Rattle.check_laws.proofs.Firsts.{earlier_none, first_none, known_none, differ}
 use Rattle.check_laws.proofs.Verdicts.{not_refused}
 
@@ -48,18 +48,24 @@ connected_once before (c ∷ conns) e a =
 
 split : (xs ys : List Stmt) → assignments (xs ++ ys) ≡ assignments xs ++ assignments ys
 split [] ys = refl
-split (Assign slot line gens x e ∷ xs) ys = ap (λ (list : List Drive). (line, x) ∷ list) (split xs ys)
+split (Assign slot line gens x part e ∷ xs) ys = ap (λ (list : List Drive). (line, x) ∷ list) (split xs ys)
 split (Let slot line gens x e ∷ xs) ys = split xs ys
 split (If slot line gens c a b ∷ xs) ys = split xs ys
+split (Case slot line gens v arms other ∷ xs) ys = split xs ys
 
 mutual
   told_stmt : (s : Stmt) (d : Drive) → IsIn d (assignments (s ∷ inside s)) → Assigns s d.1
-  told_stmt (Assign slot line gens x e) d i = elim i [ inl same ↦ ap (λ (c : Drive). c.1) same | inr k ↦ absurd k ]
+  told_stmt (Assign slot line gens x part e) d i = elim i [ inl same ↦ ap (λ (c : Drive). c.1) same | inr k ↦ absurd k ]
   told_stmt (Let slot line gens x e) d i = i
   told_stmt (If slot line gens c first second) d i =
       elim (in_cases d (assignments (statements first)) (assignments (else_statements second)) (subst (λ (list : List Drive). IsIn d list) (split (statements first) (else_statements second)) i)) [
         | inl l ↦ inl (told_body first d l)
         | inr r ↦ inr (told_else second d r)
+      ]
+  told_stmt (Case slot line gens v arms other) d i =
+      elim (in_cases d (assignments (arms_statements arms)) (assignments (else_statements other)) (subst (λ (list : List Drive). IsIn d list) (split (arms_statements arms) (else_statements other)) i)) [
+        | inl l ↦ inl (told_arms arms d l)
+        | inr r ↦ inr (told_else other d r)
       ]
 
   pub told_body : (b : Body) (d : Drive) → IsIn d (assignments (statements b)) → BodyAssigns b d.1
@@ -73,6 +79,14 @@ mutual
   told_else : (b : Else) (d : Drive) → IsIn d (assignments (else_statements b)) → ElseAssigns b d.1
   told_else NoElse d i = i
   told_else (Otherwise body) d i = told_body body d i
+
+  told_arms : (b : Arms) (d : Drive) → IsIn d (assignments (arms_statements b)) → ArmsAssign b d.1
+  told_arms NoArms d i = i
+  told_arms (ThenArm tests body rest) d i =
+      elim (in_cases d (assignments (statements body)) (assignments (arms_statements rest)) (subst (λ (list : List Drive). IsIn d list) (split (statements body) (arms_statements rest)) i)) [
+        | inl l ↦ inl (told_body body d l)
+        | inr r ↦ inr (told_arms rest d r)
+      ]
 
 -- an assignment to a name
 pub record Driving (x : Name) (list : List Drive) : Type 0 where
@@ -88,10 +102,12 @@ driving_back x xs ys h = record { drive = h.drive; among = subst (λ (list : Lis
 
 mutual
   found_stmt : (s : Stmt) (x : Name) → Assigns s x → Driving x (assignments (s ∷ inside s))
-  found_stmt (Assign slot line gens y e) x h = record { drive = (line, y); among = inl refl; name = sym h }
+  found_stmt (Assign slot line gens y part e) x h = record { drive = (line, y); among = inl refl; name = sym h }
   found_stmt (Let slot line gens y e) x h = absurd h
   found_stmt (If slot line gens c first second) x (inl l) = driving_front x (statements first) (else_statements second) (found_body first x l)
   found_stmt (If slot line gens c first second) x (inr r) = driving_back x (statements first) (else_statements second) (found_else second x r)
+  found_stmt (Case slot line gens v arms other) x (inl l) = driving_front x (arms_statements arms) (else_statements other) (found_arms arms x l)
+  found_stmt (Case slot line gens v arms other) x (inr r) = driving_back x (arms_statements arms) (else_statements other) (found_else other x r)
 
   pub found_body : (b : Body) (x : Name) → BodyAssigns b x → Driving x (assignments (statements b))
   found_body Done x h = absurd h
@@ -101,6 +117,11 @@ mutual
   found_else : (b : Else) (x : Name) → ElseAssigns b x → Driving x (assignments (else_statements b))
   found_else NoElse x h = absurd h
   found_else (Otherwise body) x h = found_body body x h
+
+  found_arms : (b : Arms) (x : Name) → ArmsAssign b x → Driving x (assignments (arms_statements b))
+  found_arms NoArms x h = absurd h
+  found_arms (ThenArm tests body rest) x (inl l) = driving_front x (statements body) (arms_statements rest) (found_body body x l)
+  found_arms (ThenArm tests body rest) x (inr r) = driving_back x (statements body) (arms_statements rest) (found_arms rest x r)
 
 -- ---- blocks
 

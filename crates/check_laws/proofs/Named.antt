@@ -7,14 +7,14 @@ use Rattle.list_core.specs.Lists.{EachOf, IsIn}
 use Rattle.list_core.proofs.Lists.{each_member, in_cases}
 use Rattle.design_core.specs.declared.variant.Signal.{Signal}
 use Rattle.design_core.specs.declared.variant.Kind.{Kind}
-use Rattle.design_core.specs.Design.{Expr, Read, Out, Value, Unary, Binary, Mux, Zext, Slice, Stmt, Assign, Let, If, Body, Done, Then, Else, NoElse, Otherwise, Conn, Child, Block, Variant}
-use Rattle.design_core.specs.Slots.{let_of, lets_of, else_lets}
+use Rattle.design_core.specs.Design.{Expr, Read, Out, Value, Unary, Binary, Mux, Zext, Slice, Stmt, Assign, Let, If, Case, Body, Done, Then, Else, NoElse, Otherwise, Arms, NoArms, ThenArm, Conn, Child, Block, Variant}
+use Rattle.design_core.specs.Slots.{let_of, lets_of, else_lets, arms_lets}
 use Rattle.check_core.specs.declared.fault.Refusal.TheVariants.{UnknownName}
 use Rattle.check_core.specs.Faults.{earlier, first_of}
 use Rattle.check_core.specs.Names.{named, any_kind, child_named, scope_of, unknown_read, unknown_in, lets_after, unknown_among, targets, unknown_in_block, unknown_in_conn, unknown_in_child, unknown_name}
-use Rattle.design_core.specs.Statements.{inside, statements, else_statements}
+use Rattle.design_core.specs.Statements.{inside, statements, else_statements, arms_statements}
 use Rattle.check_exec.proofs.Facts.{name_same, in_any}
-use Rattle.check_laws.specs.Naming.{IsSignal, IsChild, ReadsKnown, IsReadable, IsTarget, NamesStmt, NamesBody, NamesElse, no_let, NamesAreDeclared, KnownAreNotRefused}
+use Rattle.check_laws.specs.Naming.{IsSignal, IsChild, ReadsKnown, IsReadable, IsTarget, NamesStmt, NamesBody, NamesElse, NamesArms, no_let, NamesAreDeclared, KnownAreNotRefused}
 use Rattle.check_laws.proofs.Firsts.{earlier_none, first_none, known_none}
 use Rattle.check_laws.proofs.Verdicts.{not_refused}
 
@@ -90,8 +90,8 @@ module _ (v : Variant) where
     unfolding NoneAfter
 
     stmt_none : (clocked : Bool) (lets : Name → Type 0) (s : Stmt) (more : List Stmt) → NamesStmt v clocked lets s → NoneAfter clocked (λ y. lets y ⊎ IsIn y (let_of s)) more → NoneAfter clocked lets (s ∷ (inside s ++ more))
-    stmt_none clocked lets (Assign slot line gens x e) more h k =
-        first_none_after clocked lets (Assign slot line gens x e) more
+    stmt_none clocked lets (Assign slot line gens x part e) more h k =
+        first_none_after clocked lets (Assign slot line gens x part e) more
         (λ known a. earlier_none (unknown_read (scope_of v) known line e) _ (reads lets known a line e h.0) (known_none _ _ (target_known clocked x h.1)))
         (λ known a. k known (no_more lets known a))
     stmt_none clocked lets (Let slot line gens x e) more h k =
@@ -104,6 +104,13 @@ module _ (v : Variant) where
         ∙ body_none clocked lets first (else_statements second ++ more) h.1.0
         (else_none clocked (λ y. lets y ⊎ IsIn y (lets_of first)) second more h.1.1
         (fewer clocked (λ y. (lets y ⊎ IsIn y (lets_of first)) ⊎ IsIn y (else_lets second)) (λ y. lets y ⊎ IsIn y (lets_of first ++ else_lets second)) more (grouped lets (lets_of first) (else_lets second)) k)) known a)
+    stmt_none clocked lets (Case slot line gens value arms other) more h k =
+        first_none_after clocked lets (Case slot line gens value arms other) ((arms_statements arms ++ else_statements other) ++ more) (λ known a. reads lets known a line value h.0)
+        (λ known a.
+        ap (unknown_among (scope_of v) (targets (scope_of v) clocked) known) (append_assoc (arms_statements arms) (else_statements other) more)
+        ∙ arms_none clocked lets arms (else_statements other ++ more) h.1.0
+        (else_none clocked (λ y. lets y ⊎ IsIn y (arms_lets arms)) other more h.1.1
+        (fewer clocked (λ y. (lets y ⊎ IsIn y (arms_lets arms)) ⊎ IsIn y (else_lets other)) (λ y. lets y ⊎ IsIn y (arms_lets arms ++ else_lets other)) more (grouped lets (arms_lets arms) (else_lets other)) k)) known a)
 
     body_none : (clocked : Bool) (lets : Name → Type 0) (b : Body) (more : List Stmt) → NamesBody v clocked lets b → NoneAfter clocked (λ y. lets y ⊎ IsIn y (lets_of b)) more → NoneAfter clocked lets (statements b ++ more)
     body_none clocked lets Done more h k known a = k known (no_more lets known a)
@@ -116,6 +123,14 @@ module _ (v : Variant) where
     else_none : (clocked : Bool) (lets : Name → Type 0) (b : Else) (more : List Stmt) → NamesElse v clocked lets b → NoneAfter clocked (λ y. lets y ⊎ IsIn y (else_lets b)) more → NoneAfter clocked lets (else_statements b ++ more)
     else_none clocked lets NoElse more h k known a = k known (no_more lets known a)
     else_none clocked lets (Otherwise body) more h k known a = body_none clocked lets body more h k known a
+
+    arms_none : (clocked : Bool) (lets : Name → Type 0) (arms : Arms) (more : List Stmt) → NamesArms v clocked lets arms → NoneAfter clocked (λ y. lets y ⊎ IsIn y (arms_lets arms)) more → NoneAfter clocked lets (arms_statements arms ++ more)
+    arms_none clocked lets NoArms more h k known a = k known (no_more lets known a)
+    arms_none clocked lets (ThenArm tests body rest) more h k known a =
+        ap (unknown_among (scope_of v) (targets (scope_of v) clocked) known) (append_assoc (statements body) (arms_statements rest) more)
+        ∙ body_none clocked lets body (arms_statements rest ++ more) h.0
+        (arms_none clocked (λ y. lets y ⊎ IsIn y (lets_of body)) rest more h.1
+        (fewer clocked (λ y. (lets y ⊎ IsIn y (lets_of body)) ⊎ IsIn y (arms_lets rest)) (λ y. lets y ⊎ IsIn y (lets_of body ++ arms_lets rest)) more (grouped lets (lets_of body) (arms_lets rest)) k)) known a
 
   -- ---- a module
 

@@ -7,15 +7,15 @@ use Rattle.list_core.specs.Lists.{EachOf, IsIn}
 use Rattle.list_core.proofs.Lists.{each_member, each_from, in_left, in_right}
 use Rattle.design_core.specs.declared.variant.Signal.{Signal}
 use Rattle.design_core.specs.declared.variant.Kind.{Kind}
-use Rattle.design_core.specs.Design.{Expr, Read, Out, Value, Unary, Binary, Mux, Zext, Slice, Stmt, Assign, Let, If, Body, Done, Then, Else, NoElse, Otherwise, Conn, Child, Block, Variant}
-use Rattle.design_core.specs.Slots.{let_of, lets_of, else_lets}
+use Rattle.design_core.specs.Design.{Expr, Read, Out, Value, Unary, Binary, Mux, Zext, Slice, Stmt, Assign, Let, If, Case, Body, Done, Then, Else, NoElse, Otherwise, Arms, NoArms, ThenArm, Conn, Child, Block, Variant}
+use Rattle.design_core.specs.Slots.{let_of, lets_of, else_lets, arms_lets}
 use Rattle.check_core.specs.Faults.{first_of}
 use Rattle.check_core.specs.Names.{named, any_kind, child_named, scope_of, unknown_read, unknown_in, unknown_among, targets, unknown_in_block, unknown_in_conn, unknown_in_child, unknown_name}
-use Rattle.design_core.specs.Statements.{inside, statements, else_statements}
+use Rattle.design_core.specs.Statements.{inside, statements, else_statements, arms_statements}
 use Rattle.check_exec.proofs.Facts.{same_name, any_in, earlier_left, earlier_right, none_found}
 use Rattle.check_exec.proofs.Targets.{named_in}
 use Rattle.check_exec.proofs.Widths.{is_known}
-use Rattle.check_laws.specs.Naming.{IsSignal, IsChild, ReadsKnown, IsReadable, IsTarget, NamesStmt, NamesBody, NamesElse, no_let, NamesAreDeclared}
+use Rattle.check_laws.specs.Naming.{IsSignal, IsChild, ReadsKnown, IsReadable, IsTarget, NamesStmt, NamesBody, NamesElse, NamesArms, no_let, NamesAreDeclared}
 use Rattle.check_laws.specs.Accepting.{AcceptedAreNamed}
 use Rattle.check_laws.proofs.Used.{used_clean}
 
@@ -87,13 +87,13 @@ module _ (v : Variant) where
     unfolding Back
 
     stmt_back : (clocked : Bool) (lets : Name → Type 0) (s : Stmt) (more : List Stmt) → NoneIn clocked lets (s ∷ (inside s ++ more)) → NamesStmt v clocked lets s × NoneIn clocked (λ y. lets y ⊎ IsIn y (let_of s)) more
-    stmt_back clocked lets (Assign slot line gens x e) more h =
-        let first = earlier_left (unknown_in (scope_of v) (targets (scope_of v) clocked) h.known (Assign slot line gens x e)) _ h.none in (
+    stmt_back clocked lets (Assign slot line gens x part e) more h =
+        let first = earlier_left (unknown_in (scope_of v) (targets (scope_of v) clocked) h.known (Assign slot line gens x part e)) _ h.none in (
           (
             reads lets h.known h.back line e (earlier_left (unknown_read (scope_of v) h.known line e) _ first),
             target_is clocked x (is_known (targets (scope_of v) clocked x) _ (earlier_right (unknown_read (scope_of v) h.known line e) _ first)),
           ),
-          record { known = h.known; back = λ y k. inl (h.back y k); none = earlier_right (unknown_in (scope_of v) (targets (scope_of v) clocked) h.known (Assign slot line gens x e)) _ h.none },
+          record { known = h.known; back = λ y k. inl (h.back y k); none = earlier_right (unknown_in (scope_of v) (targets (scope_of v) clocked) h.known (Assign slot line gens x part e)) _ h.none },
         )
     stmt_back clocked lets (Let slot line gens x e) more h = (
       reads lets h.known h.back line e (earlier_left (unknown_read (scope_of v) h.known line e) _ h.none),
@@ -106,6 +106,13 @@ module _ (v : Variant) where
           (reads lets h.known h.back line c (earlier_left (unknown_read (scope_of v) h.known line c) _ h.none), (one.0, two.0)),
           fewer clocked _ _ more (grouped lets (lets_of first) (else_lets second)) two.1,
         )
+    stmt_back clocked lets (Case slot line gens value arms other) more h =
+        let behind : NoneIn clocked lets ((arms_statements arms ++ else_statements other) ++ more) = record { known = h.known; back = h.back; none = earlier_right (unknown_read (scope_of v) h.known line value) _ h.none } in
+        let one = arms_back clocked lets arms (else_statements other ++ more) (same_list clocked lets _ _ (append_assoc (arms_statements arms) (else_statements other) more) behind) in
+        let two = else_back clocked (λ y. lets y ⊎ IsIn y (arms_lets arms)) other more one.1 in (
+          (reads lets h.known h.back line value (earlier_left (unknown_read (scope_of v) h.known line value) _ h.none), (one.0, two.0)),
+          fewer clocked _ _ more (grouped lets (arms_lets arms) (else_lets other)) two.1,
+        )
 
     body_back : (clocked : Bool) (lets : Name → Type 0) (b : Body) (more : List Stmt) → NoneIn clocked lets (statements b ++ more) → NamesBody v clocked lets b × NoneIn clocked (λ y. lets y ⊎ IsIn y (lets_of b)) more
     body_back clocked lets Done more h = (tt, fewer clocked lets _ more (λ x l. inl l) h)
@@ -117,6 +124,13 @@ module _ (v : Variant) where
     else_back : (clocked : Bool) (lets : Name → Type 0) (b : Else) (more : List Stmt) → NoneIn clocked lets (else_statements b ++ more) → NamesElse v clocked lets b × NoneIn clocked (λ y. lets y ⊎ IsIn y (else_lets b)) more
     else_back clocked lets NoElse more h = (tt, fewer clocked lets _ more (λ x l. inl l) h)
     else_back clocked lets (Otherwise body) more h = body_back clocked lets body more h
+
+    arms_back : (clocked : Bool) (lets : Name → Type 0) (arms : Arms) (more : List Stmt) → NoneIn clocked lets (arms_statements arms ++ more) → NamesArms v clocked lets arms × NoneIn clocked (λ y. lets y ⊎ IsIn y (arms_lets arms)) more
+    arms_back clocked lets NoArms more h = (tt, fewer clocked lets _ more (λ x l. inl l) h)
+    arms_back clocked lets (ThenArm tests body rest) more h =
+        let one = body_back clocked lets body (arms_statements rest ++ more) (same_list clocked lets _ _ (append_assoc (statements body) (arms_statements rest) more) h) in
+        let two = arms_back clocked (λ y. lets y ⊎ IsIn y (lets_of body)) rest more one.1 in
+        ((one.0, two.0), fewer clocked _ _ more (grouped lets (lets_of body) (arms_lets rest)) two.1)
 
   -- ---- a module
 

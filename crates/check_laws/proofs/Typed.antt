@@ -1,6 +1,6 @@
 -- Where expressions are typed, all widths go together.
 use Rattle.std.proofs.Common.{◌≡◌, ℕ, ◌+◌, ◌-◌, ◌<◌, ◌≤◌, Bool, true, false, true≢false, bytes_eq, List, [], ◌∷◌, ◌++◌, Option, Some, None, unwrap_or, if◌then◌else◌, ◌⊎◌, inl, inr, refl, sym, ap, ap₂, ◌∙◌, subst, arith, append_assoc, eq-eqb, nat_le, nat_lt}
-use Rattle.std.specs.Prelude.{Result, Ok}
+use Rattle.std.specs.Prelude.{ℤ, Result, Ok}
 use Rattle.std.proofs.lemmas.Bool.Decides.{nat_tests}
 use Rattle.std.proofs.lemmas.List.{append-nil}
 use Rattle.exec_core.specs.Block.{Name}
@@ -10,22 +10,23 @@ use Rattle.design_core.specs.declared.expr.UnOp.{UnOp}
 use Rattle.design_core.specs.declared.expr.UnOp.TheVariants as one
 use Rattle.design_core.specs.declared.expr.Op.{Op}
 use Rattle.design_core.specs.declared.expr.Op.TheVariants as two
+use Rattle.design_core.specs.declared.expr.Literal.{Literal}
 use Rattle.design_core.specs.declared.variant.Signal.{Signal}
 use Rattle.design_core.specs.declared.variant.Kind.{Kind}
 use Rattle.design_core.specs.declared.variant.Kind.TheVariants.{Input, Output, Wire, Reg, ChildOut}
-use Rattle.design_core.specs.Design.{Expr, Read, Out, Value, Unary, Binary, Mux, Zext, Slice, Stmt, Assign, Let, If, Body, Done, Then, Else, NoElse, Otherwise, Conn, Child, Variant}
+use Rattle.design_core.specs.Design.{Expr, Read, Out, Value, Unary, Binary, Mux, Zext, Slice, Stmt, Assign, Let, If, Case, Body, Done, Then, Else, NoElse, Otherwise, Arms, NoArms, ThenArm, Conn, Child, Variant}
 use Rattle.check_core.specs.declared.fault.Clash.{Clash}
 use Rattle.check_core.specs.declared.fault.Refusal.TheVariants.{WidthMismatch}
 use Rattle.check_core.specs.Faults.{first_of}
 use Rattle.check_core.specs.Names.{any_kind, is_input}
 use Rattle.design_core.specs.Dotted.{below}
 use Rattle.design_core.specs.WellFormed.{signals_at}
-use Rattle.design_core.specs.Statements.{inside, statements, else_statements}
-use Rattle.check_core.specs.Widths.{Widths, clash, where_same, unary_width, binary_width, unary_of, binary_of, mux_of, zext_of, slice_of, width_of, width_in, needed, mismatch, no_width, put_width, put_signal, put_signals, widths_of, start_width, signal_mismatch, conn_mismatch, stmt_mismatch, put_let, mismatch_among, mismatch_in_child, mismatch_in_block, width_mismatch}
+use Rattle.design_core.specs.Statements.{inside, statements, else_statements, arms_statements}
+use Rattle.check_core.specs.Widths.{Widths, clash, where_same, unary_width, binary_width, unary_of, binary_of, mux_of, zext_of, slice_of, width_of, width_in, needed, needed_by, part_width, literals_width, arms_width, arm_literals, mismatch, no_width, put_width, put_signal, put_signals, widths_of, start_width, signal_mismatch, conn_mismatch, stmt_mismatch, put_let, mismatch_among, mismatch_in_child, mismatch_in_block, width_mismatch}
 use Rattle.design_core.specs.Widths.{bits}
-use Rattle.check_exec.proofs.Facts.{same_name, name_same}
+use Rattle.check_exec.proofs.Facts.{same_name, name_same, each_joined}
 use Rattle.check_laws.specs.Naming.{IsSignal}
-use Rattle.check_laws.specs.Typing.{UnaryGives, BinaryGives, HasWidth, WithLet, After, AfterBody, AfterElse, IsTypedStmt, IsTypedBody, IsTypedElse, IsDeclared, StartFits, IsTypedConn, IsTyped, TypedAreNotRefused}
+use Rattle.check_laws.specs.Typing.{UnaryGives, BinaryGives, HasWidth, WithLet, After, AfterBody, AfterElse, AfterArms, PartGives, IsTypedStmt, IsTypedBody, IsTypedElse, IsTypedArms, IsDeclared, StartFits, IsTypedConn, IsTyped, TypedAreNotRefused}
 use Rattle.check_laws.proofs.Firsts.{earlier_none, first_none, differ}
 use Rattle.check_laws.proofs.Verdicts.{not_refused}
 
@@ -107,6 +108,24 @@ needed_is : (want w : ℕ) (r : Result ℕ Clash) → want ≡ w → r ≡ Ok w 
 needed_is want w r e f =
     ap (needed want) f ∙ ap (λ (b : Bool). if b then good want else clash w want) (eq-eqb w want (sym e)) ∙ ap good e
 
+-- a part is as wide as it is said to be
+part_is : (part : Option (ℤ × ℤ)) (u w : ℕ) → PartGives part u w → part_width u part ≡ Ok w
+part_is None u w h = ap good (sym h)
+part_is (Some b) u w h =
+    ap (λ (c : Bool). if c then good (bits b.0 + 1 - bits b.1) else clash u (bits b.0 + 1)) (less (bits b.0) u h.0) ∙ ap good (sym h.1)
+
+both_are : (r s : Result ℕ Clash) (w : ℕ) → r ≡ Ok w → s ≡ Ok w → needed_by r s ≡ Ok w
+both_are r s w e f = ap₂ needed_by e f ∙ ap (λ (b : Bool). if b then good w else clash w w) (eq-eqb w w refl)
+
+-- the literals of arms
+literals_are : (w : ℕ) (ls : List Literal) → EachOf (λ (l : Literal). bits l.width ≡ w) ls → literals_width w ls ≡ Ok w
+literals_are w [] h = refl
+literals_are w (l ∷ ls) h = ap (λ (b : Bool). if b then literals_width w ls else clash (bits l.width) w) (eq-eqb (bits l.width) w h.0) ∙ literals_are w ls h.1
+
+arms_have : (has : Name → ℕ → Type 0) (w : ℕ) (arms : Arms) → IsTypedArms has w arms → EachOf (λ (l : Literal). bits l.width ≡ w) (arm_literals arms)
+arms_have has w NoArms h = tt
+arms_have has w (ThenArm tests body rest) h = each_joined (λ (l : Literal). bits l.width ≡ w) tests (arm_literals rest) h.0 (arms_have (AfterBody body has) w rest h.1.1)
+
 -- ---- statements
 
 one_width : (v w : ℕ) (r : Result ℕ Clash) → r ≡ Ok v → r ≡ Ok w → v ≡ w
@@ -129,9 +148,10 @@ mutual
   unfolding FitsAfter
 
   stmt_fits : (has : Name → ℕ → Type 0) (s : Stmt) (more : List Stmt) (W : Widths) → Agree has W → IsTypedStmt has s → FitsAfter (After s has) more → mismatch_among W (s ∷ (inside s ++ more)) ≡ None
-  stmt_fits has (Assign slot line gens x e) more W a t k =
-      earlier_none (stmt_mismatch W (Assign slot line gens x e)) (mismatch_among W more)
-      (nothing_told line x _ t.0 (needed_is (width_of W x) t.0 (width_in W e) (looked_up has W x t.0 a t.1.0) (width_is has W a e t.0 t.1.1))) (k W a)
+  stmt_fits has (Assign slot line gens x part e) more W a t k =
+      earlier_none (stmt_mismatch W (Assign slot line gens x part e)) (mismatch_among W more)
+      (nothing_told line x _ t.1 (both_are (part_width (width_of W x) part) (width_in W e) t.1
+      (ap (λ (u : ℕ). part_width u part) (looked_up has W x t.0 a t.2.0) ∙ part_is part t.0 t.1 t.2.1.0) (width_is has W a e t.1 t.2.1.1))) (k W a)
   stmt_fits has (Let slot line gens x e) more W a t k =
       earlier_none (stmt_mismatch W (Let slot line gens x e)) (mismatch_among (put_let x (width_in W e) W) more)
       (nothing_told line x _ t.0 (width_is has W a e t.0 t.1)) (k (put_let x (width_in W e) W) (let_agrees has W x e t.0 a t.1))
@@ -140,6 +160,11 @@ mutual
       (nothing_told line _ _ 1 (needed_is 1 1 (width_in W c) refl (width_is has W a c 1 t.0)))
       (ap (mismatch_among W) (append_assoc (statements first) (else_statements second) more)
       ∙ body_fits has first (else_statements second ++ more) W a t.1.0 (λ V b. else_fits (AfterBody first has) second more V b t.1.1 k))
+  stmt_fits has (Case slot line gens v arms other) more W a t k =
+      earlier_none (stmt_mismatch W (Case slot line gens v arms other)) (mismatch_among W ((arms_statements arms ++ else_statements other) ++ more))
+      (nothing_told line _ _ t.0 (ap (λ (r : Result ℕ Clash). arms_width r (arm_literals arms)) (width_is has W a v t.0 t.1.0) ∙ literals_are t.0 (arm_literals arms) (arms_have has t.0 arms t.1.1.0)))
+      (ap (mismatch_among W) (append_assoc (arms_statements arms) (else_statements other) more)
+      ∙ arms_fit has t.0 arms (else_statements other ++ more) W a t.1.1.0 (λ V b. else_fits (AfterArms arms has) other more V b t.1.1.1 k))
 
   body_fits : (has : Name → ℕ → Type 0) (b : Body) (more : List Stmt) (W : Widths) → Agree has W → IsTypedBody has b → FitsAfter (AfterBody b has) more → mismatch_among W (statements b ++ more) ≡ None
   body_fits has Done more W a t k = k W a
@@ -150,6 +175,12 @@ mutual
   else_fits : (has : Name → ℕ → Type 0) (b : Else) (more : List Stmt) (W : Widths) → Agree has W → IsTypedElse has b → FitsAfter (AfterElse b has) more → mismatch_among W (else_statements b ++ more) ≡ None
   else_fits has NoElse more W a t k = k W a
   else_fits has (Otherwise body) more W a t k = body_fits has body more W a t k
+
+  arms_fit : (has : Name → ℕ → Type 0) (w : ℕ) (arms : Arms) (more : List Stmt) (W : Widths) → Agree has W → IsTypedArms has w arms → FitsAfter (AfterArms arms has) more → mismatch_among W (arms_statements arms ++ more) ≡ None
+  arms_fit has w NoArms more W a t k = k W a
+  arms_fit has w (ThenArm tests body rest) more W a t k =
+      ap (mismatch_among W) (append_assoc (statements body) (arms_statements rest) more)
+      ∙ body_fits has body (arms_statements rest ++ more) W a t.1.0 (λ V b. arms_fit (AfterBody body has) w rest more V b t.1.1 k)
 
 -- ---- signals
 

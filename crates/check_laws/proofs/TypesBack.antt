@@ -1,6 +1,6 @@
 -- Where all widths go together, expressions are typed.
 use Rattle.std.proofs.Common.{◌≡◌, ℕ, ◌+◌, ◌-◌, ◌≤◌, ◌==◌, Bool, true, false, true≢false, ◌||◌, bytes_eq, List, [], ◌∷◌, ◌++◌, map, Option, Some, None, unwrap_or, if◌then◌else◌, inl, inr, refl, sym, ap, ◌∙◌, subst, append_assoc, nat_le, nat_lt, leb-true, ltb-true, eqb-true}
-use Rattle.std.specs.Prelude.{Result, Ok, Err}
+use Rattle.std.specs.Prelude.{ℤ, Result, Ok, Err}
 use Rattle.std.proofs.lemmas.Bool.{or_right}
 use Rattle.std.proofs.lemmas.List.{append-nil}
 use Rattle.exec_core.specs.Block.{Name}
@@ -10,10 +10,11 @@ use Rattle.design_core.specs.declared.expr.UnOp.{UnOp}
 use Rattle.design_core.specs.declared.expr.UnOp.TheVariants as one
 use Rattle.design_core.specs.declared.expr.Op.{Op}
 use Rattle.design_core.specs.declared.expr.Op.TheVariants as two
+use Rattle.design_core.specs.declared.expr.Literal.{Literal}
 use Rattle.design_core.specs.declared.variant.Signal.{Signal}
 use Rattle.design_core.specs.declared.variant.Kind.{Kind}
 use Rattle.design_core.specs.declared.variant.Kind.TheVariants.{Input, Output, Wire, Reg, ChildOut}
-use Rattle.design_core.specs.Design.{Expr, Read, Out, Value, Unary, Binary, Mux, Zext, Slice, Gens, Stmt, Assign, Let, If, Body, Done, Then, Else, NoElse, Otherwise, Conn, Child, Block, Variant}
+use Rattle.design_core.specs.Design.{Expr, Read, Out, Value, Unary, Binary, Mux, Zext, Slice, Gens, Stmt, Assign, Let, If, Case, Body, Done, Then, Else, NoElse, Otherwise, Arms, NoArms, ThenArm, Conn, Child, Block, Variant}
 use Rattle.design_exec.specs.Processes.{signal_width}
 use Rattle.check_core.specs.declared.fault.Clash.{Clash}
 use Rattle.check_core.specs.Faults.{first_of}
@@ -21,18 +22,18 @@ use Rattle.check_core.specs.Names.{named, any_kind, is_input, is_child_output, s
 use Rattle.design_core.specs.Dotted.{below}
 use Rattle.check_core.specs.Ports.{unknown_output, unknown_port_in, unknown_port_in_child, unknown_port_in_block}
 use Rattle.design_core.specs.WellFormed.{signals_at}
-use Rattle.design_core.specs.Statements.{inside, statements, else_statements}
-use Rattle.check_core.specs.Widths.{Widths, clash, where_same, unary_width, binary_width, mux_width, zext_width, slice_width, unary_of, binary_of, mux_of, zext_of, slice_of, width_of, width_in, needed, widths_of, start_width, signal_mismatch, stmt_mismatch, put_let, mismatch_among, mismatch_in_child, mismatch_in_block}
+use Rattle.design_core.specs.Statements.{inside, statements, else_statements, arms_statements}
+use Rattle.check_core.specs.Widths.{Widths, clash, where_same, unary_width, binary_width, mux_width, zext_width, slice_width, unary_of, binary_of, mux_of, zext_of, slice_of, width_of, width_in, needed, needed_by, part_width, literals_width, arms_width, arm_literals, widths_of, start_width, signal_mismatch, stmt_mismatch, put_let, mismatch_among, mismatch_in_child, mismatch_in_block}
 use Rattle.design_core.specs.Widths.{bits}
 use Rattle.check_exec.proofs.Children.{child_stands}
-use Rattle.check_exec.proofs.Facts.{same_name, name_same, in_index, earlier_left, earlier_right, none_found}
+use Rattle.check_exec.proofs.Facts.{same_name, name_same, each_left, each_right, in_index, earlier_left, earlier_right, none_found}
 use Rattle.check_exec.proofs.Instances.{IsClean, clean}
 use Rattle.check_exec.proofs.Links.{conn_passes}
 use Rattle.check_exec.proofs.Names.{Differ, signals_differ}
 use Rattle.check_exec.proofs.SignalWidths.{put_known}
 use Rattle.check_exec.proofs.Targets.{named_in, named_any, target_signal, block_known}
 use Rattle.check_exec.proofs.Widths.{is_known, matches, err_ok, same_ok, if_ok, needed_there, width_is}
-use Rattle.check_laws.specs.Typing.{UnaryGives, BinaryGives, HasWidth, WithLet, After, AfterBody, AfterElse, IsTypedStmt, IsTypedBody, IsTypedElse, IsDeclared, StartFits, IsTypedConn}
+use Rattle.check_laws.specs.Typing.{UnaryGives, BinaryGives, HasWidth, WithLet, After, AfterBody, AfterElse, AfterArms, PartGives, IsTypedStmt, IsTypedBody, IsTypedElse, IsTypedArms, IsDeclared, StartFits, IsTypedConn}
 use Rattle.check_laws.specs.Accepting.{AcceptedAreTyped}
 use Rattle.check_laws.proofs.Used.{placed, used_clean}
 
@@ -117,6 +118,33 @@ zext_parts (Err f) v w e = absurd (err_ok f w e)
 slice_parts : (r : Result ℕ Clash) (h l w : ℕ) → slice_of r h l ≡ Ok w → OneParts r (λ u. slice_width u h l ≡ Ok w)
 slice_parts (Ok u) h l w e = record { operand = u; there = refl; gives = e }
 slice_parts (Err f) h l w e = absurd (err_ok f w e)
+
+-- ---- what is assigned, and the literals of arms
+
+needed_back : (u : ℕ) (r : Result ℕ Clash) (v : ℕ) → needed_by (Ok u) r ≡ Ok v → (v ≡ u) × (r ≡ Ok v)
+needed_back u (Ok have) v e = let t = if_ok (have == u) u v _ e in (sym t.1, ap (λ (n : ℕ). Ok n) (eqb-true have u t.0 ∙ t.1))
+needed_back u (Err f) v e = absurd (err_ok f v e)
+
+part_back : (part : Option (ℤ × ℤ)) (u : ℕ) (r : Result ℕ Clash) (v : ℕ) → needed_by (part_width u part) r ≡ Ok v → PartGives part u v × (r ≡ Ok v)
+part_back None u r v e = needed_back u r v e
+part_back (Some b) u r v e = by_test (nat_lt (bits b.0) u) refl r e
+  where
+    by_test : (t : Bool) → nat_lt (bits b.0) u ≡ t → (r : Result ℕ Clash) → needed_by (if t then Ok (bits b.0 + 1 - bits b.1) else clash u (bits b.0 + 1)) r ≡ Ok v → PartGives (Some b) u v × (r ≡ Ok v)
+    by_test true h r e = let k = needed_back (bits b.0 + 1 - bits b.1) r v e in ((ltb-true (bits b.0) u h, k.0), k.1)
+    by_test false h (Ok have) e = absurd (err_ok _ v e)
+    by_test false h (Err f) e = absurd (err_ok f v e)
+
+literals_back : (w : ℕ) (ls : List Literal) (v : ℕ) → literals_width w ls ≡ Ok v → EachOf (λ (l : Literal). bits l.width ≡ w) ls
+literals_back w [] v e = tt
+literals_back w (l ∷ ls) v e = by_test (λ f. literals_back w ls v f) (bits l.width == w) refl e
+  where
+    by_test : (literals_width w ls ≡ Ok v → EachOf (λ (l : Literal). bits l.width ≡ w) ls) → (t : Bool) → (bits l.width == w) ≡ t → (if t then literals_width w ls else clash (bits l.width) w) ≡ Ok v → EachOf (λ (l : Literal). bits l.width ≡ w) (l ∷ ls)
+    by_test more true h f = (eqb-true (bits l.width) w h, more f)
+    by_test more false h f = absurd (err_ok _ v f)
+
+arms_parts : (r : Result ℕ Clash) (ls : List Literal) (v : ℕ) → arms_width r ls ≡ Ok v → OneParts r (λ w. EachOf (λ (l : Literal). bits l.width ≡ w) ls)
+arms_parts (Ok w) ls v e = record { operand = w; there = refl; gives = literals_back w ls v e }
+arms_parts (Err f) ls v e = absurd (err_ok f v e)
 
 -- ---- names
 
@@ -230,28 +258,30 @@ module _ (v : Variant) (clocked : Bool) where
   same_list : (has : Name → ℕ → Type 0) (list other : List Stmt) → list ≡ other → Passes has list → Passes has other
   same_list has list other e p = subst (Passes has) e p
 
-  assign_back : (has : Name → ℕ → Type 0) (W : Widths) (known : Name → Bool) → Agree has W known → (slot line : ℕ) (gens : Gens) (x : Name) (e : Expr) → stmt_mismatch W (Assign slot line gens x e) ≡ None → unknown_in (scope_of v) (targets (scope_of v) clocked) known (Assign slot line gens x e) ≡ None → unknown_output outputs line e ≡ None
-      → (w : ℕ) × (has x w × HasWidth has e w)
-  assign_back has W known a slot line gens x e f r o =
+  assign_back : (has : Name → ℕ → Type 0) (W : Widths) (known : Name → Bool) → Agree has W known → (slot line : ℕ) (gens : Gens) (x : Name) (part : Option (ℤ × ℤ)) (e : Expr) → stmt_mismatch W (Assign slot line gens x part e) ≡ None → unknown_in (scope_of v) (targets (scope_of v) clocked) known (Assign slot line gens x part e) ≡ None → unknown_output outputs line e ≡ None
+      → (u w : ℕ) × (has x u × (PartGives part u w × HasWidth has e w))
+  assign_back has W known a slot line gens x part e f r o =
       let signal = target_signal v clocked x (is_known (targets (scope_of v) clocked x) _ (earlier_right (unknown_read (scope_of v) known line e) _ r)) in
-      let m = matches line x (needed (width_of W x) (width_in W e)) f in (
+      let m = matches line x (needed_by (part_width (width_of W x) part) (width_in W e)) f in
+      let k = part_back part (width_of W x) (width_in W e) m.0 m.1 in (
         width_of W x,
+        m.0,
         (
           looked_is W has x (a.names x (or_right (known x) (named any_kind v.signals x) signal)),
-          expr_back has W known a line line e (width_of W x) (earlier_left (unknown_read (scope_of v) known line e) _ r) o (needed_there (width_of W x) (width_in W e) m.0 m.1),
+          (k.0, expr_back has W known a line line e m.0 (earlier_left (unknown_read (scope_of v) known line e) _ r) o k.1),
         ),
       )
 
   mutual
     stmt_back : (has : Name → ℕ → Type 0) (s : Stmt) (more : List Stmt) → Passes has (s ∷ (inside s ++ more)) → IsTypedStmt has s × Passes (After s has) more
-    stmt_back has (Assign slot line gens x e) more p = (
-      assign_back has p.widths p.known p.agree slot line gens x e (earlier_left (stmt_mismatch p.widths (Assign slot line gens x e)) _ p.fits) (earlier_left (unknown_in (scope_of v) (targets (scope_of v) clocked) p.known (Assign slot line gens x e)) _ p.names) (earlier_left (unknown_output outputs line e) _ p.ports),
+    stmt_back has (Assign slot line gens x part e) more p = (
+      assign_back has p.widths p.known p.agree slot line gens x part e (earlier_left (stmt_mismatch p.widths (Assign slot line gens x part e)) _ p.fits) (earlier_left (unknown_in (scope_of v) (targets (scope_of v) clocked) p.known (Assign slot line gens x part e)) _ p.names) (earlier_left (unknown_output outputs line e) _ p.ports),
       record {
         widths = p.widths;
         known = p.known;
         agree = p.agree;
-        fits = earlier_right (stmt_mismatch p.widths (Assign slot line gens x e)) _ p.fits;
-        names = earlier_right (unknown_in (scope_of v) (targets (scope_of v) clocked) p.known (Assign slot line gens x e)) _ p.names;
+        fits = earlier_right (stmt_mismatch p.widths (Assign slot line gens x part e)) _ p.fits;
+        names = earlier_right (unknown_in (scope_of v) (targets (scope_of v) clocked) p.known (Assign slot line gens x part e)) _ p.names;
         ports = earlier_right (unknown_output outputs line e) _ p.ports;
       },
     )
@@ -282,6 +312,21 @@ module _ (v : Variant) (clocked : Bool) where
         let one = body_back has first (else_statements second ++ more) (same_list has _ _ (append_assoc (statements first) (else_statements second) more) behind) in
         let two = else_back (AfterBody first has) second more one.1 in
         ((t, (one.0, two.0)), two.1)
+    stmt_back has (Case slot line gens value arms other) more p =
+        let m = matches line _ (arms_width (width_in p.widths value) (arm_literals arms)) (earlier_left (stmt_mismatch p.widths (Case slot line gens value arms other)) _ p.fits) in
+        let k = arms_parts (width_in p.widths value) (arm_literals arms) m.0 m.1 in
+        let t = expr_back has p.widths p.known p.agree line line value k.operand (earlier_left (unknown_read (scope_of v) p.known line value) _ p.names) (earlier_left (unknown_output outputs line value) _ p.ports) k.there in
+        let behind : Passes has ((arms_statements arms ++ else_statements other) ++ more) = record {
+          widths = p.widths;
+          known = p.known;
+          agree = p.agree;
+          fits = earlier_right (stmt_mismatch p.widths (Case slot line gens value arms other)) _ p.fits;
+          names = earlier_right (unknown_read (scope_of v) p.known line value) _ p.names;
+          ports = earlier_right (unknown_output outputs line value) _ p.ports;
+        } in
+        let one = arms_back has k.operand arms (else_statements other ++ more) k.gives (same_list has _ _ (append_assoc (arms_statements arms) (else_statements other) more) behind) in
+        let two = else_back (AfterArms arms has) other more one.1 in
+        ((k.operand, (t, (one.0, two.0))), two.1)
 
     body_back : (has : Name → ℕ → Type 0) (b : Body) (more : List Stmt) → Passes has (statements b ++ more) → IsTypedBody has b × Passes (AfterBody b has) more
     body_back has Done more p = (tt, p)
@@ -293,6 +338,13 @@ module _ (v : Variant) (clocked : Bool) where
     else_back : (has : Name → ℕ → Type 0) (b : Else) (more : List Stmt) → Passes has (else_statements b ++ more) → IsTypedElse has b × Passes (AfterElse b has) more
     else_back has NoElse more p = (tt, p)
     else_back has (Otherwise body) more p = body_back has body more p
+
+    arms_back : (has : Name → ℕ → Type 0) (w : ℕ) (arms : Arms) (more : List Stmt) → EachOf (λ (l : Literal). bits l.width ≡ w) (arm_literals arms) → Passes has (arms_statements arms ++ more) → IsTypedArms has w arms × Passes (AfterArms arms has) more
+    arms_back has w NoArms more literals p = (tt, p)
+    arms_back has w (ThenArm tests body rest) more literals p =
+        let one = body_back has body (arms_statements rest ++ more) (same_list has _ _ (append_assoc (statements body) (arms_statements rest) more) p) in
+        let two = arms_back (AfterBody body has) w rest more (each_right (λ (l : Literal). bits l.width ≡ w) tests (arm_literals rest) literals) one.1 in
+        ((each_left (λ (l : Literal). bits l.width ≡ w) tests (arm_literals rest) literals, (one.0, two.0)), two.1)
 
 -- ---- a module
 

@@ -1,11 +1,13 @@
 -- The fault of a verdict is one of the kind whose test found it.
 use Rattle.std.proofs.Common.{◌≡◌, ℕ, Bool, true, false, ◌||◌, ◌&&◌, bytes_eq, List, [], ◌∷◌, Option, Some, None, option_map, if◌then◌else◌, refl, sym, ap, ◌∙◌, subst}
 use Rattle.std.specs.Prelude.{slice_get, Result, Ok, Err}
+use Rattle.std.specs.List.{list_all}
 use Rattle.std.proofs.lemmas.Option.{none-some, same_Some}
 use Rattle.exec_core.specs.Block.{Name}
+use Rattle.exec_core.specs.Decided.{some_below}
 use Rattle.list_core.specs.Lists.{IsIn}
 use Rattle.design_core.specs.declared.design.Instance.{Instance}
-use Rattle.design_core.specs.Design.{Expr, Read, Out, Value, Unary, Binary, Mux, Zext, Slice, Stmt, Assign, Let, If, Body, Done, Then, Else, NoElse, Otherwise, Conn, Block, Variant, Design}
+use Rattle.design_core.specs.Design.{Expr, Read, Out, Value, Unary, Binary, Mux, Zext, Slice, Stmt, Assign, Let, If, Case, Body, Done, Then, Else, NoElse, Otherwise, Arms, NoArms, ThenArm, Conn, Block, Variant, Design}
 use Rattle.check_core.specs.declared.fault.CheckFault.{CheckFault}
 use Rattle.check_core.specs.declared.fault.CheckFault.TheVariants as fault
 use Rattle.check_core.specs.declared.fault.Clash.{Clash}
@@ -62,9 +64,10 @@ reads s lets line (Zext e w) = reads s lets line e
 reads s lets line (Slice e h l) = reads s lets line e
 
 named_stmt : (s : names.Scope) (assigned lets : Name → Bool) (t : Stmt) → Gives refusal.UnknownName (names.unknown_in s assigned lets t)
-named_stmt s assigned lets (Assign slot line gens x e) = two refusal.UnknownName (names.unknown_read s lets line e) _ (reads s lets line e) (unless refusal.UnknownName (assigned x) _ refl)
+named_stmt s assigned lets (Assign slot line gens x part e) = two refusal.UnknownName (names.unknown_read s lets line e) _ (reads s lets line e) (unless refusal.UnknownName (assigned x) _ refl)
 named_stmt s assigned lets (Let slot line gens x e) = reads s lets line e
 named_stmt s assigned lets (If slot line gens c first second) = reads s lets line c
+named_stmt s assigned lets (Case slot line gens v arms other) = reads s lets line v
 
 named_among : (s : names.Scope) (assigned lets : Name → Bool) (list : List Stmt) → Gives refusal.UnknownName (names.unknown_among s assigned lets list)
 named_among s assigned lets [] = tt
@@ -94,9 +97,10 @@ sized true line x = tt
 sized false line x = refl
 
 bad_stmt : (s : Stmt) → Gives refusal.BadWidth (widths.bad_stmt s)
-bad_stmt (Assign slot line gens x e) = sized (widths.is_sized e) line x
+bad_stmt (Assign slot line gens x part e) = sized (widths.is_sized e && widths.is_part part) line x
 bad_stmt (Let slot line gens x e) = sized (widths.is_sized e) line x
 bad_stmt (If slot line gens c first second) = sized (widths.is_sized c) line _
+bad_stmt (Case slot line gens v arms other) = sized (widths.is_sized v && list_all widths.is_literal (widths.arm_literals arms)) line _
 
 bad : (v : Variant) → Gives refusal.BadWidth (widths.bad_width v)
 bad v =
@@ -111,9 +115,10 @@ fits line x (Ok w) = tt
 fits line x (Err clash) = refl
 
 fits_stmt : (W : widths.Widths) (s : Stmt) → Gives refusal.WidthMismatch (widths.stmt_mismatch W s)
-fits_stmt W (Assign slot line gens x e) = fits line x _
+fits_stmt W (Assign slot line gens x part e) = fits line x _
 fits_stmt W (Let slot line gens x e) = fits line x _
 fits_stmt W (If slot line gens c first second) = fits line _ _
+fits_stmt W (Case slot line gens v arms other) = fits line _ _
 
 fits_among : (W : widths.Widths) (list : List Stmt) → Gives refusal.WidthMismatch (widths.mismatch_among W list)
 fits_among W [] = tt
@@ -145,9 +150,10 @@ outputs known line (Zext e w) = outputs known line e
 outputs known line (Slice e h l) = outputs known line e
 
 port_stmt : (known : Name → Bool) (s : Stmt) → Gives refusal.UnknownPort (ports.unknown_port_in known s)
-port_stmt known (Assign slot line gens x e) = outputs known line e
+port_stmt known (Assign slot line gens x part e) = outputs known line e
 port_stmt known (Let slot line gens x e) = outputs known line e
 port_stmt known (If slot line gens c first second) = outputs known line c
+port_stmt known (Case slot line gens v arms other) = outputs known line v
 
 no_port : (variants : List Variant) (v : Variant) → Gives refusal.UnknownPort (ports.unknown_port variants v)
 no_port variants v =
@@ -191,36 +197,44 @@ undriven v = all refusal.Undriven (drivers.undriven_at (drivers.is_assigned v.bl
 
 -- ---- paths
 
-latch_in : (b : Block) → Gives refusal.Latch (paths.latch_in b)
-latch_in b = chosen refusal.Latch b.clocked None _ tt (all refusal.Latch (paths.latch_at b) (drivers.driven_in b) (λ d. chosen refusal.Latch (paths.body_skips b.body d.1) _ None refl tt))
+latch_in : (W : Name → ℕ) (b : Block) → Gives refusal.Latch (paths.latch_in W b)
+latch_in W b = chosen refusal.Latch b.clocked None _ tt (all refusal.Latch (paths.latch_at W b) (drivers.driven_in b) (λ d. chosen refusal.Latch (some_below (W d.1) (paths.body_skips b.body d.1)) _ None refl tt))
 
-early_read : (missing : Name → Bool) (line : ℕ) (e : Expr) → Gives refusal.ReadBeforeWrite (paths.early_read missing line e)
-early_read missing line (Read x) = chosen refusal.ReadBeforeWrite (missing x) _ None refl tt
-early_read missing line (Out u q) = tt
-early_read missing line (Value l) = tt
-early_read missing line (Unary o e) = early_read missing line e
-early_read missing line (Binary o a b) = two refusal.ReadBeforeWrite (paths.early_read missing line a) (paths.early_read missing line b) (early_read missing line a) (early_read missing line b)
-early_read missing line (Mux c a b) =
-    two refusal.ReadBeforeWrite (paths.early_read missing line c) (earlier (paths.early_read missing line a) (paths.early_read missing line b)) (early_read missing line c)
-    (two refusal.ReadBeforeWrite (paths.early_read missing line a) (paths.early_read missing line b) (early_read missing line a) (early_read missing line b))
-early_read missing line (Zext e w) = early_read missing line e
-early_read missing line (Slice e h l) = early_read missing line e
+module _ (W : Name → ℕ) where
+  early_read : (missing : paths.Bits) (line : ℕ) (e : Expr) → Gives refusal.ReadBeforeWrite (paths.early_read W missing line e)
+  early_read missing line (Read x) = chosen refusal.ReadBeforeWrite (some_below (W x) (missing x)) _ None refl tt
+  early_read missing line (Out u q) = tt
+  early_read missing line (Value l) = tt
+  early_read missing line (Unary o e) = early_read missing line e
+  early_read missing line (Binary o a b) = two refusal.ReadBeforeWrite (paths.early_read W missing line a) (paths.early_read W missing line b) (early_read missing line a) (early_read missing line b)
+  early_read missing line (Mux c a b) =
+      two refusal.ReadBeforeWrite (paths.early_read W missing line c) (earlier (paths.early_read W missing line a) (paths.early_read W missing line b)) (early_read missing line c)
+      (two refusal.ReadBeforeWrite (paths.early_read W missing line a) (paths.early_read W missing line b) (early_read missing line a) (early_read missing line b))
+  early_read missing line (Zext e w) = early_read missing line e
+  early_read missing line (Slice e h l) = early_read missing line e
 
-mutual
-  early : (missing : Name → Bool) (s : Stmt) → Gives refusal.ReadBeforeWrite (paths.early missing s)
-  early missing (Assign slot line gens x e) = early_read missing line e
-  early missing (Let slot line gens x e) = early_read missing line e
-  early missing (If slot line gens c a b) =
-      two refusal.ReadBeforeWrite (paths.early_read missing line c) (earlier (paths.early_in missing a) (paths.early_in_else missing b)) (early_read missing line c)
-      (two refusal.ReadBeforeWrite (paths.early_in missing a) (paths.early_in_else missing b) (early_in missing a) (early_else missing b))
+  mutual
+    early : (missing : paths.Bits) (s : Stmt) → Gives refusal.ReadBeforeWrite (paths.early W missing s)
+    early missing (Assign slot line gens x part e) = early_read missing line e
+    early missing (Let slot line gens x e) = early_read missing line e
+    early missing (If slot line gens c a b) =
+        two refusal.ReadBeforeWrite (paths.early_read W missing line c) (earlier (paths.early_in W missing a) (paths.early_in_else W missing b)) (early_read missing line c)
+        (two refusal.ReadBeforeWrite (paths.early_in W missing a) (paths.early_in_else W missing b) (early_in missing a) (early_else missing b))
+    early missing (Case slot line gens v arms other) =
+        two refusal.ReadBeforeWrite (paths.early_read W missing line v) (earlier (paths.early_in_arms W missing arms) (paths.early_in_else W missing other)) (early_read missing line v)
+        (two refusal.ReadBeforeWrite (paths.early_in_arms W missing arms) (paths.early_in_else W missing other) (early_arms missing arms) (early_else missing other))
 
-  early_in : (missing : Name → Bool) (b : Body) → Gives refusal.ReadBeforeWrite (paths.early_in missing b)
-  early_in missing Done = tt
-  early_in missing (Then s rest) = two refusal.ReadBeforeWrite (paths.early missing s) _ (early missing s) (early_in (λ y. missing y && paths.skips s y) rest)
+    early_in : (missing : paths.Bits) (b : Body) → Gives refusal.ReadBeforeWrite (paths.early_in W missing b)
+    early_in missing Done = tt
+    early_in missing (Then s rest) = two refusal.ReadBeforeWrite (paths.early W missing s) _ (early missing s) (early_in (λ y i. missing y i && paths.skips s y i) rest)
 
-  early_else : (missing : Name → Bool) (b : Else) → Gives refusal.ReadBeforeWrite (paths.early_in_else missing b)
-  early_else missing NoElse = tt
-  early_else missing (Otherwise body) = early_in missing body
+    early_else : (missing : paths.Bits) (b : Else) → Gives refusal.ReadBeforeWrite (paths.early_in_else W missing b)
+    early_else missing NoElse = tt
+    early_else missing (Otherwise body) = early_in missing body
+
+    early_arms : (missing : paths.Bits) (arms : Arms) → Gives refusal.ReadBeforeWrite (paths.early_in_arms W missing arms)
+    early_arms missing NoArms = tt
+    early_arms missing (ThenArm tests body rest) = two refusal.ReadBeforeWrite (paths.early_in W missing body) _ (early_in missing body) (early_arms missing rest)
 
 -- ---- a variant, an instance, a design
 
@@ -233,8 +247,8 @@ of_variant refusal.UnboundInput variants v = unbound variants v
 of_variant refusal.WidthMismatch variants v = mismatched variants v
 of_variant refusal.TwoDrivers variants v = two_drivers v
 of_variant refusal.Undriven variants v = undriven v
-of_variant refusal.Latch variants v = all refusal.Latch paths.latch_in v.blocks latch_in
-of_variant refusal.ReadBeforeWrite variants v = all refusal.ReadBeforeWrite paths.early_in_block v.blocks (λ b. early_in (paths.own b) b.body)
+of_variant refusal.Latch variants v = all refusal.Latch (paths.latch_in (paths.declared_width v.signals)) v.blocks (latch_in (paths.declared_width v.signals))
+of_variant refusal.ReadBeforeWrite variants v = all refusal.ReadBeforeWrite (paths.early_in_block (paths.declared_width v.signals)) v.blocks (λ b. early_in (paths.declared_width v.signals) (λ y i. paths.own b y) b.body)
 
 same_kind : (path : Name) (f : CheckFault) → refusal_of (fault_in path f) ≡ refusal_of f
 same_kind path (fault.UnknownName at) = refl

@@ -19,4 +19,4 @@ abbrev pub AcceptedAreDriven : Type 0
 AcceptedAreDriven = (d : Design) → IsSound d → (v : Variant) → IsUsed d v → DrivenOnce v × AllDriven v
 
 abbrev pub AcceptedAreAssigned : Type 0
-AcceptedAreAssigned = (d : Design) → IsSound d → (v : Variant) → IsUsed d v → EachOf AssignsAlways v.blocks × EachOf AssignsFirst v.blocks
+AcceptedAreAssigned = (d : Design) → IsSound d → (v : Variant) → IsUsed d v → EachOf (AssignsAlways v) v.blocks × EachOf (AssignsFirst v) v.blocks

@@ -3,17 +3,18 @@ use Rattle.std.specs.Prelude.{◌≡◌, true, ◌⊎◌, List, [], ◌∷◌, m
 use Rattle.exec_core.specs.Block.{Name}
 use Rattle.list_core.specs.Lists.{EachOf, IsIn, AreApart}
 use Rattle.design_core.specs.declared.variant.Signal.{Signal}
-use Rattle.design_core.specs.Design.{Stmt, Assign, Let, If, Body, Done, Then, Else, NoElse, Otherwise, Conn, Block, Variant, Design}
+use Rattle.design_core.specs.Design.{Stmt, Assign, Let, If, Case, Body, Done, Then, Else, NoElse, Otherwise, Arms, NoArms, ThenArm, Conn, Block, Variant, Design}
 use Rattle.check_core.specs.declared.fault.Refusal.TheVariants.{TwoDrivers, Undriven}
 use Rattle.check_core.specs.Names.{is_driven}
 use Rattle.check_laws.specs.Kinds.{IsUsed, IsNotRefusedFor}
 
--- some assignment in it, at whatever depth, has the name for its target
+-- some assignment in it, at whatever depth, has the name for its target, whole or in part
 abbrev mutual
   pub Assigns : Stmt → Name → Type 0
-  Assigns (Assign slot line gens x e) y = y ≡ x
+  Assigns (Assign slot line gens x part e) y = y ≡ x
   Assigns (Let slot line gens x e) y = ⊥
   Assigns (If slot line gens c first second) y = BodyAssigns first y ⊎ ElseAssigns second y
+  Assigns (Case slot line gens v arms other) y = ArmsAssign arms y ⊎ ElseAssigns other y
 
   pub BodyAssigns : Body → Name → Type 0
   BodyAssigns Done y = ⊥
@@ -22,6 +23,10 @@ abbrev mutual
   pub ElseAssigns : Else → Name → Type 0
   ElseAssigns NoElse y = ⊥
   ElseAssigns (Otherwise body) y = BodyAssigns body y
+
+  pub ArmsAssign : Arms → Name → Type 0
+  ArmsAssign NoArms y = ⊥
+  ArmsAssign (ThenArm tests body rest) y = BodyAssigns body y ⊎ ArmsAssign rest y
 
 -- no two blocks of a list assign one name
 abbrev pub AssignApart : List Block → Type 0

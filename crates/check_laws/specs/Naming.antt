@@ -4,8 +4,8 @@ use Rattle.exec_core.specs.Block.{Name}
 use Rattle.list_core.specs.Lists.{EachOf, IsIn}
 use Rattle.design_core.specs.declared.variant.Signal.{Signal}
 use Rattle.design_core.specs.declared.variant.Kind.{Kind}
-use Rattle.design_core.specs.Design.{Expr, Read, Out, Value, Unary, Binary, Mux, Zext, Slice, Stmt, Assign, Let, If, Body, Done, Then, Else, NoElse, Otherwise, Conn, Child, Variant, Design}
-use Rattle.design_core.specs.Slots.{let_of, lets_of}
+use Rattle.design_core.specs.Design.{Expr, Read, Out, Value, Unary, Binary, Mux, Zext, Slice, Stmt, Assign, Let, If, Case, Body, Done, Then, Else, NoElse, Otherwise, Arms, NoArms, ThenArm, Conn, Child, Variant, Design}
+use Rattle.design_core.specs.Slots.{let_of, lets_of, arms_lets}
 use Rattle.check_core.specs.declared.fault.Refusal.TheVariants.{UnknownName}
 use Rattle.check_core.specs.Names.{any_kind, is_register, is_driven}
 use Rattle.check_laws.specs.Kinds.{IsUsed, IsNotRefusedFor}
@@ -46,10 +46,12 @@ IsTarget v true x = IsSignal is_register v.signals x
 -- each name that a statement reads is readable, and its target is one; a let is readable from its statement on
 abbrev mutual
   pub NamesStmt : Variant → Bool → (Name → Type 0) → Stmt → Type 0
-  NamesStmt v clocked lets (Assign slot line gens x e) = ReadsKnown (IsReadable v lets) (IsChild v.children) e × IsTarget v clocked x
+  NamesStmt v clocked lets (Assign slot line gens x part e) = ReadsKnown (IsReadable v lets) (IsChild v.children) e × IsTarget v clocked x
   NamesStmt v clocked lets (Let slot line gens x e) = ReadsKnown (IsReadable v lets) (IsChild v.children) e
   NamesStmt v clocked lets (If slot line gens c first second) =
       ReadsKnown (IsReadable v lets) (IsChild v.children) c × (NamesBody v clocked lets first × NamesElse v clocked (λ y. lets y ⊎ IsIn y (lets_of first)) second)
+  NamesStmt v clocked lets (Case slot line gens value arms other) =
+      ReadsKnown (IsReadable v lets) (IsChild v.children) value × (NamesArms v clocked lets arms × NamesElse v clocked (λ y. lets y ⊎ IsIn y (arms_lets arms)) other)
 
   pub NamesBody : Variant → Bool → (Name → Type 0) → Body → Type 0
   NamesBody v clocked lets Done = Unit {0}
@@ -58,6 +60,10 @@ abbrev mutual
   pub NamesElse : Variant → Bool → (Name → Type 0) → Else → Type 0
   NamesElse v clocked lets NoElse = Unit {0}
   NamesElse v clocked lets (Otherwise body) = NamesBody v clocked lets body
+
+  pub NamesArms : Variant → Bool → (Name → Type 0) → Arms → Type 0
+  NamesArms v clocked lets NoArms = Unit {0}
+  NamesArms v clocked lets (ThenArm tests body rest) = NamesBody v clocked lets body × NamesArms v clocked (λ y. lets y ⊎ IsIn y (lets_of body)) rest
 
 -- no let stands in front of a block, or at a connection
 abbrev pub no_let : Name → Type 0

@@ -1,15 +1,16 @@
 -- When the expressions of a design are typed: a clause for each form, whatever is judged first.
-use Rattle.std.specs.Prelude.{◌≡◌, ◌≢◌, ℕ, ◌+◌, ◌-◌, ◌<◌, ◌≤◌, Bool, true, ◌⊎◌, List}
+use Rattle.std.specs.Prelude.{◌≡◌, ◌≢◌, ℕ, ◌+◌, ◌-◌, ◌<◌, ◌≤◌, ℤ, Bool, true, ◌⊎◌, List, Option, Some, None}
 use Rattle.exec_core.specs.Block.{Name}
 use Rattle.list_core.specs.Lists.{EachOf, IsIn}
 use Rattle.design_core.specs.declared.expr.UnOp.{UnOp}
 use Rattle.design_core.specs.declared.expr.UnOp.TheVariants as one
 use Rattle.design_core.specs.declared.expr.Op.{Op}
 use Rattle.design_core.specs.declared.expr.Op.TheVariants as two
+use Rattle.design_core.specs.declared.expr.Literal.{Literal}
 use Rattle.design_core.specs.declared.variant.Signal.{Signal}
 use Rattle.design_core.specs.declared.variant.Kind.{Kind}
 use Rattle.design_core.specs.declared.variant.Kind.TheVariants.{Input, Output, Wire, Reg, ChildOut}
-use Rattle.design_core.specs.Design.{Expr, Read, Out, Value, Unary, Binary, Mux, Zext, Slice, Stmt, Assign, Let, If, Body, Done, Then, Else, NoElse, Otherwise, Conn, Child, Variant, Design}
+use Rattle.design_core.specs.Design.{Expr, Read, Out, Value, Unary, Binary, Mux, Zext, Slice, Stmt, Assign, Let, If, Case, Body, Done, Then, Else, NoElse, Otherwise, Arms, NoArms, ThenArm, Conn, Child, Variant, Design}
 use Rattle.check_core.specs.declared.fault.Refusal.TheVariants.{WidthMismatch}
 use Rattle.check_core.specs.Names.{any_kind, is_input}
 use Rattle.design_core.specs.Dotted.{below}
@@ -64,9 +65,10 @@ WithLet x e has y w = ((y ≡ x) × HasWidth has e w) ⊎ ((y ≢ x) × has y w)
 
 abbrev mutual
   pub After : Stmt → (Name → ℕ → Type 0) → Name → ℕ → Type 0
-  After (Assign slot line gens x e) has = has
+  After (Assign slot line gens x part e) has = has
   After (Let slot line gens x e) has = WithLet x e has
   After (If slot line gens c first second) has = AfterElse second (AfterBody first has)
+  After (Case slot line gens v arms other) has = AfterElse other (AfterArms arms has)
 
   pub AfterBody : Body → (Name → ℕ → Type 0) → Name → ℕ → Type 0
   AfterBody Done has = has
@@ -76,12 +78,23 @@ abbrev mutual
   AfterElse NoElse has = has
   AfterElse (Otherwise body) has = AfterBody body has
 
--- what is assigned has the width of its target, a let has a width, and a condition has one bit
+  pub AfterArms : Arms → (Name → ℕ → Type 0) → Name → ℕ → Type 0
+  AfterArms NoArms has = has
+  AfterArms (ThenArm tests body rest) has = AfterArms rest (AfterBody body has)
+
+-- how wide what is assigned to a target of this width is: as wide as the target, or as a slice that lies in it
+abbrev pub PartGives : Option (ℤ × ℤ) → ℕ → ℕ → Type 0
+PartGives None u w = w ≡ u
+PartGives (Some bounds) u w = (bits bounds.0 < u) × (w ≡ bits bounds.0 + 1 - bits bounds.1)
+
+-- what is assigned has the width of its target or of the slice of it, a let has a width, a condition has one bit, and the literals of the arms of
+-- a `case` have the width of its value
 abbrev mutual
   pub IsTypedStmt : (Name → ℕ → Type 0) → Stmt → Type 0
-  IsTypedStmt has (Assign slot line gens x e) = (w : ℕ) × (has x w × HasWidth has e w)
+  IsTypedStmt has (Assign slot line gens x part e) = (u w : ℕ) × (has x u × (PartGives part u w × HasWidth has e w))
   IsTypedStmt has (Let slot line gens x e) = (w : ℕ) × HasWidth has e w
   IsTypedStmt has (If slot line gens c first second) = HasWidth has c 1 × (IsTypedBody has first × IsTypedElse (AfterBody first has) second)
+  IsTypedStmt has (Case slot line gens v arms other) = (w : ℕ) × (HasWidth has v w × (IsTypedArms has w arms × IsTypedElse (AfterArms arms has) other))
 
   pub IsTypedBody : (Name → ℕ → Type 0) → Body → Type 0
   IsTypedBody has Done = Unit {0}
@@ -90,6 +103,10 @@ abbrev mutual
   pub IsTypedElse : (Name → ℕ → Type 0) → Else → Type 0
   IsTypedElse has NoElse = Unit {0}
   IsTypedElse has (Otherwise body) = IsTypedBody has body
+
+  pub IsTypedArms : (Name → ℕ → Type 0) → ℕ → Arms → Type 0
+  IsTypedArms has w NoArms = Unit {0}
+  IsTypedArms has w (ThenArm tests body rest) = EachOf (λ (l : Literal). bits l.width ≡ w) tests × (IsTypedBody has body × IsTypedArms (AfterBody body has) w rest)
 
 -- ---- a module
 

@@ -12,8 +12,8 @@ pub fn refusals_are_of_their_kind()
     ensures { VerdictsAreOfTheirKind }
 {}
 
-/// A design whose expressions, conditions, assignments, connections and start values are typed is not refused for widths that do not go
-/// together. Computes nothing.
+/// A design whose expressions, conditions, literals of arms, assignments, connections and start values are typed is not refused for widths
+/// that do not go together. Computes nothing.
 pub fn typed_are_not_refused()
     ensures { TypedAreNotRefused }
 {}
@@ -30,15 +30,16 @@ pub fn driven_once_are_not_refused()
     ensures driven { DrivenAreNotRefused }
 {}
 
-/// A design in which each path through a `comb` assigns each target of it is not refused for a latch; and one in which each path that
-/// reads an own name of its block has assigned it before is not refused for a read before a write. Computes nothing.
+/// A design in which each path through a `comb` assigns each bit of each target of it is not refused for a latch; and one in which each path
+/// that reads an own name of its block, whole or in part, has assigned each bit of it before is not refused for a read before a write.
+/// Computes nothing.
 pub fn assigned_in_time_are_not_refused()
     ensures always { AlwaysAreNotRefused }
     ensures first { FirstAreNotRefused }
 {}
 
 /// An accepted design is typed, each name that it reads or assigns is declared, its signals are driven once, and each path through a block
-/// assigns its targets, and its own names before it reads them: so the checks refuse all that is not so. Computes nothing.
+/// assigns each bit of its targets, and of its own names before it reads them: so the checks refuse all that is not so. Computes nothing.
 pub fn accepted_are_typed()
     ensures typed { AcceptedAreTyped }
     ensures named { AcceptedAreNamed }

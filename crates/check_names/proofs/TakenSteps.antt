@@ -4,7 +4,7 @@ use Rattle.std.specs.Borrow.{Bor}
 use Rattle.std.proofs.lemmas.List.{drop_more}
 use Rattle.std.proofs.Math.ListN.{drop_of_length-le}
 use Rattle.design_core.specs.declared.statement.Stmt as code_stmt
-use Rattle.design_core.specs.Design.{Stmt, Assign, Let, If}
+use Rattle.design_core.specs.Design.{Stmt, Assign, Let, If, Case}
 use Rattle.design_core.specs.Statements.{stmt_at, stmts_at}
 use Rattle.check_core.specs.declared.fault.CheckFault.TheVariants.{DuplicateName}
 use Rattle.names.specs.Known.{Name, Known, with, either}
@@ -62,9 +62,10 @@ lets_next found now all i s inside at is =
     ∙ ap (λ (l : List (Bor code_stmt.Stmt)). found ++ lets_in (stmts_at l)) (sym (drop_more all i s inside))
   where
     lets_both : (t : Stmt) (rest : List Stmt) → lets_in (t ∷ rest) ≡ lets_in (t ∷ []) ++ lets_in rest
-    lets_both (Assign slot line gens x e) rest = refl
+    lets_both (Assign slot line gens x part e) rest = refl
     lets_both (Let slot line gens x e) rest = refl
     lets_both (If slot line gens c first second) rest = refl
+    lets_both (Case slot line gens v arms other) rest = refl
 
 pub lets_end : (found : List (ℕ × Name)) (all : List (Bor code_stmt.Stmt)) (i : ℕ) → length all ≤ i → found ++ lets_in (stmts_at (drop i all)) ≡ found
 lets_end found all i past = ap (λ (l : List (Bor code_stmt.Stmt)). found ++ lets_in (stmts_at l)) (drop_of_length-le all past) ∙ append-nil found

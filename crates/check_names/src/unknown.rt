@@ -116,6 +116,10 @@ fn unknown_in(
             unknown_read(alloc, scope, lets, *line, test)?;
             Ok(())
         }
+        Stmt::Case { line, value, .. } => {
+            unknown_read(alloc, scope, lets, *line, value)?;
+            Ok(())
+        }
     }
 }
 

@@ -8,7 +8,7 @@ use Rattle.design_core.specs.declared.statement.Stmt as code_stmt
 use Rattle.design_core.specs.declared.variant.Block as code_block
 use Rattle.design_core.specs.declared.variant.Conn as code_conn
 use Rattle.design_core.specs.View.{block_of, conn_of}
-use Rattle.design_core.specs.Design.{Stmt, Assign, Let, If}
+use Rattle.design_core.specs.Design.{Stmt, Assign, Let, If, Case}
 use Rattle.check_core.specs.declared.fault.CheckFault.{CheckFault}
 use Rattle.names.specs.Known.{Name}
 use Rattle.names.specs.Maps.{put_value}
@@ -81,9 +81,10 @@ first_both f (x ∷ xs) ys = ap (earlier (f x)) (first_both f xs ys) ∙ sym (ag
     again None b c = refl
 
 assignments_split : (s : Stmt) (rest : List Stmt) → assignments (s ∷ rest) ≡ assignments (s ∷ []) ++ assignments rest
-assignments_split (Assign slot line gens x e) rest = refl
+assignments_split (Assign slot line gens x part e) rest = refl
 assignments_split (Let slot line gens x e) rest = refl
 assignments_split (If slot line gens c first second) rest = refl
+assignments_split (Case slot line gens v arms other) rest = refl
 
 stmts_split : (all : List (Bor code_stmt.Stmt)) (i : ℕ) (s : Bor code_stmt.Stmt) → i < length all → s ≡ get_or all i s
     → assignments (stmts_at (drop i all)) ≡ assignments (stmt_at s ∷ []) ++ assignments (stmts_at (drop (i + 1) all))
@@ -102,26 +103,21 @@ noted_next old new all i s inside at is =
 pub noted_end : (lines : Lines) (all : List (Bor code_stmt.Stmt)) (i : ℕ) → length all ≤ i → all_driven lines (assignments (stmts_at (drop i all))) ≡ lines
 noted_end lines all i past = ap (λ (l : List (Bor code_stmt.Stmt)). all_driven lines (assignments (stmts_at l))) (drop_of_length-le all past)
 
-second_split : (lines : Lines) (all : List (Bor code_stmt.Stmt)) (i : ℕ) (s : Bor code_stmt.Stmt) → i < length all → s ≡ get_or all i s
-    → first_of (second_drive lines) (assignments (stmts_at (drop i all)))
-    ≡ earlier (first_of (second_drive lines) (assignments (stmt_at s ∷ []))) (first_of (second_drive lines) (assignments (stmts_at (drop (i + 1) all))))
-second_split lines all i s inside at =
-    ap (first_of (second_drive lines)) (stmts_split all i s inside at) ∙ first_both (second_drive lines) (assignments (stmt_at s ∷ [])) (assignments (stmts_at (drop (i + 1) all)))
+-- the first fault of a test in assignments
+drive_split : (f : Drive → Option CheckFault) (all : List (Bor code_stmt.Stmt)) (i : ℕ) (s : Bor code_stmt.Stmt) → i < length all → s ≡ get_or all i s
+    → first_of f (assignments (stmts_at (drop i all))) ≡ earlier (first_of f (assignments (stmt_at s ∷ []))) (first_of f (assignments (stmts_at (drop (i + 1) all))))
+drive_split f all i s inside at = ap (first_of f) (stmts_split all i s inside at) ∙ first_both f (assignments (stmt_at s ∷ [])) (assignments (stmts_at (drop (i + 1) all)))
 
-pub second_next : (lines : Lines) (all : List (Bor code_stmt.Stmt)) (i : ℕ) (s : Bor code_stmt.Stmt) → i < length all → s ≡ get_or all i s
-    → first_of (second_drive lines) (assignments (stmt_at s ∷ [])) ≡ None
-    → first_of (second_drive lines) (assignments (stmts_at (drop (i + 1) all))) ≡ first_of (second_drive lines) (assignments (stmts_at (drop i all)))
-second_next lines all i s inside at none =
-    sym (second_split lines all i s inside at ∙ ap (λ o. earlier o (first_of (second_drive lines) (assignments (stmts_at (drop (i + 1) all))))) none)
+pub drive_next : (f : Drive → Option CheckFault) (all : List (Bor code_stmt.Stmt)) (i : ℕ) (s : Bor code_stmt.Stmt) → i < length all → s ≡ get_or all i s
+    → first_of f (assignments (stmt_at s ∷ [])) ≡ None → first_of f (assignments (stmts_at (drop (i + 1) all))) ≡ first_of f (assignments (stmts_at (drop i all)))
+drive_next f all i s inside at none = sym (drive_split f all i s inside at ∙ ap (λ o. earlier o (first_of f (assignments (stmts_at (drop (i + 1) all))))) none)
 
-pub second_at : (lines : Lines) (all : List (Bor code_stmt.Stmt)) (i : ℕ) (s : Bor code_stmt.Stmt) (fault : CheckFault) → i < length all → s ≡ get_or all i s
-    → first_of (second_drive lines) (assignments (stmt_at s ∷ [])) ≡ Some fault
-    → first_of (second_drive lines) (assignments (stmts_at (drop i all))) ≡ Some fault
-second_at lines all i s fault inside at some =
-    second_split lines all i s inside at ∙ ap (λ o. earlier o (first_of (second_drive lines) (assignments (stmts_at (drop (i + 1) all))))) some
+pub drive_at : (f : Drive → Option CheckFault) (all : List (Bor code_stmt.Stmt)) (i : ℕ) (s : Bor code_stmt.Stmt) (fault : CheckFault) → i < length all → s ≡ get_or all i s
+    → first_of f (assignments (stmt_at s ∷ [])) ≡ Some fault → first_of f (assignments (stmts_at (drop i all))) ≡ Some fault
+drive_at f all i s fault inside at some = drive_split f all i s inside at ∙ ap (λ o. earlier o (first_of f (assignments (stmts_at (drop (i + 1) all))))) some
 
-pub second_end : (lines : Lines) (all : List (Bor code_stmt.Stmt)) (i : ℕ) → length all ≤ i → first_of (second_drive lines) (assignments (stmts_at (drop i all))) ≡ None
-second_end lines all i past = ap (λ (l : List (Bor code_stmt.Stmt)). first_of (second_drive lines) (assignments (stmts_at l))) (drop_of_length-le all past)
+pub drive_end : (f : Drive → Option CheckFault) (all : List (Bor code_stmt.Stmt)) (i : ℕ) → length all ≤ i → first_of f (assignments (stmts_at (drop i all))) ≡ None
+drive_end f all i past = ap (λ (l : List (Bor code_stmt.Stmt)). first_of f (assignments (stmts_at l))) (drop_of_length-le all past)
 
 -- ---- blocks
 

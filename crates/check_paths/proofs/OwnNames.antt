@@ -4,7 +4,7 @@ use Rattle.std.specs.Borrow.{Bor}
 use Rattle.std.proofs.lemmas.List.{drop_more}
 use Rattle.std.proofs.Math.ListN.{drop_of_length-le}
 use Rattle.design_core.specs.declared.statement.Stmt as code_stmt
-use Rattle.design_core.specs.Design.{Stmt, Assign, Let, If, Block}
+use Rattle.design_core.specs.Design.{Stmt, Assign, Let, If, Case, Block}
 use Rattle.names.specs.Known.{Name, Known, has, with, none}
 use Rattle.design_core.specs.Statements.{statements, stmt_at, stmts_at}
 use Rattle.check_core.specs.Drivers.{assignments, drives}
@@ -48,12 +48,14 @@ among false known [] y = end (known y)
     end : (a : Bool) → a ≡ (a || (false || false))
     end true = refl
     end false = refl
-among true known (Assign slot line gens x e ∷ rest) y = among true known rest y
-among false known (Assign slot line gens x e ∷ rest) y = among false (with x known) rest y ∙ behind (known y) (bytes_eq y x) (has (let_names rest) y) (drives (assignments rest) y)
+among true known (Assign slot line gens x part e ∷ rest) y = among true known rest y
+among false known (Assign slot line gens x part e ∷ rest) y = among false (with x known) rest y ∙ behind (known y) (bytes_eq y x) (has (let_names rest) y) (drives (assignments rest) y)
 among true known (Let slot line gens x e ∷ rest) y = among true (with x known) rest y ∙ front (known y) (bytes_eq y x) (has (let_names rest) y) false
 among false known (Let slot line gens x e ∷ rest) y = among false (with x known) rest y ∙ front (known y) (bytes_eq y x) (has (let_names rest) y) (drives (assignments rest) y)
 among true known (If slot line gens c first second ∷ rest) y = among true known rest y
+among true known (Case slot line gens v arms other ∷ rest) y = among true known rest y
 among false known (If slot line gens c first second ∷ rest) y = among false known rest y
+among false known (Case slot line gens v arms other ∷ rest) y = among false known rest y
 
 pub own_all : (b : Block) → own_among b.clocked none (statements b.body) ≡ own b
 own_all b = λ i y. (among b.clocked none (statements b.body) y ∙ ap (λ (l : List Name). has l y || (not b.clocked && drives (assignments (statements b.body)) y)) (names_in b.body)) i

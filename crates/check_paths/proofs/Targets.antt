@@ -7,7 +7,7 @@ use Rattle.design_core.specs.declared.statement.Stmt as code_stmt
 use Rattle.design_core.specs.declared.variant.Block as code_block
 use Rattle.design_core.specs.declared.variant.Signal.{Signal}
 use Rattle.design_core.specs.View.{block_of}
-use Rattle.design_core.specs.Design.{Stmt, Assign, Let, If}
+use Rattle.design_core.specs.Design.{Stmt, Assign, Let, If, Case}
 use Rattle.names.specs.Known.{Known, either}
 use Rattle.check_core.specs.Faults.{first_of}
 use Rattle.design_core.specs.Statements.{stmt_at, stmts_at}
@@ -28,9 +28,10 @@ either_end true = refl
 either_end false = refl
 
 one_target : (known : Known) (s : Stmt) (rest : List Stmt) → either (assigned_after known s) (drives (assignments rest)) ≡ either known (drives (assignments (s ∷ rest)))
-one_target known (Assign slot line gens x e) rest = λ i y. swap (bytes_eq y x) (known y) (drives (assignments rest) y) i
+one_target known (Assign slot line gens x part e) rest = λ i y. swap (bytes_eq y x) (known y) (drives (assignments rest) y) i
 one_target known (Let slot line gens x e) rest = refl
 one_target known (If slot line gens c first second) rest = refl
+one_target known (Case slot line gens v arms other) rest = refl
 
 pub targets_next : (old new : Known) (all : List (Bor code_stmt.Stmt)) (i : ℕ) (s : Bor code_stmt.Stmt) → i < length all → s ≡ get_or all i s → new ≡ assigned_after old (stmt_at s)
     → either new (drives (assignments (stmts_at (drop (i + 1) all)))) ≡ either old (drives (assignments (stmts_at (drop i all))))

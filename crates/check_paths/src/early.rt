@@ -1,19 +1,23 @@
-//! Reads of own names of a block that some path has not assigned: the first in the order of the text.
+//! Reads of own names of a block of which some path has not assigned each bit: the first in the order of the text.
 
-ghost use Rattle.std.specs.Prelude.{◌≡◌, IfOk, OnOk};
+ghost use Rattle.std.specs.Prelude.{◌≡◌, IfOk, OnOk, map};
 ghost use Rattle.design_core.specs.View.{block_of, stmt_of, variant_of};
 ghost use Rattle.names.specs.Known.{has};
+ghost use Rattle.names.specs.Maps.{value_of};
 ghost use Rattle.design_core.specs.Heads.{name_at};
-ghost use Rattle.check_core.specs.Faults.{Tells};
+ghost use Rattle.check_core.specs.Faults.{Tells, first_of};
 ghost use Rattle.check_core.specs.Names.{with_name};
 ghost use Rattle.design_core.specs.Statements.{stmts_at};
 ghost use Rattle.check_core.specs.Paths.{early_in_block, own, read_before_write as the_read_before_write};
+ghost use Rattle.name_widths.specs.DeclaredWidths.{width_at};
 ghost use Rattle.check_paths.specs.Walked.{own_after, own_among};
 
+use crate::frames::Frames;
 use crate::walk::walk;
 use check_core::CheckFault;
 use design_core::{Block, Stmt, Variant, statements};
-use names::NameSet;
+use name_widths::declared_in;
+use names::{NameMap, NameSet};
 use std::alloc::Global;
 use text_core::NoMemory;
 
@@ -63,23 +67,31 @@ fn own_of(alloc: Global, block: &Block) -> Result<NameSet, NoMemory>
     Ok(names)
 }
 
-/// Refuses the first read of an own name of a block that some path has not assigned.
-fn early_in_block(alloc: Global, block: &Block) -> Result<(), CheckFault>
-    ensures { Tells result (early_in_block (block_of block.now)) }
+/// Refuses the first read of an own name of a block of which some path has not assigned each bit.
+fn early_in_block(alloc: Global, widths: &NameMap<i64>, block: &Block) -> Result<(), CheckFault>
+    ensures { Tells result (early_in_block (width_at (value_of widths.now)) (block_of block.now)) }
 {
     let own = own_of(alloc, block)?;
-    let mut assigned = NameSet::new(alloc);
-    walk(alloc, &own, &mut assigned, &block.body)?;
+    let mut frames = Frames::new(alloc);
+    walk(alloc, widths, &own, &mut frames, &block.body)?;
     Ok(())
 }
 
-/// Refuses the first read in a variant of a target or a `let` of its block that some path has not assigned before.
+/// The same of blocks in order.
 #[tactic(auto, using(check_core::proofs::Firsts::list_steps))]
+fn early_among(alloc: Global, widths: &NameMap<i64>, blocks: &[Block]) -> Result<(), CheckFault>
+    ensures { Tells result (first_of (early_in_block (width_at (value_of widths.now))) (map block_of blocks.now)) }
+{
+    for block in blocks {
+        early_in_block(alloc, widths, block)?;
+    }
+    Ok(())
+}
+
+/// Refuses the first read in a variant of a target or a `let` of its block of which some path has not assigned each bit before.
 pub fn read_before_write(alloc: Global, variant: &Variant) -> Result<(), CheckFault>
     ensures { Tells result (the_read_before_write (variant_of variant.now)) }
 {
-    for block in &variant.blocks {
-        early_in_block(alloc, block)?;
-    }
-    Ok(())
+    let widths = declared_in(alloc, variant.signals.items())?;
+    early_among(alloc, &widths, &variant.blocks)
 }

@@ -5,6 +5,8 @@
 
 mod driven;
 mod early;
+mod frame;
+mod frames;
 mod latches;
 mod twice;
 mod walk;

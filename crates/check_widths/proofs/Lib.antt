@@ -1,3 +1,4 @@
 pub mod Fits
 pub mod WidthSteps
 pub mod MapSteps
+pub mod ArmSteps

@@ -1,11 +1,12 @@
 -- The widths of operators, after those of their operands.
-use Rattle.std.proofs.Common.{◌≡◌, ℕ, Option, Some, None, Result, Ok, Err, refl, ap, ap₂, ◌∙◌}
+use Rattle.std.proofs.Common.{◌≡◌, ℕ, List, Option, Some, None, Result, Ok, Err, refl, ap, ap₂, ◌∙◌}
+use Rattle.design_core.specs.declared.expr.Literal.{Literal}
 use Rattle.design_core.specs.declared.expr.UnOp.{UnOp}
 use Rattle.design_core.specs.declared.expr.Op.{Op}
 use Rattle.check_core.specs.declared.fault.Clash.{Clash}
 use Rattle.check_core.specs.declared.fault.CheckFault.{CheckFault}
 use Rattle.names.specs.Known.{Name}
-use Rattle.check_core.specs.Widths.{mismatch, unary_width, binary_width, mux_width, zext_width, slice_width, unary_of, binary_of, mux_of, zext_of, slice_of, needed, needed_width}
+use Rattle.check_core.specs.Widths.{mismatch, unary_width, binary_width, mux_width, zext_width, slice_width, unary_of, binary_of, mux_of, zext_of, slice_of, needed, needed_width, needed_by, arms_width, literals_width}
 
 no_some : {A : Type 0} (a : A) (o : Option A) → o ≡ None → o ≡ Some a → ⊥
 no_some a o e f = cc
@@ -85,3 +86,38 @@ pub none_done : (line : ℕ) (name : Name) (w : ℕ) (a : Result ℕ Clash) → 
 none_done line name w a e = ap (mismatch line name) e
 
 pub ruleset needed_steps = (needed_inside, needed_here, needed_done, none_done)
+
+-- ---- an assignment, whose width stands behind that of its expression
+
+pub by_inside : (line : ℕ) (name : Name) (fault : CheckFault) (want have : Result ℕ Clash) → mismatch line name have ≡ Some fault → mismatch line name (needed_by want have) ≡ Some fault
+by_inside line name fault want (Ok w) e = absurd (no_some fault None refl e)
+by_inside line name fault (Ok w) (Err found) e = e
+by_inside line name fault (Err other) (Err found) e = e
+
+pub by_target : (line : ℕ) (name : Name) (fault : CheckFault) (want have : Result ℕ Clash) (w : ℕ) → have ≡ Ok w → mismatch line name want ≡ Some fault → mismatch line name (needed_by want have) ≡ Some fault
+by_target line name fault (Ok v) have w e f = absurd (no_some fault None refl f)
+by_target line name fault (Err found) have w e f = ap (λ r. mismatch line name (needed_by (Err found) r)) e ∙ f
+
+pub by_here : (line : ℕ) (name : Name) (fault : CheckFault) (want have : Result ℕ Clash) (v w : ℕ) → want ≡ Ok v → have ≡ Ok w → mismatch line name (needed_width v w) ≡ Some fault
+    → mismatch line name (needed_by want have) ≡ Some fault
+by_here line name fault want have v w e f g = ap₂ (λ r s. mismatch line name (needed_by r s)) e f ∙ g
+
+pub by_done : (line : ℕ) (name : Name) (want have : Result ℕ Clash) (v w x : ℕ) → want ≡ Ok v → have ≡ Ok w → needed_width v w ≡ Ok x → mismatch line name (needed_by want have) ≡ None
+by_done line name want have v w x e f g = ap₂ (λ r s. mismatch line name (needed_by r s)) e f ∙ ap (mismatch line name) g
+
+pub ruleset by_steps = (by_inside, by_target, by_here, by_done)
+
+-- ---- a `case`, whose literals stand behind its value
+
+pub arms_inside : (line : ℕ) (name : Name) (fault : CheckFault) (a : Result ℕ Clash) (literals : List Literal) → mismatch line name a ≡ Some fault → mismatch line name (arms_width a literals) ≡ Some fault
+arms_inside line name fault (Ok w) literals e = absurd (no_some fault None refl e)
+arms_inside line name fault (Err found) literals e = e
+
+pub arms_here : (line : ℕ) (name : Name) (fault : CheckFault) (a : Result ℕ Clash) (literals : List Literal) (w : ℕ) → a ≡ Ok w → mismatch line name (literals_width w literals) ≡ Some fault
+    → mismatch line name (arms_width a literals) ≡ Some fault
+arms_here line name fault a literals w e f = ap (λ r. mismatch line name (arms_width r literals)) e ∙ f
+
+pub arms_done : (line : ℕ) (name : Name) (a : Result ℕ Clash) (literals : List Literal) (w x : ℕ) → a ≡ Ok w → literals_width w literals ≡ Ok x → mismatch line name (arms_width a literals) ≡ None
+arms_done line name a literals w x e f = ap (λ r. mismatch line name (arms_width r literals)) e ∙ ap (mismatch line name) f
+
+pub ruleset arms_steps = (arms_inside, arms_here, arms_done)

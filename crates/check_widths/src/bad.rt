@@ -6,7 +6,8 @@ ghost use Rattle.check_core.specs.Faults.{Tells, first_of};
 ghost use Rattle.design_core.specs.Statements.{stmts_at};
 ghost use Rattle.check_core.specs.Widths.{bad_conn, bad_in_block, bad_in_child, bad_signal, bad_stmt, bad_width as the_bad_width, unless_sized};
 
-use crate::sizes::{is_declared, is_sized};
+use crate::arms::arms_are_sized;
+use crate::sizes::{is_declared, is_part, is_sized};
 use check_core::{CheckFault, spot};
 use design_core::{Block, Child, Conn, Signal, Stmt, Variant, statements};
 use std::alloc::Global;
@@ -80,10 +81,12 @@ fn bad_stmt(alloc: Global, stmt: &Stmt) -> Result<(), CheckFault>
         Stmt::Assign {
             line,
             target,
+            part,
             value,
             ..
         } => {
-            sized_or_refused(alloc, is_sized(value), *line, target.bytes())?;
+            let sized = is_sized(value) && is_part(*part);
+            sized_or_refused(alloc, sized, *line, target.bytes())?;
             Ok(())
         }
         Stmt::Let {
@@ -97,6 +100,16 @@ fn bad_stmt(alloc: Global, stmt: &Stmt) -> Result<(), CheckFault>
         }
         Stmt::If { line, test, .. } => {
             sized_or_refused(alloc, is_sized(test), *line, b"if")?;
+            Ok(())
+        }
+        Stmt::Case {
+            line,
+            value,
+            arms,
+            ..
+        } => {
+            let sized = is_sized(value) && arms_are_sized(arms);
+            sized_or_refused(alloc, sized, *line, b"case")?;
             Ok(())
         }
     }
@@ -134,7 +147,7 @@ fn bad_in_blocks(alloc: Global, blocks: &[Block]) -> Result<(), CheckFault>
 }
 
 /// Refuses the first width in a variant that is not from 1 to 128, the first literal that is negative or does not fit its width, and
-/// the first slice that does not lie from 0 to 127.
+/// the first slice, of an expression or of what is assigned, that does not lie from 0 to 127.
 #[tactic(auto, using(check_core::proofs::Firsts::two_steps))]
 pub fn bad_width(alloc: Global, variant: &Variant) -> Result<(), CheckFault>
     ensures { Tells result (the_bad_width (variant_of variant.now)) }

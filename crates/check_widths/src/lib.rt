@@ -3,6 +3,7 @@
 //! Each function looks through one variant, and tells the first fault of its kind in it.
 #![tactic(auto)]
 
+mod arms;
 mod bad;
 mod maps;
 mod mismatch;

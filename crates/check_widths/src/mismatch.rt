@@ -1,17 +1,18 @@
 //! Widths that do not go together, in the order in which the parts of a variant are judged.
 
 ghost use Rattle.std.specs.Prelude.{◌≡◌, OnOk, map};
-ghost use Rattle.design_core.specs.View.{block_of, child_of, conn_of, expr_of, stmt_of, variant_of};
+ghost use Rattle.design_core.specs.View.{arms_of, block_of, child_of, conn_of, expr_of, stmt_of, variant_of};
 ghost use Rattle.check_core.specs.Faults.{Tells, first_of};
 ghost use Rattle.design_core.specs.Statements.{stmts_at};
-ghost use Rattle.check_core.specs.Widths.{conn_mismatch, mismatch, mismatch_among, mismatch_in_block, mismatch_in_child, mismatch_with, needed, put_let, signal_mismatch, stmt_mismatch, width_mismatch as the_width_mismatch, widths_after, width_in as the_width_in};
+ghost use Rattle.check_core.specs.Widths.{arm_literals, arms_width as the_arms_width, conn_mismatch, mismatch, mismatch_among, mismatch_in_block, mismatch_in_child, mismatch_with, needed, needed_by, part_width as the_part_width, put_let, signal_mismatch, stmt_mismatch, width_mismatch as the_width_mismatch, widths_after, width_in as the_width_in, width_of as the_width_of};
 ghost use Rattle.check_widths.specs.WidthMaps.{widths_at, widths_in};
 
+use crate::arms::arms_width;
 use crate::maps::{ports_of, put_bits, widths_of};
-use crate::table::needed_width;
+use crate::table::{needed_width, part_width};
 use crate::widths::{bits, told, width_at, width_in, width_of};
 use check_core::{CheckFault, Kinds};
-use design_core::{Block, Child, Conn, Expr, Kind, Signal, Stmt, Variant, statements};
+use design_core::{Arm, Block, Child, Conn, Expr, Kind, Signal, Stmt, Variant, statements};
 use names::NameMap;
 use std::alloc::Global;
 
@@ -144,8 +145,46 @@ fn let_mismatch(
     Ok(())
 }
 
-/// Refuses a statement, without those inside it: its expression, then its target. A `let` joins the lets.
-#[tactic(auto, using(design_core::proofs::Views::design_views, crate::proofs::WidthSteps::needed_steps))]
+/// Refuses an assignment: its expression, then the bounds of what it assigns, then the width of both.
+#[tactic(auto, using(crate::proofs::WidthSteps::by_steps))]
+fn assign_mismatch(
+    alloc: Global,
+    lets: &NameMap<i64>,
+    signals: &NameMap<i64>,
+    line: u32,
+    target: &[u8],
+    part: Option<(i64, i64)>,
+    value: &Expr,
+) -> Result<(), CheckFault>
+    ensures { Tells result (mismatch line target.now (needed_by (the_part_width (the_width_of (widths_in lets.now signals.now) target.now) part) (the_width_in (widths_in lets.now signals.now) (expr_of value.now)))) }
+{
+    let have = width_in(alloc, lets, signals, line, target, value)?;
+    let found = part_width(width_of(lets, signals, target), part);
+    let want = told(alloc, line, target, found)?;
+    told(alloc, line, target, needed_width(want, have))?;
+    Ok(())
+}
+
+/// Refuses a `case`: its value, then the literals of its arms, which have to have the value's width.
+#[tactic(auto, using(crate::proofs::WidthSteps::arms_steps))]
+fn case_mismatch(
+    alloc: Global,
+    lets: &NameMap<i64>,
+    signals: &NameMap<i64>,
+    line: u32,
+    name: &[u8],
+    value: &Expr,
+    arms: &[Arm],
+) -> Result<(), CheckFault>
+    ensures { Tells result (mismatch line name.now (the_arms_width (the_width_in (widths_in lets.now signals.now) (expr_of value.now)) (arm_literals (arms_of arms.now)))) }
+{
+    let width = width_in(alloc, lets, signals, line, name, value)?;
+    told(alloc, line, name, arms_width(width, arms))?;
+    Ok(())
+}
+
+/// Refuses a statement, without those inside it: its expression, then the literals of arms, then its target. A `let` joins the lets.
+#[tactic(auto, using(design_core::proofs::Views::design_views))]
 fn stmt_mismatch(
     alloc: Global,
     lets: &mut NameMap<i64>,
@@ -159,17 +198,11 @@ fn stmt_mismatch(
         Stmt::Assign {
             line,
             target,
+            part,
             value,
             ..
         } => {
-            let name = target.bytes();
-            let have = width_in(alloc, lets, signals, *line, name, value)?;
-            told(
-                alloc,
-                *line,
-                name,
-                needed_width(width_of(lets, signals, name), have),
-            )?;
+            assign_mismatch(alloc, lets, signals, *line, target.bytes(), *part, value)?;
             Ok(())
         }
         Stmt::Let {
@@ -183,6 +216,15 @@ fn stmt_mismatch(
         }
         Stmt::If { line, test, .. } => {
             test_mismatch(alloc, lets, signals, *line, b"if", test)?;
+            Ok(())
+        }
+        Stmt::Case {
+            line,
+            value,
+            arms,
+            ..
+        } => {
+            case_mismatch(alloc, lets, signals, *line, b"case", value, arms)?;
             Ok(())
         }
     }

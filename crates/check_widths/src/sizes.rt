@@ -1,6 +1,6 @@
 ghost use Rattle.std.specs.Prelude.{◌≡◌, ◌≤◌, ◌^◌, nat_lt};
 ghost use Rattle.design_core.specs.View.{expr_of};
-ghost use Rattle.check_core.specs.Widths.{is_declared, is_literal, is_sized, is_slice, is_width};
+ghost use Rattle.check_core.specs.Widths.{is_declared, is_literal, is_part, is_sized, is_slice, is_width};
 
 use design_core::{Expr, Kind, Literal};
 
@@ -28,7 +28,7 @@ fn fits(width: u8, value: u128) -> bool
 }
 
 /// Whether a literal has a width from 1 to 128, and a value that is not negative and fits it.
-fn is_literal(literal: &Literal) -> bool
+pub(crate) fn is_literal(literal: &Literal) -> bool
     ensures { result ≡ is_literal literal.now }
 {
     if !is_width(literal.width) {
@@ -49,6 +49,16 @@ pub(crate) fn is_sized(expr: &Expr) -> bool
         Expr::Mux(test, yes, no) => is_sized(test) && is_sized(yes) && is_sized(no),
         Expr::Zext(inner, width) => is_sized(inner) && is_width(*width),
         Expr::Slice(inner, high, low) => is_sized(inner) && is_slice(*high, *low),
+    }
+}
+
+/// Whether the bounds of what is assigned are such.
+pub(crate) fn is_part(part: Option<(i64, i64)>) -> bool
+    ensures { result ≡ is_part part }
+{
+    match part {
+        Some((high, low)) => is_slice(high, low),
+        None => true,
     }
 }
 

@@ -1,7 +1,8 @@
 ghost use Rattle.std.specs.Prelude.{◌≡◌, ◌+◌, ◌<◌, ◌^◌, IfOk};
-ghost use Rattle.check_core.specs.Widths.{binary_width, mux_width, needed_width, slice_width, unary_width, where_same, zext_width};
+ghost use Rattle.check_core.specs.Widths.{binary_width, mux_width, needed_width, part_width, slice_width, unary_width, where_same, zext_width};
 ghost use Rattle.design_core.specs.declared.expr.Op.TheVariants.{Cat};
 
+use crate::widths::bits;
 use check_core::Clash;
 use design_core::{Op, UnOp};
 
@@ -107,6 +108,17 @@ pub(crate) fn slice_width(width: u64, high: u64, low: u64) -> Result<u64, Clash>
             have: width,
             want: high + 1,
         })
+    }
+}
+
+/// The width of what is assigned, of a target of this width.
+pub(crate) fn part_width(width: u64, part: Option<(i64, i64)>) -> Result<u64, Clash>
+    requires { width < 2 ^ 63 }
+    ensures { result ≡ part_width width part }
+{
+    match part {
+        Some((high, low)) => slice_width(width, bits(high), bits(low)),
+        None => Ok(width),
     }
 }
 

@@ -39,3 +39,15 @@ returns-clause-unknown_port c = samples.unknown_port
 
 pub returns-clause-connected : goal.returns-clause-connected
 returns-clause-connected c = samples.connected
+
+pub returns-clause-parts : goal.returns-clause-parts
+returns-clause-parts c = samples.parts
+
+pub returns-clause-part : goal.returns-clause-part
+returns-clause-part c = samples.part
+
+pub returns-clause-early_part : goal.returns-clause-early_part
+returns-clause-early_part c = samples.early_part
+
+pub returns-clause-high_part : goal.returns-clause-high_part
+returns-clause-high_part c = samples.high_part

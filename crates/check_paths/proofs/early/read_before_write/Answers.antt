@@ -1,0 +1,10 @@
+use Rattle.std.proofs.Common.{subst, ap, ◌∙◌, map}
+use Rattle.design_core.specs.View.{block_of}
+use Rattle.check_core.specs.Faults.{Tells}
+use Rattle.check_core.specs.Paths.{declared_width}
+use Rattle.check_paths.proofs.Walks.{early_as}
+use Rattle.check_paths.proofs.early.read_before_write.Goals as goal
+
+pub returns : goal.returns
+returns c = subst (λ o. Tells c.early_among.result o)
+    (early_as _ _ _ _ (c.in_ok-widths.ensures ∙ ap (λ l. declared_width l) c.items.ensures) (ap (λ l. map block_of l) c.deref.ensures.value)) c.early_among.ensures
