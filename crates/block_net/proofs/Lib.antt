@@ -3,6 +3,10 @@ pub mod WalkSteps
 pub mod Expressions
 pub mod BindSteps
 pub mod BodySteps
+pub mod Branches
+pub mod ArmSteps
+pub mod PartSteps
+pub mod Widths
 pub mod BlockSteps
 pub mod SetSteps
 pub mod Sampled

@@ -1,5 +1,5 @@
 -- Sets of keys.
-use Rattle.std.proofs.Common.{◌≡◌, ℕ, ◌+◌, ◌<◌, ◌≤◌, Bool, true, false, not, ◌||◌, bytes_eq, List, [], ◌∷◌, ◌++◌, length, take, get_or, refl, sym, ap, ◌∙◌}
+use Rattle.std.proofs.Common.{◌≡◌, ℕ, ◌+◌, ◌<◌, ◌≤◌, Bool, true, false, not, ◌||◌, bytes_eq, List, [], ◌∷◌, ◌++◌, length, take, get_or, append_assoc, append-nil, refl, sym, ap, ◌∙◌}
 use Rattle.std.proofs.lemmas.List.{take_more, take_all}
 use Rattle.exec_core.specs.Block.{Name, Key, Now, Next, same_key}
 use Rattle.names.specs.Known.{Known, has, none, with}
@@ -8,15 +8,19 @@ use Rattle.block_net.specs.declared.key.Key.TheVariants as keys
 use Rattle.block_net.specs.declared.key_set.KeySet.{KeySet}
 use Rattle.block_net.specs.Logs.{key_of}
 use Rattle.block_net.specs.Walks.{among, either}
-use Rattle.block_net.specs.Sets.{IsKept, seen}
-use Rattle.block_net.proofs.WalkSteps.{bytes_eq_flip}
-use Rattle.block_net.proofs.BindSteps.{among_append, same_key-sound}
+use Rattle.block_net.specs.Sets.{IsKept, KeysMore, seen}
+use Rattle.block_net.proofs.WalkSteps.{bytes_eq_flip, same_key-sound}
+use Rattle.block_net.proofs.BindSteps.{among_append}
 
 or_flip : (a b : Bool) → (a || b) ≡ (b || a)
 or_flip true true = refl
 or_flip true false = refl
 or_flip false true = refl
 or_flip false false = refl
+
+or_apart : (a b c : Bool) → ((a || b) || c) ≡ (a || (b || c))
+or_apart true b c = refl
+or_apart false b c = refl
 
 or_false : (a : Bool) → (a || false) ≡ a
 or_false true = refl
@@ -72,13 +76,30 @@ put_last old new key copy same is =
 pub kept_still : (old new : KeySet) (key : Key) → IsKept old → seen new ≡ either (seen old) (same_key key) → among new.keys.items ≡ either (among old.keys.items) (same_key key) → IsKept new
 kept_still old new key kept saw are = saw ∙ ap (λ (f : Key → Bool). either f (same_key key)) kept ∙ sym are
 
-pub distinct_next : (now new : Key → Bool) (all : List code_key.Key) (i : ℕ) (key : code_key.Key) → i < length all → key ≡ get_or all i key → now ≡ among (take i all) → new ≡ either now (same_key (key_of key)) → new ≡ among (take (i + 1) all)
-distinct_next now new all i key below at is grown =
-    grown ∙ ap (λ (f : Key → Bool). either f (same_key (key_of key))) is
-    ∙ sym (put_last (take i all) (take (i + 1) all) key (get_or all i key) (sym at) (take_more all i key below))
+-- more keys
+pub more_none : (s : KeySet) → KeysMore s s
+more_none s = record { more = []; is = sym (append-nil s.keys.items) }
 
-pub distinct_end : (now : Key → Bool) (all : List code_key.Key) (i : ℕ) → length all ≤ i → now ≡ among (take i all) → now ≡ among all
-distinct_end now all i past is = is ∙ ap among (take_all i all past)
+pub more_twice : (a b c : KeySet) → KeysMore a b → KeysMore b c → KeysMore a c
+more_twice a b c x y = record { more = x.more ++ y.more; is = y.is ∙ ap (λ l. l ++ y.more) x.is ∙ append_assoc a.keys.items x.more y.more }
+
+pub more_one : (old new : KeySet) (key : code_key.Key) → new.keys.items ≡ old.keys.items ++ key ∷ [] → KeysMore old new
+more_one old new key is = record { more = key ∷ []; is = is }
+
+pub more_same : (old new : KeySet) → new.keys ≡ old.keys → KeysMore old new
+more_same old new is = record { more = []; is = ap (λ v. v.items) is ∙ sym (append-nil old.keys.items) }
+
+pub add_start : (keys : List code_key.Key) → among keys ≡ either (among keys) (among [])
+add_start keys = λ j y. sym (or_false (among keys y)) j
+
+pub add_next : (begun now new : Key → Bool) (all : List code_key.Key) (i : ℕ) (key : code_key.Key) → i < length all → key ≡ get_or all i key → now ≡ either begun (among (take i all)) → new ≡ either now (same_key (key_of key)) → new ≡ either begun (among (take (i + 1) all))
+add_next begun now new all i key below at is grown =
+    grown ∙ ap (λ (f : Key → Bool). either f (same_key (key_of key))) is
+    ∙ (λ j y. or_apart (begun y) (among (take i all) y) (same_key (key_of key) y) j)
+    ∙ ap (either begun) (sym (put_last (take i all) (take (i + 1) all) key (get_or all i key) (sym at) (take_more all i key below)))
+
+pub add_end : (begun now : Key → Bool) (all : List code_key.Key) (i : ℕ) → length all ≤ i → now ≡ either begun (among (take i all)) → now ≡ either begun (among all)
+add_end begun now all i past is = is ∙ ap (λ l. either begun (among l)) (take_all i all past)
 
 pub seen_nothing : (s : KeySet) → has s.now ≡ none → has s.next ≡ none → s.keys.items ≡ [] → IsKept s
 seen_nothing s first second empty = (λ j y. at y j) ∙ ap among (sym empty)

@@ -2,6 +2,10 @@ pub mod Terms
 pub mod Logs
 pub mod Source
 pub mod Walks
+pub mod Parts
+pub mod Cases
+pub mod Arms
+pub mod Ways
 pub mod Blocks
 pub mod Sets
 pub mod Sample

@@ -9,8 +9,8 @@ use Rattle.design_core.specs.declared.expr.Op.TheVariants.{Add, And, Eq}
 use Rattle.tree_core.specs.Tree as tree
 use Rattle.tree_core.specs.Tree.{Tree}
 use Rattle.exec_core.specs.Block.{Name, Now}
-use Rattle.exec_core.specs.Trees.{Row, block_rows}
-use Rattle.exec_core.specs.Shown.{shown_start}
+use Rattle.exec_core.specs.Exec.{shown}
+use Rattle.exec_core.specs.Trees.{Row, block_rows, tree_start}
 use Rattle.exec_core.specs.Sample.{child_body, fours, q_tree}
 use Rattle.block_net.specs.declared.key.Key as code_key
 use Rattle.block_net.specs.declared.key.Key.TheVariants as keys
@@ -44,7 +44,7 @@ sample_log =
     ∷ Set q (Some (id 10)) ∷ []
 
 abbrev pub sample_rows : List Row
-sample_rows = rows_of sample_terms sample_log (shown_start child_body)
+sample_rows = rows_of sample_terms sample_log (shown fours (tree_start fours child_body))
 
 -- what a name has before each slot
 abbrev pub column : Name → List Row → List (Option (Tree Name))
@@ -58,4 +58,4 @@ pub record SampleTold : Type 0 where
   pub sums : column (codes "s") sample_rows ≡ column (codes "s") (block_rows fours child_body)
   pub choices : column (codes "q") sample_rows ≡ None ∷ None ∷ None ∷ None ∷ []
   pub inputs : column (codes "a") sample_rows ≡ column (codes "a") (block_rows fours child_body)
-  pub end : ends_of sample_terms sample_log (shown_start child_body) (Now (codes "q")) ≡ Some (q_tree (tree.Leaf (codes "a")))
+  pub end : ends_of sample_terms sample_log (shown fours (tree_start fours child_body)) (Now (codes "q")) ≡ Some (q_tree (tree.Leaf (codes "a")))

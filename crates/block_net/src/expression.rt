@@ -3,7 +3,7 @@
 ghost use Rattle.std.specs.Prelude.{◌≡◌, [], IfOk};
 ghost use Rattle.block_net.specs.Blocks.{TellsExpr};
 ghost use Rattle.block_net.specs.Source.{expr_in};
-ghost use Rattle.block_net.specs.Walks.{Fits, env_of, themselves};
+ghost use Rattle.block_net.specs.Walks.{Fits, all_themselves, env_of, state_of, themselves};
 
 use crate::TermId;
 use crate::block::BlockTerms;
@@ -15,9 +15,10 @@ use std::alloc::Global;
 use text_core::NoMemory;
 
 /// A walk that has come to nothing yet. Takes no memory.
-fn blank(alloc: Global) -> Walk
+pub(crate) fn blank(alloc: Global) -> Walk
     ensures fits { Fits result }
     ensures log { result.log.items ≡ [] }
+    ensures state { state_of result ≡ all_themselves }
     ensures env { env_of result ≡ themselves }
 {
     Walk {

@@ -52,7 +52,12 @@ impl Walk {
     }
 
     /// Bits of a term, if there is one.
-    fn slice(&mut self, a: Option<TermId>, high: i64, low: i64) -> Result<Option<TermId>, NoMemory>
+    pub(crate) fn slice(
+        &mut self,
+        a: Option<TermId>,
+        high: i64,
+        low: i64,
+    ) -> Result<Option<TermId>, NoMemory>
         requires fits { Fits self.old }
         requires within { IsWithin self.old.terms a }
         ensures grown { OnOk result (Grown self.old self.new) }

@@ -1,4 +1,6 @@
 ghost use Rattle.std.specs.Prelude.{◌≡◌, IfOk};
+ghost use Rattle.exec_core.specs.Block.{key_name};
+ghost use Rattle.block_net.specs.Logs.{key_of};
 
 use std::alloc::Global;
 use text_core::{NoMemory, Text};
@@ -21,5 +23,15 @@ impl Key {
             Key::Now(name) => Key::Now(Text::new(alloc, name.bytes())?),
             Key::Next(name) => Key::Next(Text::new(alloc, name.bytes())?),
         })
+    }
+
+    /// The name that is set.
+    pub(crate) fn name(&self) -> &[u8]
+        ensures { result.now ≡ key_name (key_of self.now) }
+    {
+        match self {
+            Key::Now(name) => name.bytes(),
+            Key::Next(name) => name.bytes(),
+        }
     }
 }

@@ -1,10 +1,10 @@
 //! The keys that a block assigns, each once, in the order in which they came first.
 
-ghost use Rattle.std.specs.Prelude.{◌≡◌, not, IfOk, OnOk};
+ghost use Rattle.std.specs.Prelude.{◌≡◌, [], not, IfOk, OnOk};
 ghost use Rattle.exec_core.specs.Block.{same_key};
 ghost use Rattle.block_net.specs.Logs.{key_of};
 ghost use Rattle.block_net.specs.Walks.{among, either};
-ghost use Rattle.block_net.specs.Sets.{IsKept, seen};
+ghost use Rattle.block_net.specs.Sets.{IsKept, KeysMore, seen};
 
 use crate::Key;
 use names::NameSet;
@@ -13,13 +13,25 @@ use text_core::NoMemory;
 
 /// Keys in the order in which they came first.
 #[derive(Drop)]
-struct KeySet {
-    keys: Vec<Key>,
+pub(crate) struct KeySet {
+    pub(crate) keys: Vec<Key>,
     now: NameSet,
     next: NameSet,
 }
 
 impl KeySet {
+    /// No keys. Takes no memory.
+    pub(crate) fn new(alloc: Global) -> KeySet
+        ensures kept { IsKept result }
+        ensures keys { result.keys.items ≡ [] }
+    {
+        KeySet {
+            keys: Vec::new(alloc),
+            now: NameSet::new(alloc),
+            next: NameSet::new(alloc),
+        }
+    }
+
     /// Notes a key, and tells whether it was new.
     fn note(&mut self, alloc: Global, key: &Key) -> Result<bool, NoMemory>
         ensures new { IfOk result (λ new. new ≡ not (seen self.old (key_of key.now))) }
@@ -37,11 +49,25 @@ impl KeySet {
     fn add(&mut self, alloc: Global, key: &Key) -> Result<(), NoMemory>
         requires { IsKept self.old }
         ensures kept { OnOk result (IsKept self.new) }
+        ensures more { OnOk result (KeysMore self.old self.new) }
         ensures keys { OnOk result (among self.new.keys.items ≡ either (among self.old.keys.items) (same_key (key_of key.now))) }
     {
         if self.note(alloc, key)? {
             let key = key.copy(alloc)?;
             self.keys.push(key)?;
+        }
+        Ok(())
+    }
+
+    /// Puts keys last, unless they are there.
+    pub(crate) fn add_all(&mut self, alloc: Global, keys: &[Key]) -> Result<(), NoMemory>
+        requires { IsKept self.old }
+        ensures kept { OnOk result (IsKept self.new) }
+        ensures more { OnOk result (KeysMore self.old self.new) }
+        ensures keys { OnOk result (among self.new.keys.items ≡ either (among self.old.keys.items) (among keys.now)) }
+    {
+        for key in keys {
+            self.add(alloc, key)?;
         }
         Ok(())
     }
@@ -51,13 +77,7 @@ impl KeySet {
 pub(crate) fn distinct(alloc: Global, keys: &[Key]) -> Result<Vec<Key>, NoMemory>
     ensures { IfOk result (λ found. among found.items ≡ among keys.now) }
 {
-    let mut set = KeySet {
-        keys: Vec::new(alloc),
-        now: NameSet::new(alloc),
-        next: NameSet::new(alloc),
-    };
-    for key in keys {
-        set.add(alloc, key)?;
-    }
+    let mut set = KeySet::new(alloc);
+    set.add_all(alloc, keys)?;
     Ok(set.keys)
 }

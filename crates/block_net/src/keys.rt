@@ -1,13 +1,14 @@
 ghost use Rattle.std.specs.Prelude.{◌≡◌, IfOk, OnOk};
-ghost use Rattle.exec_core.specs.Block.{assigns, body_assigns};
+ghost use Rattle.exec_core.specs.Block.{Done, assigns, body_assigns};
 ghost use Rattle.design_exec.specs.Processes.{target as the_target};
+ghost use Rattle.block_net.specs.Cases.{arms_assign};
 ghost use Rattle.block_net.specs.Logs.{key_of};
-ghost use Rattle.block_net.specs.Source.{body_in, else_in, stmt_in};
+ghost use Rattle.block_net.specs.Source.{arms_in, body_in, else_in, stmt_in};
 ghost use Rattle.block_net.specs.Walks.{among, either};
 
 use crate::Key;
 use crate::key_set::distinct;
-use design_core::Stmt;
+use design_core::{Arm, Stmt};
 use std::alloc::Global;
 use text_core::{NoMemory, Text};
 
@@ -63,13 +64,33 @@ fn collect_stmt(
             collect(alloc, clocked, yes, keys)?;
             collect_else(alloc, clocked, no, keys)?;
         }
+        Stmt::Case { arms, other, .. } => {
+            collect_arms(alloc, clocked, arms, keys)?;
+            collect_else(alloc, clocked, other, keys)?;
+        }
     }
     Ok(())
 }
 
-/// The same of what an `else` holds.
+/// The same of arms.
 #[cycle(collecting)]
-fn collect_else(
+fn collect_arms(
+    alloc: Global,
+    clocked: bool,
+    arms: &[Arm],
+    keys: &mut Vec<Key>,
+) -> Result<(), NoMemory>
+    ensures { OnOk result (among keys.new.items ≡ either (among keys.old.items) (arms_assign (arms_in clocked arms.now) Done)) }
+{
+    for arm in arms {
+        collect(alloc, clocked, &arm.body, keys)?;
+    }
+    Ok(())
+}
+
+/// The same of what an `else` or a default holds.
+#[cycle(collecting)]
+pub(crate) fn collect_else(
     alloc: Global,
     clocked: bool,
     no: &Option<Vec<Stmt>>,
