@@ -12,8 +12,6 @@ use Rattle.list_core.specs.Lists.{EachOf, IsIn}
 use Rattle.exec_core.specs.Paths.{TreeFits, TreesChecked}
 use Rattle.exec_core.specs.Exec.{Env}
 use Rattle.exec_core.specs.Trees.{block_trees}
-use Rattle.exec_core.specs.Shown.{block_shown_trees}
-use Rattle.check_exec.proofs.Whole.{blocks_are_shown}
 use Rattle.exec_core.specs.Whole.{Place}
 use Rattle.exec_core.specs.Accepted.{OriginsApart, GivenFits}
 use Rattle.exec_core.specs.States.{OverGivens}
@@ -34,7 +32,7 @@ use Rattle.list_core.proofs.Growing.{more_of}
 use Rattle.ssa_core.proofs.Places.{get_map, get_mapped}
 use Rattle.ssa_nodes.specs.State.{AllOverGivens}
 use Rattle.ssa_nodes.specs.declared.parts.Parts as code
-use Rattle.ssa_nodes.specs.Parts.{HasParts, IsEnd, EndStands, StandsBy, IsReadyBy, design_in, folded_of}
+use Rattle.ssa_nodes.specs.Parts.{HasParts, IsEnd, EndStands, StandsBy, IsReadyBy, design_in, folded_of, ends_by}
 use Rattle.ssa_nodes.specs.Driving.{AllHave}
 use Rattle.ssa_nodes.proofs.Sources.{accepted, by_node}
 use Rattle.ssa_nodes.proofs.Driven.{key_at}
@@ -84,7 +82,7 @@ module _ (p : code.Parts) (h : HasParts p) where
   record Written (q : Place) (b : Process) : Type 0 where
     here : place b.instance q.name ≡ q
     tree : Tree Name
-    ends : block_shown_trees b.body (Next q.name) ≡ Some tree
+    ends : ends_by p b (Next q.name) ≡ Some tree
     formed : WellFormed (λ r. is_signal_of (design_in p) r ≡ true) d.width (moved b.instance tree)
 
   written : (q : Place) (k : ℕ) (w : IsFirst d.processes q k) → is_signal_of (design_in p) q ≡ true → Written q w.process
@@ -99,15 +97,12 @@ module _ (p : code.Parts) (h : HasParts p) where
       checked : TreesChecked (signals_of d w.process) (width_in d w.process) w.process.body
       checked = process_checked d h.parts.told.order (accepted p h) w.process m.0
 
-      shown : block_trees (width_in d w.process) w.process.body ≡ block_shown_trees w.process.body
-      shown = (blocks_are_shown (design_in p) h.parts.sound w.process m.0).ends
-
       known : signals_of d w.process q.name ≡ true
       known = subst (λ r. is_signal_of (design_in p) r ≡ true) (sym here) signal
 
       by_tree : (o : Option (Tree Name)) → block_trees (width_in d w.process) w.process.body (Next q.name) ≡ o → TreeFits (signals_of d w.process) (width_in d w.process) (width_in d w.process q.name) o → Written q w.process
       by_tree None e fits = absurd (checked.ends_next q.name e)
-      by_tree (Some t) e fits = record { here = here; tree = t; ends = ap (λ (trees : Env (Tree Name)). trees (Next q.name)) (sym shown) ∙ e; formed = (moved_fits d w.process t fits.0).0 }
+      by_tree (Some t) e fits = record { here = here; tree = t; ends = e; formed = (moved_fits d w.process t fits.0).0 }
 
   pub writer_ends : (nodes : List (Option NodeId)) (q : Place) (k : ℕ) → IsFirst d.processes q k → is_signal_of (design_in p) q ≡ true → AllHave p nodes → IsEnd p nodes k (Next q.name)
   writer_ends nodes q k w signal all =
@@ -124,7 +119,6 @@ module _ (p : code.Parts) (h : HasParts p) where
       let t = written q k w signal in
       let key = key_at p h k w.process w.found in
       let is : next_tree d q ≡ moved w.process.instance t.tree = ap (next_by d q) w.first
-      ∙ ap (λ (trees : Env (Tree Name)). moved w.process.instance (unwrap_or (trees (Next q.name)) (Leaf q.name))) (blocks_are_shown (design_in p) h.parts.sound w.process (in_at d.processes k w.process w.found)).ends
       ∙ ap (λ o. moved w.process.instance (unwrap_or o (Leaf q.name))) t.ends in
       subst (λ u. StandsBy p ns u id) (sym is) (stands key.0 w.process t.tree key.1.0 key.1.1 t.ends)
 

@@ -1,17 +1,18 @@
 -- The rows of a block are those of its statements, in order.
-use Rattle.std.proofs.Common.{◌≡◌, ℕ, Bool, true, List, [], ◌∷◌, ◌++◌, map, Some, if◌then◌else◌, inl, inr, refl, sym, ap, ap₂, ◌∙◌, subst, eq-eqb, ne_eqb}
+use Rattle.std.proofs.Common.{◌≡◌, ℕ, Bool, true, List, [], ◌∷◌, ◌++◌, map, Some, if◌then◌else◌, inl, inr, append_assoc, append-nil, refl, sym, ap, ap₂, ◌∙◌, subst, eq-eqb, ne_eqb}
 use Rattle.std.proofs.lemmas.List.{map-append}
 use Rattle.bv_core.specs.Operators.{flag_of}
 use Rattle.tree_core.specs.Tree.{Const}
 use Rattle.exec_core.specs.Block.{Name, slots, body_slots}
+use Rattle.exec_core.specs.Cases.{arms_body}
 use Rattle.list_core.specs.Lists.{IsIn, AreApart}
 use Rattle.exec_core.specs.Trees.{Row, tree_start, block_rows, row_at}
 use Rattle.list_core.proofs.Lists.{not_in}
 use Rattle.exec_core.proofs.Slots.{row_slots, body_rows_have}
 use Rattle.design_core.specs.Design as design
 use Rattle.design_core.specs.Design.{Block, Variant}
-use Rattle.design_core.specs.Slots.{Head, heads, stmt_heads, else_heads, slots_of, scope}
-use Rattle.design_exec.specs.Processes.{Widths, body_of, stmt_of, else_of, body_widths, signal_width}
+use Rattle.design_core.specs.Slots.{Head, heads, stmt_heads, else_heads, arms_heads, slots_of, scope}
+use Rattle.design_exec.specs.Processes.{Widths, arms_of, body_of, stmt_of, else_of, tree_of, body_widths, signal_width}
 use Rattle.world_core.specs.Sites.{Site, sites_in_block, site_body, head_site}
 
 -- ---- the slots of a block
@@ -25,10 +26,23 @@ mutual
   body_has c (design.Then s rest) = ap₂ (λ (p q : List ℕ). p ++ q) (stmt_has c s) (body_has c rest) ∙ sym (slots-append (stmt_heads s) (heads rest))
 
   stmt_has : (c : Bool) (s : design.Stmt) → slots (stmt_of c s) ≡ slots_of (stmt_heads s)
-  stmt_has c (design.Assign slot line gens x e) = refl
+  stmt_has c (design.Assign slot line gens x part e) = refl
   stmt_has c (design.Let slot line gens x e) = refl
   stmt_has c (design.If slot line gens t first second) =
       ap (λ l. slot ∷ l) (ap₂ (λ (p q : List ℕ). p ++ q) (body_has c first) (else_has c second) ∙ sym (slots-append (heads first) (else_heads second)))
+  stmt_has c (design.Case slot line gens v design.NoArms other) = ap (λ l. slot ∷ l) (else_has c other)
+  stmt_has c (design.Case slot line gens v (design.ThenArm tests body rest) other) =
+      ap (λ l. slot ∷ l)
+      (ap₂ (λ (p q : List ℕ). p ++ q) (body_has c body) (arms_have c v rest other (else_has c other)) ∙ sym (slots-append (heads body) (arms_heads rest ++ else_heads other))
+      ∙ ap slots_of (sym (append_assoc (heads body) (arms_heads rest) (else_heads other))))
+
+  -- of arms, one inside another, where the default has its own
+  arms_have : (c : Bool) (v : design.Expr) (arms : design.Arms) (other : design.Else) → body_slots (else_of c other) ≡ slots_of (else_heads other)
+      → body_slots (arms_body (tree_of v) (arms_of c arms) (else_of c other)) ≡ slots_of (arms_heads arms ++ else_heads other)
+  arms_have c v design.NoArms other last = last
+  arms_have c v (design.ThenArm tests body rest) other last =
+      append-nil _ ∙ ap₂ (λ (p q : List ℕ). p ++ q) (body_has c body) (arms_have c v rest other last) ∙ sym (slots-append (heads body) (arms_heads rest ++ else_heads other))
+      ∙ ap slots_of (sym (append_assoc (heads body) (arms_heads rest) (else_heads other)))
 
   else_has : (c : Bool) (b : design.Else) → body_slots (else_of c b) ≡ slots_of (else_heads b)
   else_has c design.NoElse = refl

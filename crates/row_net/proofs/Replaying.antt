@@ -8,7 +8,7 @@ use Rattle.tree_core.specs.Tree.{Tree}
 use Rattle.tree_core.specs.Tree as tree
 use Rattle.exec_core.specs.Block.{Name, Body, own}
 use Rattle.exec_core.specs.Exec.{Env}
-use Rattle.exec_core.specs.Shown.{shown_start, block_shown_rows}
+use Rattle.exec_core.specs.Shown.{shown_start}
 use Rattle.net_core.specs.Nodes.{Shape}
 use Rattle.names.specs.Known.{has}
 use Rattle.names.specs.Maps.{put_value}
@@ -21,12 +21,12 @@ use Rattle.block_net.specs.declared.term.Term.{Term}
 use Rattle.block_net.specs.declared.term.TermId.{TermId}
 use Rattle.block_net.specs.Terms.{IsWithin, tree_for}
 use Rattle.block_net.specs.Logs.{AreWithin, rows_of}
-use Rattle.block_net.specs.Blocks.{BlockParts, Tells}
+use Rattle.block_net.specs.Blocks.{BlockParts}
 use Rattle.block_net.specs.Walks.{IsHeld, held}
 use Rattle.place_core.specs.Assigned.{names_at}
 use Rattle.term_net.specs.Leaves.{leaf_tree}
 use Rattle.lower_core.specs.declared.row.FullRow.{FullRow}
-use Rattle.row_net.specs.Told.{Names, NameRow, name_row, names_in, set_name, after_step, rows_of_step, name_rows, names_by, no_own, AreHeld, Replayed, RowsPut}
+use Rattle.row_net.specs.Told.{Names, NameRow, name_row, names_in, set_name, after_step, rows_of_step, name_rows, names_by, no_own, AreHeld, Replayed, RowsPut, log_rows}
 use Rattle.row_net.proofs.Growing.{names_more}
 
 -- ---- what names have
@@ -117,12 +117,11 @@ no_own_held terms ids f e = subst (AreHeld terms) (sym e) (λ x. by_test (f x))
     by_test false = tt
 
 -- the log tells the rows of the block
-pub block_told : (parts : BlockParts) (body : Body) (ids : Name → Option (Option TermId)) → Tells parts body → ids ≡ no_own (own body) → name_rows parts.terms parts.log (names_by parts.terms ids) ≡ map name_row (block_shown_rows body)
-block_told parts body ids tells e =
+pub block_told : (parts : BlockParts) (body : Body) (ids : Name → Option (Option TermId)) → ids ≡ no_own (own body) → name_rows parts.terms parts.log (names_by parts.terms ids) ≡ map name_row (log_rows parts body)
+block_told parts body ids e =
     ap (λ f. name_rows parts.terms parts.log (names_by parts.terms f)) e
     ∙ ap (name_rows parts.terms parts.log) (starts_as parts.terms body)
     ∙ same_rows parts.terms parts.log (shown_start body)
-    ∙ ap (map name_row) tells.rows
 
 -- ---- own names
 

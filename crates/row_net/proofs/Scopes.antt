@@ -1,5 +1,5 @@
 -- The names in scope in a block are known to its process.
-use Rattle.std.proofs.Common.{◌≡◌, ℕ, Bool, true, bytes_eq, [], map, option_map, unwrap_or, inl, inr, sym, ap, ◌∙◌, subst}
+use Rattle.std.proofs.Common.{◌≡◌, ℕ, Bool, true, bytes_eq, [], ◌++◌, append_assoc, map, option_map, unwrap_or, inl, inr, sym, ap, ◌∙◌, subst}
 use Rattle.std.specs.List.{list_any}
 use Rattle.std.proofs.lemmas.Bool.{or_left, or_right}
 use Rattle.exec_core.specs.Block.{Name, Now, own, body_assigns, assigns}
@@ -10,8 +10,10 @@ use Rattle.design_core.specs.declared.design.Instance.{Instance}
 use Rattle.design_core.specs.declared.variant.Signal.{Signal}
 use Rattle.design_core.specs.Design as design
 use Rattle.design_core.specs.Design.{Variant, Block, Design}
-use Rattle.design_core.specs.Slots.{lets_of, let_of, else_lets, scope}
-use Rattle.design_exec.specs.Processes.{instances_of, process, processes_at, processes_of, body_of, stmt_of, else_of, is_signal_of}
+use Rattle.design_core.specs.Slots.{lets_of, let_of, else_lets, arms_lets, scope}
+use Rattle.design_exec.specs.Processes.{instances_of, process, processes_at, processes_of, arms_of, body_of, stmt_of, else_of, tree_of, value_of, is_signal_of}
+use Rattle.exec_core.specs.Cases.{arms_body}
+use Rattle.check_exec.proofs.Arms.{case_assigns, arm_assigns}
 use Rattle.check_exec.proofs.Facts.{in_any, name_same}
 use Rattle.list_core.proofs.Lists.{in_cases}
 use Rattle.check_exec.proofs.Instances.{Stands, signals_are}
@@ -19,13 +21,26 @@ use Rattle.list_core.proofs.Listing.{map_in, map_from, flat_in, at_number}
 
 mutual
   let_set : (c : Bool) (x : Name) (s : design.Stmt) → IsIn x (let_of s) → assigns (stmt_of c s) (Now x) ≡ true
-  let_set c x (design.Assign slot line gens y e) i = absurd i
+  let_set c x (design.Assign slot line gens y part e) i = absurd i
   let_set c x (design.Let slot line gens y e) (inl same) = name_same y x (sym same)
   let_set c x (design.Let slot line gens y e) (inr i) = absurd i
   let_set c x (design.If slot line gens t first second) i = elim (in_cases x (lets_of first) (else_lets second) i) [
     | inl h ↦ or_left (body_assigns (body_of c first) (Now x)) (body_assigns (else_of c second) (Now x)) (lets_set c x first h)
     | inr h ↦ or_right (body_assigns (body_of c first) (Now x)) (body_assigns (else_of c second) (Now x)) (else_set c x second h)
   ]
+  let_set c x (design.Case slot line gens v arms other) i =
+      case_assigns slot (tree_of v) (arms_of c arms) (else_of c other) (Now x) ∙ arms_set c x v arms other (else_set c x other) i
+
+  -- of arms, or of the default, where what it has is set
+  arms_set : (c : Bool) (x : Name) (v : design.Expr) (arms : design.Arms) (other : design.Else) → (IsIn x (else_lets other) → body_assigns (else_of c other) (Now x) ≡ true) → IsIn x (arms_lets arms ++ else_lets other)
+      → body_assigns (arms_body (tree_of v) (arms_of c arms) (else_of c other)) (Now x) ≡ true
+  arms_set c x v design.NoArms other last i = last i
+  arms_set c x v (design.ThenArm tests body rest) other last i =
+      arm_assigns (tree_of v) (record { tests = map value_of tests; body = body_of c body }) (arms_of c rest) (else_of c other) (Now x)
+      ∙ elim (in_cases x (lets_of body) (arms_lets rest ++ else_lets other) (subst (IsIn x) (append_assoc (lets_of body) (arms_lets rest) (else_lets other)) i)) [
+        | inl h ↦ or_left (body_assigns (body_of c body) (Now x)) (body_assigns (arms_body (tree_of v) (arms_of c rest) (else_of c other)) (Now x)) (lets_set c x body h)
+        | inr h ↦ or_right (body_assigns (body_of c body) (Now x)) (body_assigns (arms_body (tree_of v) (arms_of c rest) (else_of c other)) (Now x)) (arms_set c x v rest other last h)
+      ]
 
   lets_set : (c : Bool) (x : Name) (b : design.Body) → IsIn x (lets_of b) → body_assigns (body_of c b) (Now x) ≡ true
   lets_set c x design.Done i = absurd i

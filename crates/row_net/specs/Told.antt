@@ -2,9 +2,10 @@
 use Rattle.std.specs.Prelude.{◌≡◌, ℕ, List, [], ◌∷◌, ◌++◌, Option, Some, None, Bool, bytes_eq, if◌then◌else◌}
 use Rattle.bv_core.specs.declared.reference.NodeId.{NodeId}
 use Rattle.tree_core.specs.Tree.{Tree, Whole}
-use Rattle.exec_core.specs.Block.{Name, Now}
+use Rattle.exec_core.specs.Block.{Name, Now, Body}
 use Rattle.exec_core.specs.Exec.{Env}
 use Rattle.list_core.specs.Lists.{EachOf}
+use Rattle.exec_core.specs.Shown.{shown_start}
 use Rattle.exec_core.specs.Trees.{Row}
 use Rattle.net_core.specs.Nodes.{Shape}
 use Rattle.net_core.specs.Builder.{Stands}
@@ -13,6 +14,8 @@ use Rattle.block_net.specs.declared.effect.Effect.{Effect}
 use Rattle.block_net.specs.declared.effect.Effect.TheVariants.{Set, Slot}
 use Rattle.block_net.specs.declared.term.Term.{Term}
 use Rattle.block_net.specs.declared.term.TermId.{TermId}
+use Rattle.block_net.specs.Blocks.{BlockParts}
+use Rattle.block_net.specs.Logs.{rows_of}
 use Rattle.block_net.specs.Terms.{tree_for}
 use Rattle.block_net.specs.Walks.{IsHeld, held}
 use Rattle.term_net.specs.Leaves.{leaf_tree, whole_of, IsReady}
@@ -69,6 +72,10 @@ no_own own x = if own x then Some None else None
 
 abbrev pub AreHeld : List Term → (Name → Option (Option TermId)) → Type 0
 AreHeld ns ids = (x : Name) → IsHeld ns (ids x)
+
+-- the rows that the log of a block tells, where its own names have nothing at first
+abbrev pub log_rows : BlockParts → Body → List Row
+log_rows parts body = rows_of parts.terms parts.log (shown_start body)
 
 -- ---- rows that can have nodes
 

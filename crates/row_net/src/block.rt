@@ -2,18 +2,16 @@
 
 ghost use Rattle.std.specs.Prelude.{◌≡◌, ◌++◌, map, IfOk, OnOk};
 ghost use Rattle.list_core.specs.Lists.{EachOf};
-ghost use Rattle.exec_core.specs.Shown.{block_shown_rows as the_rows};
 ghost use Rattle.design_core.specs.Slots.{lets_of};
 ghost use Rattle.design_core.specs.View.{block_of, body_of};
 ghost use Rattle.design_exec.specs.Processes as processes;
 ghost use Rattle.names.specs.Known.{has};
 ghost use Rattle.names.specs.Maps.{value_of};
-ghost use Rattle.block_net.specs.Blocks.{Tells};
 ghost use Rattle.place_core.specs.Assigned.{assigned_in as the_assigned, names_at};
 ghost use Rattle.term_net.specs.Growth.{Grown};
 ghost use Rattle.term_net.specs.Leaves.{leaf_id, leaf_tree};
 ghost use Rattle.term_net.specs.Memos.{Fits};
-ghost use Rattle.row_net.specs.Told.{RowReady, RowsHave, name_row, no_own};
+ghost use Rattle.row_net.specs.Told.{RowReady, RowsHave, log_rows, name_row, no_own};
 
 use crate::replay::replay;
 use block_net::{BlockTerms, TermId};
@@ -63,9 +61,8 @@ pub(crate) fn block_rows(
     instance: u32,
 ) -> Result<Vec<FullRow>, NoMemory>
     requires fits { Fits builder.old (value_of places.now) nodes.now terms.now.terms memo.old }
-    requires tells { Tells terms.now (processes.body_of block.now.clocked (block_of block.now).body) }
-    requires ready { EachOf (RowReady (leaf_id (value_of places.now) nodes.now) (leaf_tree builder.old (value_of places.now) nodes.now) (names_at signals.now ++ lets_of (block_of block.now).body)) (map name_row (the_rows (processes.body_of block.now.clocked (block_of block.now).body))) }
-    ensures have { IfOk result (λ rows. RowsHave builder.new (leaf_tree builder.new (value_of places.now) nodes.now) instance (names_at signals.now ++ lets_of (block_of block.now).body) (map name_row (the_rows (processes.body_of block.now.clocked (block_of block.now).body))) rows.items) }
+    requires ready { EachOf (RowReady (leaf_id (value_of places.now) nodes.now) (leaf_tree builder.old (value_of places.now) nodes.now) (names_at signals.now ++ lets_of (block_of block.now).body)) (map name_row (log_rows terms.now (processes.body_of block.now.clocked (block_of block.now).body))) }
+    ensures have { IfOk result (λ rows. RowsHave builder.new (leaf_tree builder.new (value_of places.now) nodes.now) instance (names_at signals.now ++ lets_of (block_of block.now).body) (map name_row (log_rows terms.now (processes.body_of block.now.clocked (block_of block.now).body))) rows.items) }
     ensures fits { OnOk result (Fits builder.new (value_of places.now) nodes.now terms.now.terms memo.new) }
     ensures grown { OnOk result (Grown builder.old builder.new) }
 {

@@ -3,10 +3,10 @@ use Rattle.std.proofs.Common.{◌≡◌, ℕ, ◌+◌, ◌<◌, List, [], ◌∷
 use Rattle.std.proofs.lemmas.List.{map-append, drop_more}
 use Rattle.exec_core.specs.Block.{Name}
 use Rattle.design_core.specs.declared.variant.Variant as code_variant
-use Rattle.design_core.specs.Design.{Stmt, Assign, Let, If, Body, Done, Then, Else, NoElse, Otherwise, Block}
-use Rattle.design_core.specs.Slots.{stmt_heads, heads, else_heads, lets_of}
+use Rattle.design_core.specs.Design.{Stmt, Assign, Let, If, Case, Body, Done, Then, Else, NoElse, Otherwise, Arms, NoArms, ThenArm, Block}
+use Rattle.design_core.specs.Slots.{stmt_heads, heads, else_heads, arms_heads, lets_of}
 use Rattle.design_core.specs.View.{variant_of}
-use Rattle.design_core.specs.Statements.{inside, statements, else_statements}
+use Rattle.design_core.specs.Statements.{inside, statements, else_statements, arms_statements}
 use Rattle.shape_net.specs.declared.ordered.NumberedSlot.{NumberedSlot}
 use Rattle.design_core.specs.Heads.{head_of, let_names}
 use Rattle.design_core.proofs.LetNames.{names_in}
@@ -14,10 +14,16 @@ use Rattle.shape_net.specs.Numbered.{numbered_head, numbered_stmt, block_slots, 
 
 mutual
   inside_heads : (s : Stmt) → head_of s ∷ map head_of (inside s) ≡ stmt_heads s
-  inside_heads (Assign slot line gens x e) = refl
+  inside_heads (Assign slot line gens x part e) = refl
   inside_heads (Let slot line gens x e) = refl
   inside_heads (If slot line gens c first second) =
       ap (λ l. record { slot = slot; line = line; gens = gens } ∷ l) (map-append head_of (statements first) (else_statements second) ∙ ap₂ (λ a b. a ++ b) (body_heads first) (else_body_heads second))
+  inside_heads (Case slot line gens v arms other) =
+      ap (λ l. record { slot = slot; line = line; gens = gens } ∷ l) (map-append head_of (arms_statements arms) (else_statements other) ∙ ap₂ (λ a b. a ++ b) (arms_have_heads arms) (else_body_heads other))
+
+  arms_have_heads : (arms : Arms) → map head_of (arms_statements arms) ≡ arms_heads arms
+  arms_have_heads NoArms = refl
+  arms_have_heads (ThenArm tests body rest) = map-append head_of (statements body) (arms_statements rest) ∙ ap₂ (λ a b. a ++ b) (body_heads body) (arms_have_heads rest)
 
   pub body_heads : (b : Body) → map head_of (statements b) ≡ heads b
   body_heads Done = refl

@@ -2,3 +2,6 @@ pub mod Places
 pub mod Telling
 pub mod Keys
 pub mod Driving
+pub mod PartNames
+pub mod PartBounds
+pub mod Wide

@@ -10,8 +10,6 @@ use Rattle.exec_core.specs.Block.{Name, Now}
 use Rattle.exec_core.specs.Leaves.{EachLeaf}
 use Rattle.list_core.specs.Lists.{EachOf, IsIn}
 use Rattle.exec_core.specs.Exec.{Env}
-use Rattle.exec_core.specs.Shown.{block_shown_trees}
-use Rattle.check_exec.proofs.Whole.{blocks_are_shown}
 use Rattle.exec_core.specs.Whole.{Place, Drivers, IsGiven, or_itself, StandsInOrder}
 use Rattle.exec_core.specs.Design as exec
 use Rattle.exec_core.specs.Design.{Process, place, moved, driver_of, process_tree}
@@ -37,7 +35,7 @@ use Rattle.list_core.proofs.Growing.{more_of}
 use Rattle.ssa_core.proofs.Places.{get_map, get_mapped, same_or_not}
 use Rattle.ssa_nodes.specs.State.{names_in, node_of, HasNode, MemoFits}
 use Rattle.ssa_nodes.specs.declared.parts.Parts as code
-use Rattle.ssa_nodes.specs.Parts.{HasParts, HasState, IsReadyBy, IsEnd, EndStands, StandsBy, all_in, design_in, folded_of}
+use Rattle.ssa_nodes.specs.Parts.{HasParts, HasState, IsReadyBy, IsEnd, EndStands, StandsBy, all_in, design_in, folded_of, ends_by}
 use Rattle.ssa_nodes.specs.Driving.{HasDriver, DriverStands, Resolved, IsPair, PairResolved, GivenHave, AllHave}
 use Rattle.ssa_nodes.proofs.Sources.{accepted, by_node}
 
@@ -124,7 +122,7 @@ module _ (p : code.Parts) (h : HasParts p) where
 
   record EndsWith (b : Process) (q : Place) (t : Tree Place) : Type 0 where
     tree : Tree Name
-    ends : block_shown_trees b.body (Now q.name) ≡ Some tree
+    ends : ends_by p b (Now q.name) ≡ Some tree
     is : moved b.instance tree ≡ t
 
   ends_with : (k : ℕ) (q : Place) (t : Tree Place) (does : ProcessDrives (design_in p) p.keys.items k q) → is_signal_of (design_in p) q ≡ true → driver_of d q ≡ Some t → EndsWith does.process q t
@@ -134,10 +132,10 @@ module _ (p : code.Parts) (h : HasParts p) where
       let here : place b.instance q.name ≡ q = place_is b q does.instance in
       let is_target : d.is_signal (place b.instance q.name) ≡ true = subst (λ r. d.is_signal r ≡ true) (sym here) signal in
       let driven : process_tree d (place b.instance q.name) b ≡ Some t = sym (target_source d h.parts.told.order (accepted p h) b m q.name (does.owns, is_target)) ∙ ap (driver_of d) here ∙ e in
-      by_tree b (block_shown_trees b.body (Now q.name)) refl
-      (ap (λ (trees : Env (Tree Name)). option_map (moved b.instance) (trees (Now q.name))) (sym (blocks_are_shown (design_in p) h.parts.sound b m).ends) ∙ driven)
+      by_tree b (ends_by p b (Now q.name)) refl
+      driven
     where
-      by_tree : (b : Process) (o : Option (Tree Name)) → block_shown_trees b.body (Now q.name) ≡ o → option_map (moved b.instance) o ≡ Some t → EndsWith b q t
+      by_tree : (b : Process) (o : Option (Tree Name)) → ends_by p b (Now q.name) ≡ o → option_map (moved b.instance) o ≡ Some t → EndsWith b q t
       by_tree b None at is = absurd (none-some t is)
       by_tree b (Some u) at is = record { tree = u; ends = at; is = same_Some (moved b.instance u) t is }
 

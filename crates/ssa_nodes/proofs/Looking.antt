@@ -53,7 +53,7 @@ pub record ProcessTerms (d : design.Design) (blocks : List (List BlockParts)) (k
   pub block : design.Block
   pub at : slice_get (blocks_in d key.variant) key.block ≡ Some block
   pub is : process key.instance (signals_in d key.variant) block ≡ b
-  pub has : HasTerms blocks key.variant key.block block
+  pub has : HasTerms d blocks key.variant key.block block
 
 pub process_terms : (d : design.Design) (blocks : List (List BlockParts)) (key : ProcessKey) (b : Process) → HaveTerms d blocks → process_at d key ≡ Some b → ProcessTerms d blocks key b
 process_terms d blocks key b have e = by_block (slice_get (blocks_in d key.variant) key.block) refl

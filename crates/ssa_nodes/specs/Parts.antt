@@ -3,9 +3,10 @@ use Rattle.std.specs.Prelude.{◌≡◌, ℕ, true, List, length, map, Option, S
 use Rattle.bv_core.specs.declared.reference.NodeId.{NodeId}
 use Rattle.tree_core.specs.Tree.{Tree, Whole}
 use Rattle.exec_core.specs.Block.{Name, Key}
-use Rattle.exec_core.specs.Shown.{block_shown_trees}
+use Rattle.exec_core.specs.Exec.{Env}
+use Rattle.exec_core.specs.Trees.{block_trees}
 use Rattle.exec_core.specs.Whole.{Place}
-use Rattle.exec_core.specs.Design.{Process, moved, folded_tree}
+use Rattle.exec_core.specs.Design.{Process, moved, folded_tree, width_in}
 use Rattle.design_core.specs.Design as design
 use Rattle.design_core.specs.DesignView.{design_of}
 use Rattle.design_exec.specs.Processes.{processes_of, is_signal_of}
@@ -91,6 +92,10 @@ HasNodeBy p ns i None (Some id) = ⊥
 HasNodeBy p ns i (Some t) None = ⊥
 HasNodeBy p ns i (Some t) (Some id) = StandsBy p ns (moved i t) id
 
+-- the trees that a process ends with
+abbrev pub ends_by : code.Parts → Process → Env (Tree Name)
+ends_by p b = block_trees (width_in (processes_of (design_in p)) b) b.body
+
 -- the process of this number ends with a tree for a key, which is over signals that have nodes
 pub record IsEnd (p : code.Parts) (nodes : List (Option NodeId)) (k : ℕ) (y : Key) : Type 0 where
   pub key : ProcessKey
@@ -98,10 +103,10 @@ pub record IsEnd (p : code.Parts) (nodes : List (Option NodeId)) (k : ℕ) (y : 
   pub process : Process
   pub is : process_at (design_in p) key ≡ Some process
   pub tree : Tree Name
-  pub ends : block_shown_trees process.body y ≡ Some tree
+  pub ends : ends_by p process y ≡ Some tree
   pub ready : IsReadyBy p nodes (moved process.instance tree)
 
 -- and the node stands for it
 abbrev pub EndStands : code.Parts → List Shape → ℕ → Key → NodeId → Type 0
 EndStands p ns k y id =
-    (key : ProcessKey) (b : Process) (t : Tree Name) → slice_get p.keys.items k ≡ Some key → process_at (design_in p) key ≡ Some b → block_shown_trees b.body y ≡ Some t → StandsBy p ns (moved b.instance t) id
+    (key : ProcessKey) (b : Process) (t : Tree Name) → slice_get p.keys.items k ≡ Some key → process_at (design_in p) key ≡ Some b → ends_by p b y ≡ Some t → StandsBy p ns (moved b.instance t) id

@@ -7,10 +7,10 @@ use Rattle.list_core.proofs.Lists.{apart_both}
 use Rattle.design_core.specs.declared.variant.Signal.{Signal}
 use Rattle.design_core.specs.Design as design
 use Rattle.design_core.specs.Design.{Block, Variant}
-use Rattle.design_core.specs.Slots.{lets_of, let_of, else_lets, scope}
+use Rattle.design_core.specs.Slots.{lets_of, let_of, else_lets, arms_lets, scope}
 use Rattle.names.specs.Known.{Known, none, with}
 use Rattle.check_core.specs.Names.{any_kind, named, child_named, signal_thing, lets_in, taken_in, duplicate_name}
-use Rattle.design_core.specs.Statements.{inside, statements, else_statements}
+use Rattle.design_core.specs.Statements.{inside, statements, else_statements, arms_statements}
 use Rattle.check_exec.proofs.Facts.{name_same, in_any}
 use Rattle.check_exec.proofs.Names.{Differ, none_taken, signals_differ, lets_differ}
 
@@ -24,21 +24,32 @@ thing_name p = p.1
 
 lets_append : (a b : List design.Stmt) → lets_in (a ++ b) ≡ lets_in a ++ lets_in b
 lets_append [] b = refl
-lets_append (design.Assign slot line gens x e ∷ a) b = lets_append a b
+lets_append (design.Assign slot line gens x part e ∷ a) b = lets_append a b
 lets_append (design.Let slot line gens x e ∷ a) b = ap (λ l. (line, x) ∷ l) (lets_append a b)
 lets_append (design.If slot line gens c first second ∷ a) b = lets_append a b
+lets_append (design.Case slot line gens v arms other ∷ a) b = lets_append a b
+
+-- of statements one after another
+joined_lets : (a b : List design.Stmt) → map thing_name (lets_in (a ++ b)) ≡ map thing_name (lets_in a) ++ map thing_name (lets_in b)
+joined_lets a b = ap (map thing_name) (lets_append a b) ∙ map-append thing_name (lets_in a) (lets_in b)
 
 mutual
   stmt_lets : (s : design.Stmt) (rest : List design.Stmt) → map thing_name (lets_in (s ∷ (inside s ++ rest))) ≡ let_of s ++ map thing_name (lets_in rest)
-  stmt_lets (design.Assign slot line gens x e) rest = refl
+  stmt_lets (design.Assign slot line gens x part e) rest = refl
   stmt_lets (design.Let slot line gens x e) rest = refl
   stmt_lets (design.If slot line gens c first second) rest =
-      ap (map thing_name) (lets_append (statements first ++ else_statements second) rest)
-      ∙ map-append thing_name (lets_in (statements first ++ else_statements second)) (lets_in rest)
+      joined_lets (statements first ++ else_statements second) rest
       ∙ ap (λ l. l ++ map thing_name (lets_in rest))
-      (ap (map thing_name) (lets_append (statements first) (else_statements second))
-      ∙ map-append thing_name (lets_in (statements first)) (lets_in (else_statements second))
-      ∙ ap₂ (λ (a b : List Name). a ++ b) (body_lets first) (else_body_lets second))
+      (joined_lets (statements first) (else_statements second) ∙ ap₂ (λ (a b : List Name). a ++ b) (body_lets first) (else_body_lets second))
+  stmt_lets (design.Case slot line gens v arms other) rest =
+      joined_lets (arms_statements arms ++ else_statements other) rest
+      ∙ ap (λ l. l ++ map thing_name (lets_in rest))
+      (joined_lets (arms_statements arms) (else_statements other) ∙ ap₂ (λ (a b : List Name). a ++ b) (arms_have_lets arms) (else_body_lets other))
+
+  arms_have_lets : (arms : design.Arms) → map thing_name (lets_in (arms_statements arms)) ≡ arms_lets arms
+  arms_have_lets design.NoArms = refl
+  arms_have_lets (design.ThenArm tests body rest) =
+      joined_lets (statements body) (arms_statements rest) ∙ ap₂ (λ (a b : List Name). a ++ b) (body_lets body) (arms_have_lets rest)
 
   body_lets : (b : design.Body) → map thing_name (lets_in (statements b)) ≡ lets_of b
   body_lets design.Done = refl

@@ -6,8 +6,12 @@ use Rattle.std.proofs.Math.ListN.{set}
 use Rattle.std.proofs.lemmas.Option.{slice_get_within, slice_get_read}
 use Rattle.bv_core.specs.declared.reference.NodeId.{NodeId}
 use Rattle.names.specs.Maps.{value_of}
+use Rattle.exec_core.specs.Trees.{Row}
+use Rattle.design_core.specs.Design.{Block}
 use Rattle.design_core.specs.View.{block_of}
-use Rattle.design_exec.specs.Processes.{process, signals_in}
+use Rattle.design_exec.specs.Processes.{body_of, process, signals_in}
+use Rattle.block_net.specs.Blocks.{BlockParts}
+use Rattle.row_net.specs.Told.{log_rows}
 use Rattle.place_core.specs.Assigned.{names_at}
 use Rattle.ssa_core.specs.declared.process.ProcessKey.{ProcessKey}
 use Rattle.ssa_core.specs.Processes.{lists_of}
@@ -15,8 +19,11 @@ use Rattle.ssa_core.proofs.Places.{get_map}
 use Rattle.ssa_nodes.specs.Parts.{HasState, design_in}
 use Rattle.ssa_nodes.proofs.Looking.{within_lists, map_set}
 use Rattle.row_net.proofs.Buckets.{take_first}
-use Rattle.row_net.proofs.Here.{ready, told, key_is, terms_tell, memo_is, memo_put}
+use Rattle.row_net.proofs.Here.{ready, told, told_rows, key_is, log_is, memo_is, memo_put}
 use Rattle.row_net.proofs.process.process_rows.Goals as goal
+
+abbrev its_rows : BlockParts → Block → List Row
+its_rows parts b = log_rows parts (body_of b.clocked b.body)
 
 read : (keys : List ProcessKey) (k : ℕ) (has key : ProcessKey) → slice_get keys k ≡ Some has → key ≡ get_or keys k key → slice_get keys k ≡ Some key
 read keys k has key found at = slice_get_read keys (length keys) k key refl (slice_get_within keys k has found) at
@@ -52,19 +59,22 @@ block_rows-requires-clause-fits c =
     (slice_get_read c.args.memos.now (length c.args.memos.now) c.args.number (get_or c.args.memos.now c.args.number c.index-memos-number.result) refl within (ap (get_or c.args.memos.now c.args.number) c.index-memos-number.is))
     ∙ ap (λ l. Some l) (sym c.deref_mut.ensures.value))
 
-pub block_rows-requires-clause-tells : goal.block_rows-requires-clause-tells
-block_rows-requires-clause-tells c =
-    terms_tell c.args.parts.now c.requires.parts c.args.number c.args.instance c.args.variant (block_of c.args.block.now) c.requires.key c.index-key.result.now (read c.args.parts.now.keys.items c.args.number c.requires.key.key c.index-key.result.now c.requires.key.found c.index-key.ensures) c.block_of-terms.result.now c.block_of-terms.ensures
-
 pub block_rows-requires-clause-ready : goal.block_rows-requires-clause-ready
 block_rows-requires-clause-ready c =
     ready c.args.parts.now c.requires.parts c.args.builder.now c.args.nodes.now (lists_of c.args.memos.now) c.requires.state c.requires.all c.args.instance c.args.variant (block_of c.args.block.now) c.requires.block
-    (value_of c.names_of-places.result.now) (names_at c.args.signals.now) c.names_of-places.ensures c.requires.signals
+    (value_of c.names_of-places.result.now) (names_at c.args.signals.now) c.names_of-places.ensures c.requires.signals (its_rows c.block_of-terms.result.now (block_of c.args.block.now))
+    (told_rows c.args.parts.now c.requires.parts c.args.builder.now c.args.nodes.now (lists_of c.args.memos.now) c.requires.state c.requires.all c.args.instance c.args.variant (block_of c.args.block.now) c.requires.block
+    (value_of c.names_of-places.result.now) (names_at c.args.signals.now) c.names_of-places.ensures c.requires.signals (its_rows c.block_of-terms.result.now (block_of c.args.block.now))
+    (log_is c.args.parts.now c.requires.parts c.args.number c.args.instance c.args.variant (block_of c.args.block.now) c.requires.key c.index-key.result.now (read c.args.parts.now.keys.items c.args.number c.requires.key.key c.index-key.result.now c.requires.key.found c.index-key.ensures) c.block_of-terms.result.now c.block_of-terms.ensures))
 
 pub returns-clause-told : goal.returns-clause-told
 returns-clause-told c =
     told c.args.parts.now c.requires.parts c.args.builder.now c.args.nodes.now (lists_of c.args.memos.now) c.requires.state c.requires.all c.args.instance c.args.variant (block_of c.args.block.now) c.requires.block
-    (value_of c.names_of-places.result.now) (names_at c.args.signals.now) c.names_of-places.ensures c.requires.signals c.block_rows.new.builder c.in_ok-rows.rows.items c.in_ok-rows.ensures.grown c.in_ok-rows.ensures.have
+    (value_of c.names_of-places.result.now) (names_at c.args.signals.now) c.names_of-places.ensures c.requires.signals (its_rows c.block_of-terms.result.now (block_of c.args.block.now))
+    (told_rows c.args.parts.now c.requires.parts c.args.builder.now c.args.nodes.now (lists_of c.args.memos.now) c.requires.state c.requires.all c.args.instance c.args.variant (block_of c.args.block.now) c.requires.block
+    (value_of c.names_of-places.result.now) (names_at c.args.signals.now) c.names_of-places.ensures c.requires.signals (its_rows c.block_of-terms.result.now (block_of c.args.block.now))
+    (log_is c.args.parts.now c.requires.parts c.args.number c.args.instance c.args.variant (block_of c.args.block.now) c.requires.key c.index-key.result.now (read c.args.parts.now.keys.items c.args.number c.requires.key.key c.index-key.result.now c.requires.key.found c.index-key.ensures) c.block_of-terms.result.now c.block_of-terms.ensures))
+    c.block_rows.new.builder c.in_ok-rows.rows.items c.in_ok-rows.ensures.grown c.in_ok-rows.ensures.have
 
 pub returns-clause-state : goal.returns-clause-state
 returns-clause-state c =

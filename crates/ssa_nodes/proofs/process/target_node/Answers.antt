@@ -2,10 +2,9 @@ use Rattle.std.proofs.Common.{◌≡◌, length, Some, refl, sym, ap, ◌∙◌,
 use Rattle.std.specs.Prelude.{slice_get}
 use Rattle.std.proofs.lemmas.Option.{slice_get_within, slice_get_read, same_Some}
 use Rattle.exec_core.specs.Block.{Now}
-use Rattle.exec_core.specs.Shown.{block_shown_trees}
 use Rattle.block_net.specs.Walks.{IsHeld, held}
 use Rattle.ssa_core.specs.Processes.{process_at}
-use Rattle.ssa_nodes.specs.Parts.{design_in}
+use Rattle.ssa_nodes.specs.Parts.{design_in, ends_by}
 use Rattle.ssa_nodes.proofs.Ends.{end_now, end_can, end_some, end_stands, tells_of}
 use Rattle.ssa_nodes.proofs.process.target_node.Goals as goal
 
@@ -20,8 +19,8 @@ process_node-requires-clause-ready c =
     let block = c.block_of-block.result.now in
     let at : slice_get p.keys.items c.args.number ≡ Some key = slice_get_read p.keys.items (length p.keys.items) c.args.number key refl (slice_get_within p.keys.items c.args.number e.key e.found) c.index-key.ensures in
     let is_process : process_at (design_in p) key ≡ Some e.process = subst (λ k. process_at (design_in p) k ≡ Some e.process) (same_Some e.key key (sym e.found ∙ at)) e.is in
-    let is : held block.terms c.args.name.now c.name-held.result ≡ block_shown_trees e.process.body (Now c.args.name.now) =
-    ap (held block.terms c.args.name.now) c.name-held.ensures.id ∙ end_now p c.requires.parts block e.process c.args.name.now (tells_of p c.requires.parts key e.process block is_process c.block_of-block.ensures) in
+    let is : held block.terms c.args.name.now c.name-held.result ≡ ends_by p e.process (Now c.args.name.now) =
+    ap (held block.terms c.args.name.now) c.name-held.ensures.id ∙ end_now p c.requires.parts block e.process c.args.name.now (tells_of p c.requires.parts c.args.number key e.process block at is_process c.block_of-block.ensures) in
     end_can p c.requires.parts c.args.nodes.now c.args.number (Now c.args.name.now) key (held block.terms c.args.name.now c.name-held.result) e at is
 
 pub unwrap-requires : goal.unwrap-requires
@@ -32,8 +31,8 @@ unwrap-requires c =
     let block = c.block_of-block.result.now in
     let at : slice_get p.keys.items c.args.number ≡ Some key = slice_get_read p.keys.items (length p.keys.items) c.args.number key refl (slice_get_within p.keys.items c.args.number e.key e.found) c.index-key.ensures in
     let is_process : process_at (design_in p) key ≡ Some e.process = subst (λ k. process_at (design_in p) k ≡ Some e.process) (same_Some e.key key (sym e.found ∙ at)) e.is in
-    let is : held block.terms c.args.name.now c.name-held.result ≡ block_shown_trees e.process.body (Now c.args.name.now) =
-    ap (held block.terms c.args.name.now) c.name-held.ensures.id ∙ end_now p c.requires.parts block e.process c.args.name.now (tells_of p c.requires.parts key e.process block is_process c.block_of-block.ensures) in
+    let is : held block.terms c.args.name.now c.name-held.result ≡ ends_by p e.process (Now c.args.name.now) =
+    ap (held block.terms c.args.name.now) c.name-held.ensures.id ∙ end_now p c.requires.parts block e.process c.args.name.now (tells_of p c.requires.parts c.args.number key e.process block at is_process c.block_of-block.ensures) in
     end_some p c.requires.parts c.process_node.new.builder c.args.nodes.now c.args.number (Now c.args.name.now) key.instance (held block.terms c.args.name.now c.name-held.result) c.in_ok-id.id e is c.in_ok-id.ensures.told
 
 pub returns-clause-told : goal.returns-clause-told
@@ -44,6 +43,6 @@ returns-clause-told c =
     let block = c.block_of-block.result.now in
     let at : slice_get p.keys.items c.args.number ≡ Some key = slice_get_read p.keys.items (length p.keys.items) c.args.number key refl (slice_get_within p.keys.items c.args.number e.key e.found) c.index-key.ensures in
     let is_process : process_at (design_in p) key ≡ Some e.process = subst (λ k. process_at (design_in p) k ≡ Some e.process) (same_Some e.key key (sym e.found ∙ at)) e.is in
-    let is : held block.terms c.args.name.now c.name-held.result ≡ block_shown_trees e.process.body (Now c.args.name.now) =
-    ap (held block.terms c.args.name.now) c.name-held.ensures.id ∙ end_now p c.requires.parts block e.process c.args.name.now (tells_of p c.requires.parts key e.process block is_process c.block_of-block.ensures) in
+    let is : held block.terms c.args.name.now c.name-held.result ≡ ends_by p e.process (Now c.args.name.now) =
+    ap (held block.terms c.args.name.now) c.name-held.ensures.id ∙ end_now p c.requires.parts block e.process c.args.name.now (tells_of p c.requires.parts c.args.number key e.process block at is_process c.block_of-block.ensures) in
     end_stands p c.requires.parts c.process_node.new.builder c.args.nodes.now c.args.number (Now c.args.name.now) key (held block.terms c.args.name.now c.name-held.result) c.in_ok-id.id c.unwrap.result e at is c.in_ok-id.ensures.told c.unwrap.ensures
