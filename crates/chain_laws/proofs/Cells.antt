@@ -33,11 +33,11 @@ cell_signals = signal_16 2 (codes "x") Input ∷ signal_16 3 (codes "y") Output 
 -- its statements, with slots
 abbrev pub comb_body : (a b c : ℕ) → Body
 comb_body a b c =
-    Then (Assign a 6 [] (codes "y") (Read (codes "s")))
-    (Then (If b 7 [] (Slice (Read (codes "s")) (pos 0) (pos 0)) (Then (Assign c 8 [] (codes "y") (Binary Xor (Read (codes "s")) (Value (literal_16 32768)))) Done) NoElse) Done)
+    Then (Assign a 6 [] (codes "y") None (Read (codes "s")))
+    (Then (If b 7 [] (Slice (Read (codes "s")) (pos 0) (pos 0)) (Then (Assign c 8 [] (codes "y") None (Binary Xor (Read (codes "s")) (Value (literal_16 32768)))) Done) NoElse) Done)
 
 abbrev pub ff_body : ℕ → Body
-ff_body a = Then (Assign a 11 [] (codes "s") (Read (codes "x"))) Done
+ff_body a = Then (Assign a 11 [] (codes "s") None (Read (codes "x"))) Done
 
 abbrev pub cell_blocks : (a b c e : ℕ) → List Block
 cell_blocks a b c e = record { line = 5; clocked = false; body = comb_body a b c } ∷ record { line = 11; clocked = true; body = ff_body e } ∷ []
@@ -87,7 +87,7 @@ chain_signals k = signal_16 14 (codes "x") Input ∷ signal_16 15 (codes "y") Ou
 
 -- the output of the last cell, where there are one more than k
 abbrev pub output_body : (slot k : ℕ) → Body
-output_body slot k = Then (Assign slot 20 (top_gens (suc k)) (codes "y") (Out (cell_name k) (codes "y"))) Done
+output_body slot k = Then (Assign slot 20 (top_gens (suc k)) (codes "y") None (Out (cell_name k) (codes "y"))) Done
 
 abbrev pub output_block : (slot k : ℕ) → Block
 output_block slot k = record { line = 20; clocked = false; body = output_body slot k }

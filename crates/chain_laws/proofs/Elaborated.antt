@@ -12,7 +12,7 @@ use Rattle.design_core.specs.declared.Kind.TheVariants.{Input, Output, ChildOut}
 use Rattle.design_core.specs.declared.Signal.{Signal}
 use Rattle.design_core.specs.Design.{Gens, Expr, Out}
 use Rattle.elab_core.specs.Elaborated.{Child, Instance}
-use Rattle.elab_core.specs.Elab.{literal, expr, turns, statement, distinct, arguments, parameters, values, ports, conns, Asked, asked, count_outputs, register, wire_signal, Made, Here, with_child, with_block, instances_of, item_walk, items_walk, module_walk, instance, top_arguments, top_values, top_walk}
+use Rattle.elab_core.specs.Elab.{literal, expr, turns, part_bounds, statement, distinct, arguments, parameters, values, ports, conns, Asked, asked, count_outputs, register, wire_signal, Made, Here, with_child, with_block, instances_of, item_walk, items_walk, module_walk, instance, top_arguments, top_values, top_walk}
 use Rattle.chain_laws.proofs.Tree.{member, reads_name, top_items, one_before, cell_module, cell_item, output_before, loop_body, top_comb, chain_modules}
 use Rattle.chain_laws.proofs.Walks.{walk_end, ends_then}
 use Rattle.chain_laws.proofs.Spans.{length_span, span_more}
@@ -41,7 +41,7 @@ cell_seen seen = record {
 cell_walk : (line : ℕ) (gens : Gens) (f : Fam) (e : tree.Expr) (name : Name) (v : Expr) (made : Made) (seen : Seen) → fam_name line gens f ≡ Gives name → expr line gens e ≡ Counted Parts line (Gives v)
     → walk_end seen (item_walk chain_modules (instance chain_modules 32) top_here (inst line f (codes "Cell") [] (record { line = line; port = codes "x"; value = e } ∷ [])) gens made)
     ≡ Some (with_child made (want line name v) (cell_below name), cell_seen seen)
-unfolding walk_end and_then number index_name two_numbers literal expr turns statement distinct arguments parameters values ports conns asked count_outputs register wire_signal item_walk module_walk instance
+unfolding walk_end and_then number index_name two_numbers literal expr turns part_bounds statement distinct arguments parameters values ports conns asked count_outputs register wire_signal item_walk module_walk instance
 cell_walk line gens f e name v made seen p q = rw (p, q) refl
 
 -- ---- numbers
@@ -127,7 +127,7 @@ abbrev pub block_seen : Seen → Seen
 block_seen seen = record { instances = seen.instances; turns = seen.turns; statements = seen.statements + 1; signals = seen.signals; parts = seen.parts + 1 }
 
 block_made : (k : ℕ) (seen : Seen) → k ≤ 4000 → walk_end seen (item_walk chain_modules (instance chain_modules 32) top_here (comb 20 top_comb) (top_gens (suc k)) (chain_made (suc k))) ≡ Some (top_made k, block_seen seen)
-unfolding item_walk statement index_name and_then walk_end
+unfolding item_walk part_bounds statement index_name and_then walk_end
 block_made k seen h = rw (output_walk 20 (top_gens (suc k)) (codes "N") k h refl) refl
 
 abbrev pub items_seen : ℕ → Seen → Seen

@@ -7,8 +7,9 @@ use Rattle.list_core.proofs.Lists.{each_member, each_append}
 use Rattle.list_core.proofs.Listing.{got_in}
 use Rattle.tree_core.specs.Tree.{Leaf}
 use Rattle.exec_core.specs.Block.{Name, Now, own}
-use Rattle.exec_core.specs.Shown.{block_shown_trees}
+use Rattle.exec_core.specs.Trees.{block_trees}
 use Rattle.exec_core.specs.Leaves.{EachLeaf}
+use Rattle.exec_core.proofs.WholeNaming.{all_true}
 use Rattle.exec_core.specs.Whole.{Place}
 use Rattle.exec_core.specs.Design.{Process, place, driver_of}
 use Rattle.design_core.specs.declared.Signal.{Signal}
@@ -92,7 +93,7 @@ links_lower k =
 -- ---- processes
 
 abbrev EndsLower : Process → Name → Type 0
-EndsLower b x = IfTree signal_rank (λ t. EachLeaf (λ y. signal_rank (place b.instance y) < signal_rank (place b.instance x)) t) (block_shown_trees b.body (Now x))
+EndsLower b x = IfTree signal_rank (λ t. EachLeaf (λ y. signal_rank (place b.instance y) < signal_rank (place b.instance x)) t) (block_trees b.let_width b.body (Now x))
 
 -- its only own name is `y`
 only_y : (b : Process) → EndsLower b (codes "y") → (x : Name) (c : Bool) → bytes_eq (codes "y") x ≡ c → (c ≡ false → own b.body x ≡ false) → own b.body x ≡ true → EndsLower b x
@@ -105,8 +106,17 @@ when_false c e = rw e refl
 when_all_false : (c : Bool) → c ≡ false → (c || (((c || false) || false) || false)) ≡ false
 when_all_false c e = rw e refl
 
-top_process : (k : ℕ) → ProcessLower signal_rank (process 0 (chain_signals (suc k)) (output_block 4 k))
-top_process k x e = only_y (process 0 (chain_signals (suc k)) (output_block 4 k)) (lit< tt) x (bytes_eq (codes "y") x) refl (when_false (bytes_eq (codes "y") x)) e
+abbrev top_block : ℕ → Process
+top_block k = process 0 (chain_signals (suc k)) (output_block 4 k)
+
+-- the output that it reads is no own name, so all bits of it are there, however many those are
+top_end : (k : ℕ) → EndsLower (top_block k) (codes "y")
+top_end k =
+    subst (λ whole. IfTree signal_rank (λ t. EachLeaf (λ y. signal_rank (place 0 y) < signal_rank (place 0 (codes "y"))) t) (if whole then Some (Leaf (cell_output_name k)) else None))
+    (sym (all_true ((top_block k).let_width (cell_output_name k)) (λ i. true) (λ i. refl))) (lit< tt)
+
+top_process : (k : ℕ) → ProcessLower signal_rank (top_block k)
+top_process k x e = only_y (top_block k) (top_end k) x (bytes_eq (codes "y") x) refl (when_false (bytes_eq (codes "y") x)) e
 
 cell_processes : (i : ℕ) → EachOf (ProcessLower signal_rank) (map (process (suc i) cell_signals) (cell_blocks 0 1 2 3))
 cell_processes i = (

@@ -8,7 +8,7 @@ use Rattle.list_core.proofs.Lists.{each_member, find_member}
 use Rattle.list_core.proofs.Options.{some_same}
 use Rattle.tree_core.specs.Tree.{Tree, Const, Leaf, One, Two, Mux}
 use Rattle.exec_core.specs.Block.{Name, Now, own}
-use Rattle.exec_core.specs.Shown.{block_shown_trees}
+use Rattle.exec_core.specs.Trees.{block_trees}
 use Rattle.exec_core.specs.Leaves.{EachLeaf}
 use Rattle.exec_core.specs.Whole.{Place, Drivers}
 use Rattle.exec_core.specs.Design.{Process, place, moved, links_to, assigns_to, or_else}
@@ -62,7 +62,7 @@ module _ (rank : Place → ℕ) where
 
   -- what an own name of a process ends with
   abbrev pub ProcessLower : Process → Type 0
-  ProcessLower b = (x : Name) → own b.body x ≡ true → IfTree (λ t. EachLeaf (λ y. rank (place b.instance y) < rank (place b.instance x)) t) (block_shown_trees b.body (Now x))
+  ProcessLower b = (x : Name) → own b.body x ≡ true → IfTree (λ t. EachLeaf (λ y. rank (place b.instance y) < rank (place b.instance x)) t) (block_trees b.let_width b.body (Now x))
 
   moved_leaf : (P : Place → Type 0) (i : ℕ) (t : Tree Name) → EachLeaf (λ y. P (place i y)) t → EachLeaf P (moved i t)
   moved_leaf P i (Const b) h = tt
@@ -85,7 +85,7 @@ module _ (rank : Place → ℕ) where
   process_lower : (p : Place) (b : Process) (t : Tree Place) → ProcessLower b → assigns_to p b ≡ true → shown_tree p b ≡ Some t → ReadsLower p t
   process_lower p b t h a e =
       let parts = and_both (b.instance == p.instance) (own b.body p.name) a in
-      subst (λ (i : ℕ). ReadsLower (place i p.name) t) (equal_numbers b.instance p.instance parts.0) (by_tree b.instance p.name (block_shown_trees b.body (Now p.name)) t e (h p.name parts.1))
+      subst (λ (i : ℕ). ReadsLower (place i p.name) t) (equal_numbers b.instance p.instance parts.0) (by_tree b.instance p.name (block_trees b.let_width b.body (Now p.name)) t e (h p.name parts.1))
 
   link_lower : (p : Place) (link : Link) → LinkLower link → links_to p link ≡ true → ReadsLower p link.1
   link_lower p link h a =

@@ -5,7 +5,7 @@ use Rattle.gen_tree.specs.declared.IntOp.TheVariants as int_op
 use Rattle.gen_tree.specs.declared.Op.TheVariants as op
 use Rattle.gen_tree.specs.Tree.{Int, num, var, bin, Fam, plain, Expr, read, out, value, binary, slice, assign, choose, Stmts, no_stmt, stmt, no_else, Item, reg, inst, comb, ff, repeat_items, Items, no_item, item, Port, Module}
 use Rattle.gen_text.specs.Source.{Reads}
-use Rattle.gen_text.specs.Reading.{source_by, source_at, module_at, item_at, stmt_at, expr_at, int_at, each_by, until_by}
+use Rattle.gen_text.specs.Reading.{source_by, source_at, module_at, item_at, stmt_at, arms_at, expr_at, int_at, each_by, until_by}
 use Rattle.gen_text.proofs.Law.{read_found}
 use Rattle.demo_run.specs.Chain.{chain_source}
 use Rattle.chain_laws.proofs.Tokens.{chain_tokens, chain_tokens_are}
@@ -29,11 +29,11 @@ cell_register = reg 4 (plainly (codes "s")) (num 16) (plain 16 0)
 
 abbrev pub cell_comb : Stmts
 cell_comb =
-    stmt (assign 6 (plainly (codes "y")) (reads_name (codes "s")))
-    (stmt (choose 7 (slice (reads_name (codes "s")) (num 0) (num 0)) (stmt (assign 8 (plainly (codes "y")) (binary op.Xor (reads_name (codes "s")) (value (plain 16 32768)))) no_stmt) no_else) no_stmt)
+    stmt (assign 6 (plainly (codes "y")) None (reads_name (codes "s")))
+    (stmt (choose 7 (slice (reads_name (codes "s")) (num 0) (num 0)) (stmt (assign 8 (plainly (codes "y")) None (binary op.Xor (reads_name (codes "s")) (value (plain 16 32768)))) no_stmt) no_else) no_stmt)
 
 abbrev pub cell_ff : Stmts
-cell_ff = stmt (assign 11 (plainly (codes "s")) (reads_name (codes "x"))) no_stmt
+cell_ff = stmt (assign 11 (plainly (codes "s")) None (reads_name (codes "x"))) no_stmt
 
 abbrev pub cell_module : Module
 cell_module = record {
@@ -61,7 +61,7 @@ abbrev pub loop_body : Items
 loop_body = item (cell_item 18 (var (codes "i")) (output_before (codes "i"))) no_item
 
 abbrev pub top_comb : Stmts
-top_comb = stmt (assign 20 (plainly (codes "y")) (output_before (codes "N"))) no_stmt
+top_comb = stmt (assign 20 (plainly (codes "y")) None (output_before (codes "N"))) no_stmt
 
 abbrev pub top_items : Items
 top_items = item (cell_item 16 (num 0) (reads_name (codes "x"))) (item (repeat_items 17 (codes "i") (num 1) (var (codes "N")) loop_body) (item (comb 20 top_comb) no_item))
@@ -81,7 +81,7 @@ chain_modules = cell_module ∷ top_module ∷ []
 -- ---- the text is read so
 
 found : source_at 64 chain_tokens ≡ Ok chain_modules
-unfolding source_by module_at item_at stmt_at expr_at int_at each_by until_by
+unfolding source_by module_at item_at stmt_at arms_at expr_at int_at each_by until_by
 found = refl
 
 pub chain_is_read : Reads chain_source chain_modules

@@ -1,106 +1,163 @@
--- A block from its first statement to its last.
-use Rattle.std.proofs.Common.{◌≡◌, ℕ, ◌+◌, ◌<◌, ◌≤◌, Bool, true, false, ◌||◌, bytes_eq, if◌then◌else◌, List, drop, Option, Some, None, option_map, length, get_or, refl, sym, subst, ap, ◌∙◌, inl, inr}
-use Rattle.std.specs.Borrow.{Bor}
-use Rattle.std.proofs.lemmas.Bool.{cases_Bool}
-use Rattle.std.proofs.lemmas.List.{drop_more, drop_all}
-use Rattle.tree_core.specs.Tree.{Leaf}
-use Rattle.exec_core.specs.Block.{Name, Now}
-use Rattle.exec_core.specs.Shown.{shown_start}
-use Rattle.design_core.specs.Design as design
-use Rattle.design_exec.specs.Processes as processes
-use Rattle.graph_order.specs.Graphs.{Graph, IsGraph}
-use Rattle.names.specs.Known.{Known, either, has, none, with}
-use Rattle.place_core.specs.Assigned.{names_at, assigned_in}
-use Rattle.dep_order.specs.Standing.{Stand, AllStand, AreVertices}
+-- The terms of a block as vertices, one after another, and what its names end with.
+use Rattle.std.proofs.Common.{◌≡◌, ℕ, zero, suc, ◌+◌, ◌<◌, ◌≤◌, Bool, true, false, true≢false, ◌||◌, bytes_eq, if◌then◌else◌, List, [], ◌∷◌, ◌++◌, take, Option, Some, None, option_map, length, get_or, refl, sym, subst, ap, ◌∙◌, inl, inr, arith, length-append}
+use Rattle.std.proofs.lemmas.Bool.{cases_Bool, cases_eq, cases_lt}
+use Rattle.std.proofs.lemmas.List.{get_or_append_left, get_or_push}
+use Rattle.std.proofs.lemmas.Slice.Eq.{bytes_eq-Decides}
+use Rattle.tree_core.specs.Tree.{Tree, Leaf}
+use Rattle.exec_core.specs.Block.{Name}
+use Rattle.list_core.specs.Lists.{EachOf}
+use Rattle.graph_order.specs.Graphs.{Graph, edges_of, IsGraph}
+use Rattle.names.specs.Known.{Known, has}
+use Rattle.names.specs.Maps.{value_of}
 use Rattle.place_core.specs.Numbering.{Numbers}
-use Rattle.dep_order.specs.Blocks.{Versions, single, listed, readings, no_versions, IsReady, Followed, AreSignals, step_in, owns, end_trees, EndVertices, EndsStand}
-use Rattle.dep_order.proofs.Versions.{stand_signal, stand_unknown}
+use Rattle.place_core.proofs.Targets.{has_push}
+use Rattle.block_net.specs.declared.term.Term.{Term}
+use Rattle.block_net.specs.declared.term.Term.TheVariants as terms
+use Rattle.block_net.specs.declared.term.TermId.{TermId}
+use Rattle.block_net.specs.Blocks.{BlockParts}
+use Rattle.block_net.specs.Terms.{AreNumbered, IsWithin, OperandsBelow, term_tree, tree_at, trees_of}
+use Rattle.block_net.specs.Walks.{held}
+use Rattle.block_net.proofs.TermLists.{read_below, read_tree}
+use Rattle.dep_order.specs.Standing.{Stand, StandFor, AreVertices, listed}
+use Rattle.dep_order.specs.Blocks.{AreFollowed, AreSignals, EndIs, EndsStand, Grown, IsVersion, Versions, end_of, put_version, single, term_reads, version_of, vertex_at}
+use Rattle.dep_order.proofs.Versions.{listed_stands, listed_vertices, stand_const, stand_kept, stand_mux, stand_one, stand_two, version_stands}
+use Rattle.dep_order.proofs.Growing.{grown_keeps, grown_push, vertices_more}
 
--- ---- own names
+-- ---- one vertex more
 
-or_turned : (a b c : Bool) → ((a || b) || c) ≡ (b || (a || c))
-or_turned true true c = refl
-or_turned true false c = refl
-or_turned false true c = refl
-or_turned false false c = refl
+-- a version stays what it is
+pub version_kept : (base : ℕ) (g h : Graph) (number : Numbers) (v : ℕ) (t : Tree Name) → IsGraph g → Grown g h → IsVersion base g number v t → IsVersion base h number v t
+version_kept base g h number v t is grown s = record {
+  high = s.high;
+  within = omega (arith, s.within, grown.longer);
+  stands = λ signals low all. stand_kept signals g h number (Some (v ∷ [])) (Some t) is (grown_keeps signals g h grown) (s.within, tt) (s.stands signals low all);
+}
 
-or_none : (a : Bool) → (a || false) ≡ a
-or_none true = refl
-or_none false = refl
+-- a vertex that reads what stands for a tree stands for it
+pub made_version : (base : ℕ) (g h : Graph) (number : Numbers) (v : ℕ) (vs : List ℕ) (t : Tree Name) → base ≤ length g → v ≡ length g → h ≡ g ++ vs ∷ []
+    → ((signals : ℕ) → signals ≤ base → AreSignals signals number → StandFor signals h number vs t) → IsVersion base h number v t
+made_version base g h number v vs t low at is stands = record {
+  high = omega (arith, low, at);
+  within = omega (arith, at, ap length is, length-append g (vs ∷ []));
+  stands = λ signals lower all.
+      version_stands signals h number v (Some vs) (Some t) (omega (arith, lower, low, at)) (λ us e. ap (λ (k : Graph). edges_of k v) is ∙ get_or_push g vs [] v (sym at) ∙ same vs us e) (stands signals lower all);
+}
+  where
+    same : (us ws : List ℕ) → Some us ≡ Some ws → us ≡ ws
+    same us ws e = cc
 
-pub next_name : (names : List (Bor Name)) (i : ℕ) (d : Bor Name) (own after : Known) → i < length names → after ≡ with (get_or names i d).now own →
-    either after (has (names_at (drop (i + 1) names))) ≡ either own (has (names_at (drop i names)))
-next_name names i d own after h is =
-    ap (λ (k : Known). either k (has (names_at (drop (i + 1) names)))) is
-    ∙ (λ j x. or_turned (bytes_eq x (get_or names i d).now) (own x) (has (names_at (drop (i + 1) names)) x) j)
-    ∙ sym (ap (λ (l : List (Bor Name)). either own (has (names_at l))) (drop_more names i d h))
+-- ---- terms
 
-pub last_name : (names : List (Bor Name)) (i : ℕ) (own : Known) → length names ≤ i → either own (has (names_at (drop i names))) ≡ own
-last_name names i own h = ap (λ (l : List (Bor Name)). either own (has (names_at l))) (drop_all i names h) ∙ (λ j x. or_none (own x) j)
+-- what a term reads are vertices of the graph
+pub reads_within : (base : ℕ) (g : Graph) (number : Numbers) (ns : List Term) (k : ℕ) (vs : List ℕ) (n : Term) → AreSignals (length g) number → AreFollowed base g number ns k vs → OperandsBelow k n → EachOf (λ w. w < length g) (term_reads number vs n)
+reads_within base g number ns k vs (terms.Leaf x) all f below = listed_vertices (length g) number x (number x) refl all
+reads_within base g number ns k vs (terms.Value w v) all f below = tt
+reads_within base g number ns k vs (terms.Unary op a) all f below = ((f a.0 below).within, tt)
+reads_within base g number ns k vs (terms.Binary op a b) all f below = ((f a.0 below.0).within, ((f b.0 below.1).within, tt))
+reads_within base g number ns k vs (terms.Mux c a b) all f below = ((f c.0 below.0).within, ((f a.0 below.1).within, ((f b.0 below.2).within, tt)))
+reads_within base g number ns k vs (terms.Zext a w) all f below = ((f a.0 below).within, tt)
+reads_within base g number ns k vs (terms.Slice a h l) all f below = ((f a.0 below).within, tt)
 
-pub all_names : (start own listed wanted : Known) → start ≡ none → own ≡ either start listed → listed ≡ wanted → own ≡ wanted
-all_names start own listed wanted e f g = f ∙ ap (λ (k : Known). either k listed) e ∙ g
+-- they stand for its tree
+reads_stand : (base : ℕ) (g : Graph) (number : Numbers) (ns : List Term) (k : ℕ) (vs : List ℕ) (n : Term) → AreFollowed base g number ns k vs → OperandsBelow k n
+    → (signals : ℕ) → signals ≤ base → AreSignals signals number → StandFor signals g number (term_reads number vs n) (term_tree (trees_of ns) n)
+reads_stand base g number ns k vs (terms.Leaf x) f below signals low all = listed_stands signals g number x (number x) refl all
+reads_stand base g number ns k vs (terms.Value w v) f below signals low all = stand_const signals g number _
+reads_stand base g number ns k vs (terms.Unary op a) f below signals low all = stand_one signals g number (vertex_at vs a ∷ []) _ (tree_at (trees_of ns) a.0) ((f a.0 below).stands signals low all)
+reads_stand base g number ns k vs (terms.Binary op a b) f below signals low all =
+    stand_two signals g number (vertex_at vs a ∷ []) (vertex_at vs b ∷ []) _ (tree_at (trees_of ns) a.0) (tree_at (trees_of ns) b.0) ((f a.0 below.0).stands signals low all) ((f b.0 below.1).stands signals low all)
+reads_stand base g number ns k vs (terms.Mux c a b) f below signals low all =
+    stand_mux signals g number (vertex_at vs c ∷ []) (vertex_at vs a ∷ []) (vertex_at vs b ∷ []) (tree_at (trees_of ns) c.0) (tree_at (trees_of ns) a.0) (tree_at (trees_of ns) b.0)
+    ((f c.0 below.0).stands signals low all) ((f a.0 below.1).stands signals low all) ((f b.0 below.2).stands signals low all)
+reads_stand base g number ns k vs (terms.Zext a w) f below signals low all = stand_one signals g number (vertex_at vs a ∷ []) _ (tree_at (trees_of ns) a.0) ((f a.0 below).stands signals low all)
+reads_stand base g number ns k vs (terms.Slice a h l) f below signals low all = stand_one signals g number (vertex_at vs a ∷ []) _ (tree_at (trees_of ns) a.0) ((f a.0 below).stands signals low all)
 
--- ---- the start
+-- the vertices so far, and that of one term more
+pub record Way (begun g : Graph) (number : Numbers) (ns : List Term) (k : ℕ) (vs : List ℕ) : Type 0 where
+  pub grown : Grown begun g
+  pub graph : IsGraph g
+  pub count : length vs ≡ k
+  pub followed : AreFollowed (length begun) g number ns k vs
 
-start_here : (own : Known) (number : Numbers) (x : Name) → own x ≡ true → readings own number no_versions x ≡ None
-start_here own number x e = ap (λ (b : Bool). if b then None else Some (listed (number x))) e
+pub signals_more : (n m : ℕ) (number : Numbers) → n ≤ m → AreSignals n number → AreSignals m number
+signals_more n m number h all x k e = omega (arith, h, all x k e)
 
-start_off : (own : Known) (number : Numbers) (x : Name) → own x ≡ false → readings own number no_versions x ≡ Some (listed (number x))
-start_off own number x e = ap (λ (b : Bool). if b then None else Some (listed (number x))) e
-
-pub signal_vertices : (n : ℕ) (number : Numbers) (x : Name) (o : Option ℕ) → number x ≡ o → AreSignals n number → AreVertices n (Some (listed o))
-signal_vertices n number x None e all = tt
-signal_vertices n number x (Some v) e all = (all x v e, tt)
-
-pub start_ready : (own : Known) (number : Numbers) (g : Graph) (versions : Versions) → versions ≡ no_versions → IsGraph g → AreSignals (length g) number → IsReady own number g versions
-start_ready own number g versions e is all = subst (IsReady own number g) (sym e) (record {
-  graph = is;
-  vertices = λ x. elim (cases_Bool (own x)) [
-    | inl here ↦ subst (AreVertices (length g)) (sym (start_here own number x here)) tt
-    | inr off ↦ subst (AreVertices (length g)) (sym (start_off own number x off)) (signal_vertices (length g) number x (number x) refl all)
+pub way_next : (begun g h : Graph) (number : Numbers) (ns : List Term) (k : ℕ) (vs after read : List ℕ) (v : ℕ) (n : Term) → AreSignals (length begun) number → AreNumbered ns → k < length ns → n ≡ get_or ns k n
+    → OperandsBelow k n → read ≡ term_reads number vs n → v ≡ length g → h ≡ g ++ read ∷ [] → IsGraph h → Grown g h → Grown begun h → after ≡ vs ++ v ∷ [] → Way begun g number ns k vs → Way begun h number ns (k + 1) after
+way_next begun g h number ns k vs after read v n all numbered inside at below is high more graph step grown longer w = record {
+  grown = grown;
+  graph = graph;
+  count = ap length longer ∙ length-append vs (v ∷ []) ∙ ap (λ m. m + 1) w.count;
+  followed = λ i low. elim (cases_lt i k) [
+    | inl before ↦ subst (λ u. IsVersion (length begun) h number u (tree_at (trees_of ns) i)) (sym (at_left i before)) (version_kept (length begun) g h number _ _ w.graph step (w.followed i before))
+    | inr past ↦ let here : i ≡ k = omega (arith, low, past) in
+        subst (λ u. IsVersion (length begun) h number u (tree_at (trees_of ns) i)) (sym (ap (λ j. get_or after j 0) here ∙ at_last))
+        (subst (λ t. IsVersion (length begun) h number v t) (sym (ap (tree_at (trees_of ns)) here ∙ read_tree ns ns k n refl numbered inside at))
+        (made_version (length begun) g h number v read (term_tree (trees_of ns) n) w.grown.longer high more
+        (λ signals lower sig. subst (λ us. StandFor signals h number us (term_tree (trees_of ns) n)) (sym is)
+        (reads_stand (length begun) h number ns k vs n (λ j b. version_kept (length begun) g h number _ _ w.graph step (w.followed j b)) below signals lower sig))))
   ];
-})
+}
+  where
+    at_left : (i : ℕ) → i < k → get_or after i 0 ≡ get_or vs i 0
+    at_left i b = ap (λ l. get_or l i 0) longer ∙ get_or_append_left vs (v ∷ []) 0 i (omega (arith, b, w.count))
 
-pub signal_stands : (signals : ℕ) (g : Graph) (number : Numbers) (x : Name) (o : Option ℕ) → number x ≡ o → AreSignals signals number → Stand signals g number (Some (listed o)) (Some (Leaf x))
-signal_stands signals g number x None e all = stand_unknown signals g number x e
-signal_stands signals g number x (Some n) e all = stand_signal signals g number x n e (all x n e)
+    at_last : get_or after k 0 ≡ v
+    at_last = ap (λ l. get_or l k 0) longer ∙ get_or_push vs v 0 k w.count
 
-tree_here : (b : design.Block) (x : Name) → owns b x ≡ true → shown_start (processes.body_of b.clocked b.body) (Now x) ≡ None
-tree_here b x e = ap (λ (c : Bool). if c then None else Some (Leaf x)) e
+-- vertices of the graph are what the next term reads, and so the graph grows by it
+pub term_within : (begun g : Graph) (number : Numbers) (ns : List Term) (k : ℕ) (vs seen read given : List ℕ) (n : Term) → AreSignals (length begun) number → AreNumbered ns → k < length ns → n ≡ get_or ns k n → Way begun g number ns k vs
+    → seen ≡ vs → read ≡ term_reads number seen n → given ≡ read → EachOf (λ w. w < length g) given
+term_within begun g number ns k vs seen read given n all numbered inside at w same is passed =
+    subst (EachOf (λ w. w < length g)) (sym (passed ∙ is ∙ ap (λ us. term_reads number us n) same))
+    (reads_within (length begun) g number ns k vs n (signals_more (length begun) (length g) number w.grown.longer all) w.followed (read_below ns ns k n refl numbered inside at))
 
-tree_off : (b : design.Block) (x : Name) → owns b x ≡ false → shown_start (processes.body_of b.clocked b.body) (Now x) ≡ Some (Leaf x)
-tree_off b x e = ap (λ (c : Bool). if c then None else Some (Leaf x)) e
+-- ---- what names end with
 
-start_stands : (signals : ℕ) (g : Graph) (number : Numbers) (b : design.Block) → AreSignals signals number →
-    AllStand signals g number (readings (owns b) number no_versions) (shown_start (processes.body_of b.clocked b.body))
-start_stands signals g number b all x =
-    elim (cases_Bool (owns b x)) [
-      | inl here ↦
-          subst (λ (o : Option (List ℕ)). Stand signals g number o (shown_start (processes.body_of b.clocked b.body) (Now x))) (sym (start_here (owns b) number x here))
-          (subst (Stand signals g number None) (sym (tree_here b x here)) tt)
-      | inr off ↦
-          subst (λ (o : Option (List ℕ)). Stand signals g number o (shown_start (processes.body_of b.clocked b.body) (Now x))) (sym (start_off (owns b) number x off))
-          (subst (Stand signals g number (Some (listed (number x)))) (sym (tree_off b x off)) (signal_stands signals g number x (number x) refl all))
+pub end_kept : (base : ℕ) (g h : Graph) (number : Numbers) (version : Option ℕ) (tree : Option (Tree Name)) → IsGraph g → Grown g h → EndIs base g number version tree → EndIs base h number version tree
+end_kept base g h number version tree is grown e = record {
+  vertices = vertices_more (length g) (length h) (option_map single version) grown.longer e.vertices;
+  stand = λ signals low all. stand_kept signals g h number (option_map single version) tree is (grown_keeps signals g h grown) e.vertices (e.stand signals low all);
+}
+
+-- of a term, of none, and of a name that was not set
+pub end_some : (base : ℕ) (g : Graph) (number : Numbers) (parts : BlockParts) (vs : List ℕ) (x : Name) (id : TermId) (v : ℕ) → Some (Some id) ≡ value_of parts.names x → id.0 < length parts.terms → v ≡ vertex_at vs id
+    → AreFollowed base g number parts.terms (length parts.terms) vs → EndIs base g number (Some v) (end_of parts x)
+end_some base g number parts vs x id v is below at f =
+    let s = f id.0 below in
+    subst (λ o. EndIs base g number (Some v) (held parts.terms x o)) is
+    (subst (λ u. EndIs base g number (Some u) (Some (tree_at (trees_of parts.terms) id.0))) (sym at) (record { vertices = (s.within, tt); stand = s.stands }))
+
+pub end_none : (base : ℕ) (g : Graph) (number : Numbers) (parts : BlockParts) (x : Name) → Some None ≡ value_of parts.names x → EndIs base g number None (end_of parts x)
+end_none base g number parts x is = subst (λ o. EndIs base g number None (held parts.terms x o)) is (record { vertices = tt; stand = λ signals low all. tt })
+
+pub end_own : (base : ℕ) (g h : Graph) (number : Numbers) (parts : BlockParts) (x : Name) (v : ℕ) → None ≡ value_of parts.names x → base ≤ length g → IsVersion (length g) h number v (Leaf x) → EndIs base h number (Some v) (end_of parts x)
+end_own base g h number parts x v is low s =
+    subst (λ o. EndIs base h number (Some v) (held parts.terms x o)) is (record { vertices = (s.within, tt); stand = λ signals lower all. s.stands signals (omega (arith, lower, low)) all })
+
+-- one name more
+pub ends_push : (base : ℕ) (g h : Graph) (number : Numbers) (parts : BlockParts) (names : List Name) (name : Name) (now after : Versions) (version : Option ℕ) → IsGraph g → Grown g h → EndIs base h number version (end_of parts name)
+    → after ≡ put_version name version now → EndsStand base g number (has names) parts now → EndsStand base h number (has (names ++ name ∷ [])) parts after
+ends_push base g h number parts names name now after version is grown end put so x known =
+    elim (cases_Bool (bytes_eq x name)) [
+      | inl same ↦
+          subst (λ o. EndIs base h number o (end_of parts x)) (sym (ap (λ (f : Versions). f x) put ∙ ap (λ b. if b then version else now x) same))
+          (subst (λ y. EndIs base h number version (end_of parts y)) (sym ((bytes_eq-Decides x name).0 same)) end)
+      | inr other ↦
+          subst (λ o. EndIs base h number o (end_of parts x)) (sym (ap (λ (f : Versions). f x) put ∙ ap (λ b. if b then version else now x) other))
+          (end_kept base g h number (now x) (end_of parts x) is grown (so x (before other)))
     ]
+  where
+    turned : (b : Bool) → bytes_eq name x ≡ b → bytes_eq x name ≡ false → b ≡ false
+    turned true e off = absurd (true≢false (sym ((bytes_eq-Decides x name).1 (sym ((bytes_eq-Decides name x).0 e))) ∙ off))
+    turned false e off = refl
 
--- ---- the end
+    only : (a b : Bool) → (a || b) ≡ true → b ≡ false → a ≡ true
+    only true b e f = refl
+    only false b e f = absurd (true≢false (sym e ∙ f))
 
-own_reads : (own : Known) (number : Numbers) (versions : Versions) (x : Name) → own x ≡ true → readings own number versions x ≡ option_map single (versions x)
-own_reads own number versions x e = ap (λ (b : Bool). if b then option_map single (versions x) else Some (listed (number x))) e
+    before : bytes_eq x name ≡ false → has names x ≡ true
+    before off = only (has names x) (bytes_eq name x) (sym (has_push names name x) ∙ known) (turned (bytes_eq name x) refl off)
 
-FollowedBlock : Known → Numbers → Graph → Versions → Graph → Versions → design.Block → Type 0
-FollowedBlock own number g before h after b = Followed own number g before h after (assigned_in b.clocked b.body) (step_in b.clocked b.body)
-
-pub end_vertices : (own : Known) (number : Numbers) (g h : Graph) (before ends : Versions) (b : design.Block) → own ≡ owns b →
-    Followed own number g before h ends (assigned_in b.clocked b.body) (step_in b.clocked b.body) → EndVertices (length h) b ends
-end_vertices own number g h before ends b is f x e = subst (AreVertices (length h)) (own_reads own number ends x (ap (λ (k : Known). k x) is ∙ e)) (f.ready.vertices x)
-
-pub ends_stand : (own : Known) (number : Numbers) (g h : Graph) (before ends : Versions) (b : design.Block) → own ≡ owns b → before ≡ no_versions →
-    Followed own number g before h ends (assigned_in b.clocked b.body) (step_in b.clocked b.body) → EndsStand g h number b ends
-unfolding FollowedBlock
-ends_stand own number g h before ends b is none_yet f signals low all x e =
-    let g' : FollowedBlock (owns b) number g no_versions h ends b =
-    subst (λ (v : Versions). FollowedBlock (owns b) number g v h ends b) none_yet (subst (λ (k : Known). FollowedBlock k number g before h ends b) is f) in
-    subst (λ (o : Option (List ℕ)). Stand signals h number o (end_trees b (Now x))) (own_reads (owns b) number ends x e)
-    (g'.stand signals (shown_start (processes.body_of b.clocked b.body)) low (start_stands signals g number b all) x)
+pub no_ends : (base : ℕ) (g : Graph) (number : Numbers) (parts : BlockParts) (versions : Versions) → EndsStand base g number (has []) parts versions
+no_ends base g number parts versions x known = absurd (true≢false (sym known))

@@ -2,13 +2,11 @@ mod Walks
 mod Versions
 mod Flattened
 mod Growing
-mod Branches
-mod Following
 mod Blocks
 mod Wires
-mod Plain
 mod Names
 mod Rows
+mod Telling
 mod Outputs
 mod Joining
 mod Sampled

@@ -23,7 +23,8 @@ use Rattle.list_core.specs.Lists.{EachOf}
 use Rattle.list_core.proofs.Lists.{each_append, each_map}
 use Rattle.graph_order.specs.Graphs.{Graph}
 use Rattle.place_core.specs.Numbering.{Numbers, numbers_of, number_in}
-use Rattle.dep_order.specs.Blocks.{AreSignals}
+use Rattle.block_net.specs.Blocks.{BlockParts}
+use Rattle.dep_order.specs.Blocks.{AreSignals, TellBlocks}
 use Rattle.dep_order.specs.Wiring.{driver_in, is_met, AreOf, IsWired, DrivesBlocks, DrivesConns, DrivesOutput}
 use Rattle.place_core.specs.Linking.{Link, links_of_child, link_of_output}
 use Rattle.dep_order.specs.Linking.{AreBelow, DrivesLinks, DrivesProcesses}
@@ -128,9 +129,9 @@ pub output_links : (g h : Graph) (driven marked : List Bool) (all : List Numbers
     DrivesOutput g driven h marked of_child of_parent x q → DrivesLinks g driven h marked all ((place i x, Leaf (place j q)) ∷ [])
 output_links g h driven marked all i j of_parent of_child x q e f d signals links are w = d signals (number_in all) i j links are (of_at all i of_parent e) (of_at all j of_child f) w
 
-pub block_processes : (g h : Graph) (driven marked : List Bool) (all : List Numbers) (i : ℕ) (numbers : Numbers) (declared : List Signal) (bs : List design.Block) → slice_get all i ≡ Some numbers →
-    DrivesBlocks g driven h marked numbers bs → DrivesProcesses g driven h marked all (map (processes.process i declared) bs)
-block_processes g h driven marked all i numbers declared bs e d signals links before low are w = d signals (number_in all) i declared links before low are (of_at all i numbers e) w
+pub block_processes : (g h : Graph) (driven marked : List Bool) (all : List Numbers) (i : ℕ) (numbers : Numbers) (declared : List Signal) (ts : List BlockParts) (bs : List design.Block) → slice_get all i ≡ Some numbers → TellBlocks declared ts bs →
+    DrivesBlocks g driven h marked numbers ts bs → DrivesProcesses g driven h marked all (map (processes.process i declared) bs)
+block_processes g h driven marked all i numbers declared ts bs e tell d signals links before low are w = d signals (number_in all) i declared links before tell low are (of_at all i numbers e) w
 
 pub links_passed : (g : Graph) (driven : List Bool) (all : List Numbers) (ls : List Link) → ls ≡ [] → DrivesLinks g driven g driven all ls
 links_passed g driven all ls e = subst (DrivesLinks g driven g driven all) (sym e) (links_none g driven all)

@@ -12,11 +12,12 @@ use Rattle.design_exec.specs.Processes as processes
 use Rattle.graph_order.specs.Graphs.{Graph, edges_of, IsGraph}
 use Rattle.names.specs.Known.{Known, has}
 use Rattle.place_core.specs.Assigned.{names_at}
+use Rattle.block_net.specs.Blocks.{BlockParts}
 use Rattle.dep_order.specs.Reaching.{KeepsVersions}
 use Rattle.dep_order.specs.Standing.{Stand, StandFor, AreVertices}
 use Rattle.place_core.specs.Numbering.{Numbers, PlaceNumbers}
-use Rattle.dep_order.specs.Blocks.{Versions, single, owns, end_trees, Grown, EndsStand}
-use Rattle.dep_order.specs.Wiring.{AreNumbers, AreOf, DriverStands, IsWired, met_with, driver_with, Drives, DrivesBlock, DrivesName, DrivesNames, KeepsOthers, met_named, driver_named, shown_tree, BlockIsProcess, LinkIsMet}
+use Rattle.dep_order.specs.Blocks.{AreSignals, Versions, single, owns, end_of, end_trees, Grown, EndsStand, TellsBlock}
+use Rattle.dep_order.specs.Wiring.{AreNumbers, AreOf, DriverStands, IsWired, met_with, driver_with, Drives, DrivesBlock, DrivesBy, DrivesName, DrivesNames, KeepsOthers, met_named, driver_named, shown_tree, BlockIsProcess, LinkIsMet}
 use Rattle.place_core.specs.Linking.{Link}
 use Rattle.place_core.proofs.Targets.{has_push}
 use Rattle.dep_order.proofs.Versions.{stand_kept}
@@ -171,8 +172,8 @@ link_none None e = refl
 link_none (Some l) e = absurd (true≢false e)
 
 pub block_is_process : BlockIsProcess
-block_is_process links before i signals b p =
-    let c = processes.process i signals b in (
+block_is_process links before i declared b p =
+    let c = processes.process i declared b in (
       ap (λ (u : Option Process). is_some (find (links_to p) links) || is_some u) (find_push (assigns_to p) before c)
           ∙ process_marked (is_some (find (links_to p) links)) (find (assigns_to p) before) (assigns_to p c) c,
       ap (λ (u : Option Process). or_else (option_map (λ (link : Link). link.1) (find (links_to p) links)) (option_and_then (shown_tree p) u)) (find_push (assigns_to p) before c)
@@ -197,12 +198,24 @@ name_has (n ∷ names) (suc i) d h = ap (λ (b : Bool). bytes_eq (get_or names i
 pub more_names : (names : List (Bor Name)) (i : ℕ) (d : Bor Name) → i < length names → names_at (take (i + 1) names) ≡ names_at (take i names) ++ (get_or names i d).now ∷ []
 more_names names i d h = ap names_at (take_more names i d h) ∙ map_push (λ (r : Bor Name). r.now) (take i names) (get_or names i d)
 
+-- ---- expressions
+
+-- a vertex that is driven by what an expression of an instance reads
+pub drives_by : (g h : Graph) (driven marked : List Bool) (n : ℕ) (numbers : Numbers) (edges : List ℕ) (t : Tree Name) → Drives g driven h marked n edges →
+    ((signals : ℕ) → AreSignals signals numbers → StandFor signals g numbers edges t) → DrivesBy g driven h marked n numbers t
+drives_by g h driven marked n numbers edges t d stands signals number met driver q i are is of w =
+    d signals number met driver q (Some (moved i t)) are is
+    (moved_stands signals g number i edges t
+    (subst (λ (f : Numbers). StandFor signals g f edges t) (λ j x. sym (of x) j) (stands signals (λ x m e. are.below (place i x) m (of x ∙ e)))))
+    w
+
 -- ---- whole blocks
 
-pub block_drives : (g g1 h : Graph) (driven marked : List Bool) (numbers : Numbers) (b : design.Block) (names : Known) (ends : Versions) → IsGraph g → Grown g g1 → EndsStand g g1 numbers b ends → names ≡ owns b →
-    DrivesNames g1 driven h marked numbers names ends → DrivesBlock g driven h marked numbers b
-block_drives g g1 h driven marked numbers b names ends is grown stands same d signals number met driver i low are of w =
-    subst (λ (k : Known). IsWired signals number h marked (met_named i k met) (driver_named i k (λ x. end_trees b (Now x)) met driver)) same
-    (d signals number met driver i (λ x. end_trees b (Now x)) are of
-    (λ x e. stands signals low (λ y m k. are.below (place i y) m (of y ∙ k)) x (ap (λ (k : Known). k x) (sym same) ∙ e))
+pub block_drives : (g g1 h : Graph) (driven marked : List Bool) (numbers : Numbers) (parts : BlockParts) (b : design.Block) (names : Known) (ends : Versions) → IsGraph g → Grown g g1 → EndsStand (length g) g1 numbers names parts ends → names ≡ owns b →
+    DrivesNames g1 driven h marked numbers names ends → DrivesBlock g driven h marked numbers parts b
+block_drives g g1 h driven marked numbers parts b names ends is grown stands same d signals number met driver i declared tells low are of w =
+    let trees : end_of parts ≡ end_trees declared b = λ j x. tells.ends j (Now x) in
+    subst (λ (k : Known). IsWired signals number h marked (met_named i k met) (driver_named i k (end_trees declared b) met driver)) same
+    (d signals number met driver i (end_trees declared b) are of
+    (λ x e. subst (λ (f : Name → Option (Tree Name)). Stand signals g1 numbers (option_map single (ends x)) (f x)) trees ((stands x e).stand signals low (λ y m k. are.below (place i y) m (of y ∙ k))))
     (wired_grown signals number g g1 driven met driver is grown low are w))

@@ -4,11 +4,10 @@ use Rattle.tree_core.specs.Tree.{Leaf}
 use Rattle.exec_core.specs.Block.{Name}
 use Rattle.exec_core.specs.Design.{place}
 use Rattle.graph_order.specs.Graphs.{Graph}
-use Rattle.dep_order.specs.Standing.{StandFor}
+use Rattle.dep_order.specs.Standing.{StandFor, listed}
 use Rattle.place_core.specs.Numbering.{Numbers}
-use Rattle.dep_order.specs.Blocks.{listed}
 use Rattle.dep_order.specs.Wiring.{driver_in, is_met, Drives, DrivesOutput}
-use Rattle.dep_order.proofs.Blocks.{signal_stands}
+use Rattle.dep_order.proofs.Versions.{listed_stands}
 use Rattle.dep_order.proofs.Wires.{moved_stands, wired_as, pick_other, not_same}
 use Rattle.dep_order.proofs.Names.{link_is_met}
 
@@ -17,7 +16,7 @@ pub output_drives : (g h : Graph) (driven marked : List Bool) (of_child of_paren
 output_drives g h driven marked of_child of_parent x q n edges is reads d signals number i j links are of of' w p m e =
     let stands : StandFor signals g of_child edges (Leaf q) =
     subst (λ (vs : List ℕ). StandFor signals g of_child vs (Leaf q)) (sym reads)
-    (signal_stands signals g of_child q (of_child q) refl (λ y k f. are.below (place j y) k (of' y ∙ f))) in
+    (listed_stands signals g of_child q (of_child q) refl (λ y k f. are.below (place j y) k (of' y ∙ f))) in
     let both = link_is_met links (place i x) (Leaf (place j q)) p in
     wired_as signals number h marked _ _ _ _ m (sym both.1) (sym both.0)
     (d signals number (is_met links []) (driver_in links []) (place i x) (Some (Leaf (place j q))) are (of x ∙ is)

@@ -1,16 +1,17 @@
 -- Blocks and connections in order.
-use Rattle.std.proofs.Common.{◌≡◌, ℕ, ◌+◌, ◌<◌, ◌≤◌, Bool, List, [], ◌∷◌, ◌++◌, map, take, Some, None, length, get_or, sym, subst, ap, ◌∙◌, arith, append_assoc}
+use Rattle.std.proofs.Common.{◌≡◌, ℕ, zero, suc, ◌+◌, ◌<◌, ◌≤◌, Bool, List, [], ◌∷◌, ◌++◌, map, take, Some, None, length, get_or, refl, sym, subst, ap, ◌∙◌, arith, append_assoc}
 use Rattle.std.proofs.lemmas.List.{take_more, map_push, append-nil}
-use Rattle.exec_core.specs.Block.{Now}
 use Rattle.exec_core.specs.Design.{Process, place, moved}
 use Rattle.design_core.specs.declared.variant.Block as code_block
 use Rattle.design_core.specs.declared.variant.Conn as code_conn
+use Rattle.design_core.specs.declared.variant.Signal.{Signal}
+use Rattle.block_net.specs.Blocks.{BlockParts}
 use Rattle.design_core.specs.View.{block_of, conn_of}
 use Rattle.design_core.specs.Design as design
 use Rattle.design_exec.specs.Processes as processes
 use Rattle.graph_order.specs.Graphs.{Graph}
 use Rattle.place_core.specs.Numbering.{Numbers}
-use Rattle.dep_order.specs.Blocks.{owns, end_trees}
+use Rattle.dep_order.specs.Blocks.{owns, end_trees, TellBlocks, TellsBlock}
 use Rattle.dep_order.specs.Wiring.{driver_in, is_met, IsWired, met_named, driver_named, DrivesBlock, DrivesBlocks, DrivesBy, DrivesConn, DrivesConns}
 use Rattle.place_core.specs.Linking.{Link}
 use Rattle.dep_order.proofs.Wires.{wired_as, pick_other, not_same}
@@ -18,20 +19,40 @@ use Rattle.dep_order.proofs.Names.{block_is_process, link_is_met}
 
 -- ---- blocks
 
-pub blocks_none : (g : Graph) (driven : List Bool) (numbers : Numbers) → DrivesBlocks g driven g driven numbers []
-blocks_none g driven numbers signals number i declared links before low are of w =
+pub blocks_none : (g : Graph) (driven : List Bool) (numbers : Numbers) (ts : List BlockParts) → DrivesBlocks g driven g driven numbers ts []
+blocks_none g driven numbers ts signals number i declared links before tell low are of w =
     subst (λ (ps : List Process). IsWired signals number g driven (is_met links ps) (driver_in links ps)) (sym (append-nil before)) w
 
-pub blocks_next : (g h k : Graph) (driven now marked : List Bool) (numbers : Numbers) (bs : List design.Block) (b : design.Block) → length g ≤ length h → DrivesBlocks g driven h now numbers bs → DrivesBlock h now k marked numbers b →
-    DrivesBlocks g driven k marked numbers (bs ++ b ∷ [])
-blocks_next g h k driven now marked numbers bs b more d next signals number i declared links before low are of w =
+-- terms that tell of blocks and of one more
+tell_parts : (declared : List Signal) (ts : List BlockParts) (bs : List design.Block) (b : design.Block) (t : BlockParts) → length bs < length ts → t ≡ get_or ts (length bs) t → TellBlocks declared ts (bs ++ b ∷ [])
+    → TellBlocks declared ts bs × TellsBlock declared t b
+tell_parts declared [] bs b t low at h = absurd (omega (arith, low))
+tell_parts declared (u ∷ ts) [] b t low at h = (tt, subst (λ (p : BlockParts). TellsBlock declared p b) (sym at) h.0)
+tell_parts declared (u ∷ ts) (c ∷ bs) b t low at h = let both = tell_parts declared ts bs b t (omega (arith, low)) at h.1 in ((h.0, both.0), both.1)
+
+pub blocks_next : (g h k : Graph) (driven now marked : List Bool) (numbers : Numbers) (ts : List BlockParts) (t : BlockParts) (bs : List design.Block) (b : design.Block) → length bs < length ts → t ≡ get_or ts (length bs) t → length g ≤ length h
+    → DrivesBlocks g driven h now numbers ts bs → DrivesBlock h now k marked numbers t b → DrivesBlocks g driven k marked numbers ts (bs ++ b ∷ [])
+blocks_next g h k driven now marked numbers ts t bs b inside at more d next signals number i declared links before tell low are of w =
     let f = processes.process i declared in
+    let both = tell_parts declared ts bs b t inside at tell in
     let all : (before ++ map f bs) ++ f b ∷ [] ≡ before ++ map f (bs ++ b ∷ []) = append_assoc before (map f bs) (f b ∷ []) ∙ ap (λ (ps : List Process). before ++ ps) (sym (map_push f bs b)) in
-    let then : IsWired signals number k marked (met_named i (owns b) (is_met links (before ++ map f bs))) (driver_named i (owns b) (λ x. end_trees b (Now x)) (is_met links (before ++ map f bs)) (driver_in links (before ++ map f bs))) =
-    next signals number (is_met links (before ++ map f bs)) (driver_in links (before ++ map f bs)) i (omega (arith, low, more)) are of (d signals number i declared links before low are of w) in
+    let then : IsWired signals number k marked (met_named i (owns b) (is_met links (before ++ map f bs))) (driver_named i (owns b) (end_trees declared b) (is_met links (before ++ map f bs)) (driver_in links (before ++ map f bs))) =
+    next signals number (is_met links (before ++ map f bs)) (driver_in links (before ++ map f bs)) i declared both.1 (omega (arith, low, more)) are of (d signals number i declared links before both.0 low are of w) in
     subst (λ (ps : List Process). IsWired signals number k marked (is_met links ps) (driver_in links ps)) all
     (λ p n e. let is = block_is_process links (before ++ map f bs) i declared b p in
     wired_as signals number k marked _ _ _ _ n (sym is.1) (sym is.0) (then p n e))
+
+-- of the first i blocks there are i
+pub first_count : (blocks : List code_block.Block) (i : ℕ) → i < length blocks → length (map block_of (take i blocks)) ≡ i
+first_count [] i h = absurd (omega (arith, h))
+first_count (b ∷ blocks) zero h = refl
+first_count (b ∷ blocks) (suc i) h = ap (λ n. suc n) (first_count blocks i (omega (arith, h)))
+
+-- blocks of which terms tell have terms
+pub tell_count : (declared : List Signal) (ts : List BlockParts) (bs : List design.Block) → TellBlocks declared ts bs → length bs ≤ length ts
+tell_count declared ts [] h = omega arith
+tell_count declared [] (b ∷ bs) h = absurd h
+tell_count declared (t ∷ ts) (b ∷ bs) h = omega (arith, tell_count declared ts bs h.1)
 
 pub more_blocks : (blocks : List code_block.Block) (i : ℕ) (b : code_block.Block) → i < length blocks → b ≡ get_or blocks i b → map block_of (take (i + 1) blocks) ≡ map block_of (take i blocks) ++ block_of b ∷ []
 more_blocks blocks i b h at = ap (map block_of) (take_more blocks i b h ∙ ap (λ (c : code_block.Block). take i blocks ++ c ∷ []) (sym at)) ∙ map_push block_of (take i blocks) b

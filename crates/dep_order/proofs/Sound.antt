@@ -7,7 +7,6 @@ use Rattle.tree_core.specs.Width.{WellFormed}
 use Rattle.tree_core.proofs.Same.{both_true}
 use Rattle.list_core.specs.Lists.{AreApart, IsIn}
 use Rattle.exec_core.specs.Block.{Name, Now, own, body_slots}
-use Rattle.exec_core.specs.Exec.{Env}
 use Rattle.exec_core.specs.Trees.{block_trees}
 use Rattle.exec_core.specs.Paths.{BodySkips, SomeBit, Checked, TreeFits, TreesChecked}
 use Rattle.exec_core.specs.Whole.{Place, OverSignals}
@@ -25,7 +24,7 @@ use Rattle.check_exec.proofs.Checks.{blocks_are_checked}
 use Rattle.check_exec.proofs.Latches.{no_latch_is_left}
 use Rattle.check_exec.proofs.Links.{links_fit}
 use Rattle.check_exec.proofs.Slots.{slots_are_apart}
-use Rattle.check_exec.proofs.Whole.{blocks_are_shown}
+use Rattle.ssa_core.proofs.Wide.{width_of_process}
 use Rattle.place_core.specs.Linking.{Link}
 use Rattle.dep_order.specs.Wiring.{shown_tree}
 use Rattle.dep_order.specs.Ordering.{is_met_in, shown_driver, AcceptedAreTrees}
@@ -96,8 +95,8 @@ module _ (d : design.Design) (sound : IsSound d) where
       or_else (option_map (λ (link : Link). link.1) o) (option_and_then (shown_tree p) u) ≡ or_else (option_map (λ (link : Link). link.1) o) (option_and_then (process_tree (processes_of d) p) u)
   process_shown p o None g = refl
   process_shown p o (Some b) g =
-      ap (λ (trees : Env (Tree Name)). or_else (option_map (λ (link : Link). link.1) o) (option_map (moved b.instance) (trees (Now p.name))))
-      (sym (blocks_are_shown d sound b (find_member (assigns_to p) (processes_of d).processes b g).0).ends)
+      ap (λ w. or_else (option_map (λ (link : Link). link.1) o) (option_map (moved b.instance) (block_trees w b.body (Now p.name))))
+      (sym (width_of_process d sound b (find_member (assigns_to p) (processes_of d).processes b g).0))
 
   drivers_shown : shown_driver d ≡ driver_of (processes_of d)
   drivers_shown = λ i p. process_shown p (find (links_to p) (processes_of d).links) (find (assigns_to p) (processes_of d).processes) refl i

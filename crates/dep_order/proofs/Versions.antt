@@ -5,15 +5,15 @@ use Rattle.bv_core.specs.declared.operators.Op2.{Op2}
 use Rattle.bv_core.specs.Value.{Bits}
 use Rattle.tree_core.specs.Tree.{Tree, Const, Leaf, One, Two, Mux}
 use Rattle.exec_core.specs.Block.{Name, Expr}
-use Rattle.exec_core.specs.Exec.{Env, on_one, on_two, on_three}
-use Rattle.exec_core.specs.Trees.{tree_in}
 use Rattle.exec_core.specs.Leaves.{EachLeaf}
 use Rattle.list_core.proofs.Options.{some_same}
 use Rattle.exec_core.proofs.Wholes.{each_leaf}
 use Rattle.graph_order.specs.Graphs.{Graph, edges_of, IsGraph}
 use Rattle.list_core.proofs.Lists.{each_member, each_append}
 use Rattle.dep_order.specs.Reaching.{Reaches, ReachedFrom, KeepsVersions}
-use Rattle.dep_order.specs.Standing.{Readings, StandFor, Stand, AllStand, read_by, AreVertices, AllVertices}
+use Rattle.list_core.specs.Lists.{EachOf}
+use Rattle.dep_order.specs.Blocks.{AreSignals}
+use Rattle.dep_order.specs.Standing.{StandFor, Stand, AreVertices, listed, read_by}
 use Rattle.place_core.specs.Numbering.{Numbers}
 use Rattle.dep_order.proofs.Walks.{itself, signal_alone, from_version, to_version, reaches_kept, reaches_back, from_left, from_right, from_cases}
 
@@ -32,10 +32,10 @@ stand_signal signals g number x n e h = record {
 pub stand_unknown : (signals : ℕ) (g : Graph) (number : Numbers) (x : Name) → number x ≡ None → StandFor signals g number [] (Leaf x)
 stand_unknown signals g number x e = record { leaves = λ m k. cc; nothing_else = λ w r. absurd r.one_of }
 
-stand_const : (signals : ℕ) (g : Graph) (number : Numbers) (b : Bits) → StandFor signals g number [] (Const b)
+pub stand_const : (signals : ℕ) (g : Graph) (number : Numbers) (b : Bits) → StandFor signals g number [] (Const b)
 stand_const signals g number b = record { leaves = tt; nothing_else = λ w r. r.one_of }
 
-stand_one : (signals : ℕ) (g : Graph) (number : Numbers) (vs : List ℕ) (op : Op1) (t : Tree Name) → StandFor signals g number vs t → StandFor signals g number vs (One op t)
+pub stand_one : (signals : ℕ) (g : Graph) (number : Numbers) (vs : List ℕ) (op : Op1) (t : Tree Name) → StandFor signals g number vs t → StandFor signals g number vs (One op t)
 stand_one signals g number vs op t s = record { leaves = s.leaves; nothing_else = s.nothing_else }
 
 -- more vertices reach more
@@ -45,13 +45,13 @@ more_left signals g number us vs t s = each_leaf (λ x f n e. from_left signals 
 more_right : (signals : ℕ) (g : Graph) (number : Numbers) (us vs : List ℕ) (t : Tree Name) → StandFor signals g number vs t → EachLeaf (λ x. (n : ℕ) → number x ≡ Some n → ReachedFrom signals g (us ++ vs) n) t
 more_right signals g number us vs t s = each_leaf (λ x f n e. from_right signals g us vs n (f n e)) t s.leaves
 
-stand_two : (signals : ℕ) (g : Graph) (number : Numbers) (us vs : List ℕ) (op : Op2) (a b : Tree Name) → StandFor signals g number us a → StandFor signals g number vs b → StandFor signals g number (us ++ vs) (Two op a b)
+pub stand_two : (signals : ℕ) (g : Graph) (number : Numbers) (us vs : List ℕ) (op : Op2) (a b : Tree Name) → StandFor signals g number us a → StandFor signals g number vs b → StandFor signals g number (us ++ vs) (Two op a b)
 stand_two signals g number us vs op a b s t = record {
   leaves = (more_left signals g number us vs a s, more_right signals g number us vs b t);
   nothing_else = λ w r. elim (from_cases signals g us vs w r) [ inl l ↦ inl (s.nothing_else w l) | inr l ↦ inr (t.nothing_else w l) ];
 }
 
-stand_mux : (signals : ℕ) (g : Graph) (number : Numbers) (us vs ws : List ℕ) (c a b : Tree Name) → StandFor signals g number us c → StandFor signals g number vs a → StandFor signals g number ws b →
+pub stand_mux : (signals : ℕ) (g : Graph) (number : Numbers) (us vs ws : List ℕ) (c a b : Tree Name) → StandFor signals g number us c → StandFor signals g number vs a → StandFor signals g number ws b →
     StandFor signals g number (us ++ (vs ++ ws)) (Mux c a b)
 stand_mux signals g number us vs ws c a b r s t = record {
   leaves = (
@@ -65,49 +65,20 @@ stand_mux signals g number us vs ws c a b r s t = record {
   ];
 }
 
--- ---- where there is something
+-- ---- what an expression reads
 
-one_stands : (signals : ℕ) (g : Graph) (number : Numbers) (op : Op1) (o : Option (List ℕ)) (t : Option (Tree Name)) → Stand signals g number o t → Stand signals g number o (on_one (One op) t)
-one_stands signals g number op None None s = tt
-one_stands signals g number op None (Some t) s = absurd s
-one_stands signals g number op (Some vs) None s = absurd s
-one_stands signals g number op (Some vs) (Some t) s = stand_one signals g number vs op t s
+pub listed_stands : (signals : ℕ) (g : Graph) (number : Numbers) (x : Name) (o : Option ℕ) → number x ≡ o → AreSignals signals number → StandFor signals g number (listed o) (Leaf x)
+listed_stands signals g number x None e all = stand_unknown signals g number x e
+listed_stands signals g number x (Some n) e all = stand_signal signals g number x n e (all x n e)
 
-two_stands : (signals : ℕ) (g : Graph) (number : Numbers) (op : Op2) (o p : Option (List ℕ)) (a b : Option (Tree Name)) → Stand signals g number o a → Stand signals g number p b →
-    Stand signals g number (on_two (λ (vs ws : List ℕ). vs ++ ws) o p) (on_two (Two op) a b)
-two_stands signals g number op None p None b r s = tt
-two_stands signals g number op None p (Some a) b r s = absurd r
-two_stands signals g number op (Some us) p None b r s = absurd r
-two_stands signals g number op (Some us) None (Some a) None r s = tt
-two_stands signals g number op (Some us) None (Some a) (Some b) r s = absurd s
-two_stands signals g number op (Some us) (Some vs) (Some a) None r s = absurd s
-two_stands signals g number op (Some us) (Some vs) (Some a) (Some b) r s = stand_two signals g number us vs op a b r s
-
-pub mux_stands : (signals : ℕ) (g : Graph) (number : Numbers) (o p q : Option (List ℕ)) (c a b : Option (Tree Name)) → Stand signals g number o c → Stand signals g number p a → Stand signals g number q b →
-    Stand signals g number (on_three (λ (us vs ws : List ℕ). us ++ (vs ++ ws)) o p q) (on_three Mux c a b)
-mux_stands signals g number None p q None a b r s t = tt
-mux_stands signals g number None p q (Some c) a b r s t = absurd r
-mux_stands signals g number (Some us) p q None a b r s t = absurd r
-mux_stands signals g number (Some us) None q (Some c) None b r s t = tt
-mux_stands signals g number (Some us) None q (Some c) (Some a) b r s t = absurd s
-mux_stands signals g number (Some us) (Some vs) q (Some c) None b r s t = absurd s
-mux_stands signals g number (Some us) (Some vs) None (Some c) (Some a) None r s t = tt
-mux_stands signals g number (Some us) (Some vs) None (Some c) (Some a) (Some b) r s t = absurd t
-mux_stands signals g number (Some us) (Some vs) (Some ws) (Some c) (Some a) None r s t = absurd t
-mux_stands signals g number (Some us) (Some vs) (Some ws) (Some c) (Some a) (Some b) r s t = stand_mux signals g number us vs ws c a b r s t
-
--- what an expression reads stands for its tree
-pub reads_stand : (signals : ℕ) (g : Graph) (number : Numbers) (readings : Readings) (trees : Env (Tree Name)) (e : Expr) → AllStand signals g number readings trees →
-    Stand signals g number (read_by e readings) (tree_in e trees)
-reads_stand signals g number readings trees (Const bits) all = stand_const signals g number bits
-reads_stand signals g number readings trees (Leaf x) all = all x
-reads_stand signals g number readings trees (One op a) all = one_stands signals g number op (read_by a readings) (tree_in a trees) (reads_stand signals g number readings trees a all)
-reads_stand signals g number readings trees (Two op a b) all =
-    two_stands signals g number op (read_by a readings) (read_by b readings) (tree_in a trees) (tree_in b trees)
-    (reads_stand signals g number readings trees a all) (reads_stand signals g number readings trees b all)
-reads_stand signals g number readings trees (Mux c a b) all =
-    mux_stands signals g number (read_by c readings) (read_by a readings) (read_by b readings) (tree_in c trees) (tree_in a trees) (tree_in b trees)
-    (reads_stand signals g number readings trees c all) (reads_stand signals g number readings trees a all) (reads_stand signals g number readings trees b all)
+-- it stands for it
+pub reads_stand : (signals : ℕ) (g : Graph) (number : Numbers) (e : Expr) → AreSignals signals number → StandFor signals g number (read_by e number) e
+reads_stand signals g number (Const bits) all = stand_const signals g number bits
+reads_stand signals g number (Leaf x) all = listed_stands signals g number x (number x) refl all
+reads_stand signals g number (One op a) all = stand_one signals g number (read_by a number) op a (reads_stand signals g number a all)
+reads_stand signals g number (Two op a b) all = stand_two signals g number (read_by a number) (read_by b number) op a b (reads_stand signals g number a all) (reads_stand signals g number b all)
+reads_stand signals g number (Mux c a b) all =
+    stand_mux signals g number (read_by c number) (read_by a number) (read_by b number) c a b (reads_stand signals g number c all) (reads_stand signals g number a all) (reads_stand signals g number b all)
 
 -- ---- more graph
 
@@ -143,21 +114,15 @@ version_stands signals h number v (Some vs) (Some t) high next s =
 
 -- ---- vertices
 
-two_vertices : (n : ℕ) (o p : Option (List ℕ)) → AreVertices n o → AreVertices n p → AreVertices n (on_two (λ (vs ws : List ℕ). vs ++ ws) o p)
-two_vertices n None p a b = tt
-two_vertices n (Some us) None a b = tt
-two_vertices n (Some us) (Some vs) a b = each_append (λ v. v < n) us vs a b
+pub listed_vertices : (n : ℕ) (number : Numbers) (x : Name) (o : Option ℕ) → number x ≡ o → AreSignals n number → EachOf (λ v. v < n) (listed o)
+listed_vertices n number x None e all = tt
+listed_vertices n number x (Some v) e all = (all x v e, tt)
 
-pub three_vertices : (n : ℕ) (o p q : Option (List ℕ)) → AreVertices n o → AreVertices n p → AreVertices n q → AreVertices n (on_three (λ (us vs ws : List ℕ). us ++ (vs ++ ws)) o p q)
-three_vertices n None p q a b c = tt
-three_vertices n (Some us) None q a b c = tt
-three_vertices n (Some us) (Some vs) None a b c = tt
-three_vertices n (Some us) (Some vs) (Some ws) a b c = each_append (λ v. v < n) us (vs ++ ws) a (each_append (λ v. v < n) vs ws b c)
-
-pub reads_vertices : (n : ℕ) (readings : Readings) (e : Expr) → AllVertices n readings → AreVertices n (read_by e readings)
-reads_vertices n readings (Const bits) all = tt
-reads_vertices n readings (Leaf x) all = all x
-reads_vertices n readings (One op a) all = reads_vertices n readings a all
-reads_vertices n readings (Two op a b) all = two_vertices n (read_by a readings) (read_by b readings) (reads_vertices n readings a all) (reads_vertices n readings b all)
-reads_vertices n readings (Mux c a b) all =
-    three_vertices n (read_by c readings) (read_by a readings) (read_by b readings) (reads_vertices n readings c all) (reads_vertices n readings a all) (reads_vertices n readings b all)
+pub reads_vertices : (n : ℕ) (number : Numbers) (e : Expr) → AreSignals n number → EachOf (λ v. v < n) (read_by e number)
+reads_vertices n number (Const bits) all = tt
+reads_vertices n number (Leaf x) all = listed_vertices n number x (number x) refl all
+reads_vertices n number (One op a) all = reads_vertices n number a all
+reads_vertices n number (Two op a b) all = each_append (λ v. v < n) (read_by a number) (read_by b number) (reads_vertices n number a all) (reads_vertices n number b all)
+reads_vertices n number (Mux c a b) all =
+    each_append (λ v. v < n) (read_by c number) (read_by a number ++ read_by b number) (reads_vertices n number c all)
+    (each_append (λ v. v < n) (read_by a number) (read_by b number) (reads_vertices n number a all) (reads_vertices n number b all))

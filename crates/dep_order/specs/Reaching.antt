@@ -1,5 +1,5 @@
--- A graph of signals and versions. The vertices below `signals` are signals; the others are versions, what a name of a block is from a
--- statement on.
+-- A graph of signals and versions. The vertices below `signals` are signals; the others are versions, of the terms of blocks: a
+-- name of a block ends with the version of its term.
 use Rattle.std.specs.Prelude.{◌≡◌, ℕ, ◌<◌, ◌≤◌, List, [], ◌∷◌, ◌++◌, ◌⊎◌, length}
 use Rattle.list_core.specs.Lists.{EachOf, IsIn}
 use Rattle.graph_order.specs.Graphs.{Graph, edges_of}

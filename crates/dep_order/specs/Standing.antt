@@ -1,8 +1,7 @@
 -- Which versions stand for which trees of a block.
-use Rattle.std.specs.Prelude.{◌≡◌, ℕ, ◌<◌, List, [], ◌++◌, ◌⊎◌, Option, Some, None}
+use Rattle.std.specs.Prelude.{◌≡◌, ℕ, ◌<◌, List, [], ◌∷◌, ◌++◌, ◌⊎◌, Option, Some, None}
 use Rattle.tree_core.specs.Tree.{Tree, Const, Leaf, One, Two, Mux}
-use Rattle.exec_core.specs.Block.{Name, Expr, Now}
-use Rattle.exec_core.specs.Exec.{Env, on_two, on_three}
+use Rattle.exec_core.specs.Block.{Name, Expr}
 use Rattle.exec_core.specs.Leaves.{EachLeaf}
 use Rattle.list_core.specs.Lists.{EachOf}
 use Rattle.graph_order.specs.Graphs.{Graph}
@@ -29,25 +28,20 @@ Stand signals g number None (Some t) = ⊥
 Stand signals g number (Some vs) None = ⊥
 Stand signals g number (Some vs) (Some t) = StandFor signals g number vs t
 
--- what each name reads, if it has something
-abbrev pub Readings : Type 0
-Readings = Name → Option (List ℕ)
-
-abbrev pub AllStand : ℕ → Graph → Numbers → Readings → Env (Tree Name) → Type 0
-AllStand signals g number readings trees = (x : Name) → Stand signals g number (readings x) (trees (Now x))
-
 -- vertices of a graph of n vertices
 abbrev pub AreVertices : ℕ → Option (List ℕ) → Type 0
 AreVertices n None = Unit {0}
 AreVertices n (Some vs) = EachOf (λ v. v < n) vs
 
-abbrev pub AllVertices : ℕ → Readings → Type 0
-AllVertices n readings = (x : Name) → AreVertices n (readings x)
+-- a list of a vertex, if there is one
+abbrev pub listed : Option ℕ → List ℕ
+listed None = []
+listed (Some v) = v ∷ []
 
--- what an expression reads, where each name has something
-abbrev pub read_by : Expr → Readings → Option (List ℕ)
-read_by (Const bits) readings = Some []
-read_by (Leaf x) readings = readings x
-read_by (One op a) readings = read_by a readings
-read_by (Two op a b) readings = on_two (λ vs ws. vs ++ ws) (read_by a readings) (read_by b readings)
-read_by (Mux c a b) readings = on_three (λ us vs ws. us ++ (vs ++ ws)) (read_by c readings) (read_by a readings) (read_by b readings)
+-- the vertices of the signals that an expression over the names of an instance reads
+abbrev pub read_by : Expr → Numbers → List ℕ
+read_by (Const bits) number = []
+read_by (Leaf x) number = listed (number x)
+read_by (One op a) number = read_by a number
+read_by (Two op a b) number = read_by a number ++ read_by b number
+read_by (Mux c a b) number = read_by c number ++ (read_by a number ++ read_by b number)

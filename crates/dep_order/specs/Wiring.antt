@@ -4,7 +4,7 @@ use Rattle.tree_core.specs.Tree.{Tree, Leaf}
 use Rattle.exec_core.specs.Block.{Name, Now}
 use Rattle.exec_core.specs.Whole.{Place}
 use Rattle.exec_core.specs.Design.{Process, place, moved, same_place, links_to, assigns_to, or_else}
-use Rattle.exec_core.specs.Shown.{block_shown_trees}
+use Rattle.exec_core.specs.Trees.{block_trees}
 use Rattle.graph_order.specs.Graphs.{Graph, edges_of, IsGraph}
 use Rattle.names.specs.Known.{Known}
 use Rattle.design_core.specs.declared.variant.Signal.{Signal}
@@ -13,7 +13,8 @@ use Rattle.design_exec.specs.Processes as processes
 use Rattle.dep_order.specs.Reaching.{IsLayered}
 use Rattle.dep_order.specs.Standing.{Stand, StandFor}
 use Rattle.place_core.specs.Numbering.{Numbers, PlaceNumbers}
-use Rattle.dep_order.specs.Blocks.{AreSignals, Versions, single, owns, end_trees}
+use Rattle.block_net.specs.Blocks.{BlockParts}
+use Rattle.dep_order.specs.Blocks.{AreSignals, Versions, single, owns, end_trees, TellsBlock, TellBlocks}
 use Rattle.place_core.specs.Linking.{Link}
 
 -- no two places have one vertex, and all vertices of places are below that of any version
@@ -21,9 +22,9 @@ pub record AreNumbers (signals : ℕ) (number : PlaceNumbers) : Type 0 where
   pub below : (p : Place) (n : ℕ) → number p ≡ Some n → n < signals
   pub apart : (p q : Place) (n : ℕ) → number p ≡ Some n → number q ≡ Some n → p ≡ q
 
--- the tree that a process ends with for a place, by its shown trees
+-- the tree that a process ends with for a place, by the widths at its statements
 abbrev pub shown_tree : Place → Process → Option (Tree Place)
-shown_tree p b = option_map (moved b.instance) (block_shown_trees b.body (Now p.name))
+shown_tree p b = option_map (moved b.instance) (block_trees b.let_width b.body (Now p.name))
 
 -- the tree that drives a place, by these links and processes: the first link to it, or the first process that assigns it
 abbrev pub driver_in : List Link → List Process → Place → Option (Tree Place)
@@ -104,19 +105,19 @@ DrivesNames g driven h marked numbers names ends =
     AreNumbers signals number → AreOf number i numbers → ((x : Name) → names x ≡ true → Stand signals g numbers (option_map single (ends x)) (trees x)) →
     IsWired signals number g driven met driver → IsWired signals number h marked (met_named i names met) (driver_named i names trees met driver)
 
--- the same of a block
-abbrev pub DrivesBlock : Graph → List Bool → Graph → List Bool → Numbers → design.Block → Type 0
-DrivesBlock g driven h marked numbers b =
-    (signals : ℕ) (number : PlaceNumbers) (met : Place → Bool) (driver : Place → Option (Tree Place)) (i : ℕ) →
-    signals ≤ length g → AreNumbers signals number → AreOf number i numbers →
-    IsWired signals number g driven met driver → IsWired signals number h marked (met_named i (owns b) met) (driver_named i (owns b) (λ x. end_trees b (Now x)) met driver)
+-- the same of a block with these terms
+abbrev pub DrivesBlock : Graph → List Bool → Graph → List Bool → Numbers → BlockParts → design.Block → Type 0
+DrivesBlock g driven h marked numbers parts b =
+    (signals : ℕ) (number : PlaceNumbers) (met : Place → Bool) (driver : Place → Option (Tree Place)) (i : ℕ) (declared : List Signal) →
+    TellsBlock declared parts b → signals ≤ length g → AreNumbers signals number → AreOf number i numbers →
+    IsWired signals number g driven met driver → IsWired signals number h marked (met_named i (owns b) met) (driver_named i (owns b) (end_trees declared b) met driver)
 
 -- a block of an instance is its process: what is met and what drives, with one process more
 abbrev pub BlockIsProcess : Type 0
 BlockIsProcess =
-    (links : List Link) (before : List Process) (i : ℕ) (signals : List Signal) (b : design.Block) (p : Place) →
-    (is_met links (before ++ processes.process i signals b ∷ []) p ≡ met_named i (owns b) (is_met links before) p)
-    × (driver_in links (before ++ processes.process i signals b ∷ []) p ≡ driver_named i (owns b) (λ x. end_trees b (Now x)) (is_met links before) (driver_in links before) p)
+    (links : List Link) (before : List Process) (i : ℕ) (declared : List Signal) (b : design.Block) (p : Place) →
+    (is_met links (before ++ processes.process i declared b ∷ []) p ≡ met_named i (owns b) (is_met links before) p)
+    × (driver_in links (before ++ processes.process i declared b ∷ []) p ≡ driver_named i (owns b) (end_trees declared b) (is_met links before) (driver_in links before) p)
 
 -- and a link is one
 abbrev pub LinkIsMet : Type 0
@@ -126,10 +127,10 @@ LinkIsMet =
     × (driver_in (links ++ (q, t) ∷ []) [] p ≡ driver_with q (Some t) (is_met links []) (driver_in links []) p)
 
 -- what a call does that drives the signals of an instance by these blocks, behind links and processes that were met before
-abbrev pub DrivesBlocks : Graph → List Bool → Graph → List Bool → Numbers → List design.Block → Type 0
-DrivesBlocks g driven h marked numbers bs =
+abbrev pub DrivesBlocks : Graph → List Bool → Graph → List Bool → Numbers → List BlockParts → List design.Block → Type 0
+DrivesBlocks g driven h marked numbers ts bs =
     (signals : ℕ) (number : PlaceNumbers) (i : ℕ) (declared : List Signal) (links : List Link) (before : List Process) →
-    signals ≤ length g → AreNumbers signals number → AreOf number i numbers →
+    TellBlocks declared ts bs → signals ≤ length g → AreNumbers signals number → AreOf number i numbers →
     IsWired signals number g driven (is_met links before) (driver_in links before) →
     IsWired signals number h marked (is_met links (before ++ map (processes.process i declared) bs)) (driver_in links (before ++ map (processes.process i declared) bs))
 

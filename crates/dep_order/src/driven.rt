@@ -6,17 +6,20 @@ ghost use Rattle.graph_order.specs.Graphs.{IsGraph, edges_of};
 ghost use Rattle.design_core.specs.DesignView.{design_of};
 ghost use Rattle.check_core.specs.Verdict.{verdict};
 ghost use Rattle.place_core.specs.Numbering.{numbers_of, AreCounted};
-ghost use Rattle.dep_order.specs.Linking.{AllLayered, AreBelow};
+ghost use Rattle.dep_order.specs.Linking.{AllLayered, AreBelow, TellDesign};
+ghost use Rattle.ssa_core.specs.Processes.{lists_of};
 ghost use Rattle.dep_order.specs.Ordering.{DriversAreTrees, DrivesDesign, IsWiredDesign, TellsFault, marked_in, pairs_of};
 ghost use Rattle.place_core.specs.Orders.{TellsOrder};
 
 use crate::answer::OrderFault;
 use crate::instances::{drive_links, drive_processes};
 use crate::signals::order_signals;
+use block_net::BlockTerms;
 use design_core::{Design, in_32_bits};
 use graph_order::{Graph, GraphFault};
 use names::NameMap;
 use place_core::{Order, number_signals};
+use ssa_core::block_terms_of;
 use std::alloc::{AllocError, Global};
 use text_core::NoMemory;
 
@@ -60,24 +63,26 @@ fn pairs_of(
     Ok(list)
 }
 
-/// Drives the signals of a design by its links and blocks, in a graph in which nothing drives them yet.
+/// Drives the signals of a design by its links and blocks, which have these terms, in a graph in which nothing drives them yet.
 fn wire(
     alloc: Global,
     graph: &mut Graph,
     driven: &mut [bool],
     design: &Design,
     maps: &[NameMap<u32>],
+    terms: &[Vec<BlockTerms>],
 ) -> Result<(), NoMemory>
     requires graph { IsGraph graph.old }
     requires below { AreBelow (length graph.old) (numbers_of maps.now) }
     requires marked { AreBelow (length driven.old) (numbers_of maps.now) }
     requires maps { length maps.now ≡ length design.now.instances }
+    requires tell { TellDesign (design_of design.now) (lists_of terms.now) }
     ensures longer { OnOk result (length graph.old ≤ length graph.new) }
     ensures layers { OnOk result (AllLayered graph.old graph.new (numbers_of maps.now)) }
     ensures drives { OnOk result (DrivesDesign graph.old driven.old graph.new driven.new (numbers_of maps.now) (design_of design.now)) }
 {
     drive_links(alloc, graph, driven, design, maps)?;
-    drive_processes(alloc, graph, driven, design, maps)?;
+    drive_processes(alloc, graph, driven, design, maps, terms)?;
     Ok(())
 }
 
@@ -121,8 +126,10 @@ fn wire_and_order(
     design: &Design,
     maps: &[NameMap<u32>],
     pairs: &[(u32, u32)],
+    terms: &[Vec<BlockTerms>],
 ) -> Result<Order, OrderFault>
     requires counted { AreCounted (design_of design.now) (numbers_of maps.now, pairs.now) }
+    requires tell { TellDesign (design_of design.now) (lists_of terms.now) }
     requires count { length graph.old ≡ length pairs.now }
     requires none { (v : ℕ) → edges_of graph.old v ≡ [] }
     requires marks { length driven.old ≡ length pairs.now }
@@ -131,25 +138,27 @@ fn wire_and_order(
     ensures order { IfOk result (TellsOrder (design_of design.now)) }
     ensures cycle { IfErr result (TellsFault (design_of design.now)) }
 {
-    wire(alloc, graph, driven, design, maps)?;
+    wire(alloc, graph, driven, design, maps, terms)?;
     order_wired(alloc, graph, driven, design, maps, pairs)
 }
 
-/// The same, where these are the numbers of the design's signals.
+/// The same, where these are the numbers of the design's signals and the terms of its blocks.
 fn order_counted(
     alloc: Global,
     design: &Design,
     maps: &[NameMap<u32>],
     pairs: &[(u32, u32)],
+    terms: &[Vec<BlockTerms>],
 ) -> Result<Order, OrderFault>
     requires counted { AreCounted (design_of design.now) (numbers_of maps.now, pairs.now) }
+    requires tell { TellDesign (design_of design.now) (lists_of terms.now) }
     requires trees { DriversAreTrees (design_of design.now) }
     ensures order { IfOk result (TellsOrder (design_of design.now)) }
     ensures cycle { IfErr result (TellsFault (design_of design.now)) }
 {
     let mut graph = vertices(alloc, pairs.len())?;
     let mut driven = vec![in alloc; false; pairs.len()]?;
-    wire_and_order(alloc, &mut graph, &mut driven, design, maps, pairs)
+    wire_and_order(alloc, &mut graph, &mut driven, design, maps, pairs, terms)
 }
 
 /// An order of the driven signals of a design that the checks accept, all but registers and inputs of the top, each after those
@@ -159,6 +168,7 @@ pub fn order(alloc: Global, design: &Design) -> Result<Order, OrderFault>
     ensures order { IfOk result (TellsOrder (design_of design.now)) }
     ensures cycle { IfErr result (TellsFault (design_of design.now)) }
 {
+    let terms = block_terms_of(alloc, design)?;
     let (maps, pairs) = number_signals(alloc, design)?;
-    order_counted(alloc, design, &maps, &pairs)
+    order_counted(alloc, design, &maps, &pairs, &terms)
 }

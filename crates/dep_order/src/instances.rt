@@ -11,10 +11,12 @@ ghost use Rattle.design_core.specs.View.{child_of};
 ghost use Rattle.design_core.specs.DesignView.{design_of};
 ghost use Rattle.design_exec.specs.Processes.{conn_link, instances_of, links_at, none_or, numbers_below, processes_at};
 ghost use Rattle.place_core.specs.Numbering.{numbers_of};
-ghost use Rattle.dep_order.specs.Linking.{AllLayered, AreBelow, DrivesLinks, DrivesProcesses};
+ghost use Rattle.dep_order.specs.Linking.{AllLayered, AreBelow, DrivesLinks, DrivesProcesses, TellDesign, terms_in};
+ghost use Rattle.ssa_core.specs.Processes.{lists_of};
 ghost use Rattle.place_core.specs.Linking.{links_of_child, link_of_output};
 
 use crate::wiring::{drive_blocks, drive_conns, drive_output};
+use block_net::BlockTerms;
 use design_core::{
     Block, Child, Design, Instance, Kind, Signal, Variant, blocks_of, children_of, in_32_bits,
     signals_of,
@@ -256,18 +258,31 @@ pub(crate) fn drive_links(
     Ok(())
 }
 
-/// Drives the signals that the blocks of all instances assign, unless their drivers were met before.
+/// The terms of the blocks of the variant of this number; none, where there is no such variant.
+fn terms_of(all: &[Vec<BlockTerms>], variant: u32) -> &[BlockTerms]
+    ensures { result.now ≡ terms_in (lists_of all.now) variant }
+{
+    match all.get(variant as usize) {
+        Some(terms) => terms,
+        None => &[],
+    }
+}
+
+/// Drives the signals that the blocks of all instances assign, by the terms of the blocks of each variant, unless their drivers were met
+/// before.
 pub(crate) fn drive_processes(
     alloc: Global,
     graph: &mut Graph,
     driven: &mut [bool],
     design: &Design,
     maps: &[NameMap<u32>],
+    terms: &[Vec<BlockTerms>],
 ) -> Result<(), NoMemory>
     requires graph { IsGraph graph.old }
     requires below { AreBelow (length graph.old) (numbers_of maps.now) }
     requires marked { AreBelow (length driven.old) (numbers_of maps.now) }
     requires maps { length maps.now ≡ length design.now.instances }
+    requires tell { TellDesign (design_of design.now) (lists_of terms.now) }
     ensures graph { OnOk result (IsGraph graph.new) }
     ensures longer { OnOk result (length graph.old ≤ length graph.new) }
     ensures drives { OnOk result (DrivesProcesses graph.old driven.old graph.new driven.new (numbers_of maps.now) (flat_map (processes_at (design_of design.now)) (instances_of (design_of design.now)))) }
@@ -275,7 +290,8 @@ pub(crate) fn drive_processes(
 {
     for (number, instance) in design.instances.items().iter().enumerate() {
         let blocks = blocks_of(&design.variants, instance.variant);
-        drive_blocks(alloc, graph, driven, &maps[number], blocks)?;
+        let terms = terms_of(terms, instance.variant);
+        drive_blocks(alloc, graph, driven, &maps[number], blocks, terms)?;
     }
     Ok(())
 }

@@ -4,14 +4,12 @@
 
 mod answer;
 mod block;
-mod branch;
 mod driven;
 mod instances;
 mod laws;
 mod maps;
 mod reading;
 mod signals;
-mod version;
 mod wiring;
 
 pub use answer::OrderFault;

@@ -17,9 +17,10 @@ ghost use Rattle.design_exec.specs.Processes.{tree_of};
 use crate::block::follow_block;
 use crate::maps::VersionMap;
 use crate::reading::read_expr;
+use block_net::BlockTerms;
 use design_core::{Block, Conn, Expr};
 use graph_order::Graph;
-use names::{NameMap, NameSet};
+use names::NameMap;
 use place_core::assigned_in;
 use std::alloc::Global;
 use text_core::NoMemory;
@@ -53,10 +54,8 @@ fn reads_of(alloc: Global, numbers: &NameMap<u32>, expr: &Expr) -> Result<Vec<u3
     ensures within { IfOk result (λ read. (g : graphs.Graph) → AreSignals (length g) (value_of numbers.now) → EachOf (λ v. v < length g) read.items) }
     ensures stand { IfOk result (λ read. (signals : ℕ) (g : graphs.Graph) → AreSignals signals (value_of numbers.now) → StandFor signals g (value_of numbers.now) read.items (tree_of (expr_of expr.now))) }
 {
-    let own = NameSet::new(alloc);
-    let versions = VersionMap::new(alloc);
     let mut read = Vec::new(alloc);
-    let _ = read_expr(alloc, &own, numbers, &versions, expr, &mut read)?;
+    read_expr(alloc, numbers, expr, &mut read)?;
     Ok(read)
 }
 
@@ -130,7 +129,7 @@ fn drive_names(
     Ok(())
 }
 
-/// Drives the signals that a block assigns by the versions that it ends with, unless their drivers were met before.
+/// Drives the signals that a block with these terms assigns by the versions that it ends with, unless their drivers were met before.
 #[tactic(auto, using(crate::proofs::Layers::layered_block))]
 pub(crate) fn drive_block(
     alloc: Global,
@@ -138,39 +137,42 @@ pub(crate) fn drive_block(
     driven: &mut [bool],
     numbers: &NameMap<u32>,
     block: &Block,
+    terms: &BlockTerms,
 ) -> Result<(), NoMemory>
     requires graph { IsGraph graph.old }
     requires numbers { AreSignals (length graph.old) (value_of numbers.now) }
     requires marked { AreSignals (length driven.old) (value_of numbers.now) }
     ensures graph { OnOk result (IsGraph graph.new) }
     ensures longer { OnOk result (length graph.old ≤ length graph.new) }
-    ensures drives { OnOk result (DrivesBlock graph.old driven.old graph.new driven.new (value_of numbers.now) (block_of block.now)) }
+    ensures drives { OnOk result (DrivesBlock graph.old driven.old graph.new driven.new (value_of numbers.now) terms.now (block_of block.now)) }
     ensures layers { OnOk result (StaysLayered graph.old graph.new (value_of numbers.now)) }
 {
-    let ends = follow_block(alloc, graph, numbers, block)?;
     let names = assigned_in(alloc, block.clocked, &block.body)?;
+    let ends = follow_block(alloc, graph, numbers, terms, &names)?;
     drive_names(graph, driven, numbers, &ends, &names)?;
     Ok(())
 }
 
-/// The same of an instance's blocks in order.
+/// The same of an instance's blocks in order, each with its terms.
 pub(crate) fn drive_blocks(
     alloc: Global,
     graph: &mut Graph,
     driven: &mut [bool],
     numbers: &NameMap<u32>,
     blocks: &[Block],
+    terms: &[BlockTerms],
 ) -> Result<(), NoMemory>
     requires graph { IsGraph graph.old }
     requires numbers { AreSignals (length graph.old) (value_of numbers.now) }
     requires marked { AreSignals (length driven.old) (value_of numbers.now) }
+    requires count { length blocks.now ≤ length terms.now }
     ensures graph { OnOk result (IsGraph graph.new) }
     ensures longer { OnOk result (length graph.old ≤ length graph.new) }
-    ensures drives { OnOk result (DrivesBlocks graph.old driven.old graph.new driven.new (value_of numbers.now) (map block_of blocks.now)) }
+    ensures drives { OnOk result (DrivesBlocks graph.old driven.old graph.new driven.new (value_of numbers.now) terms.now (map block_of blocks.now)) }
     ensures layers { OnOk result (StaysLayered graph.old graph.new (value_of numbers.now)) }
 {
-    for block in blocks {
-        drive_block(alloc, graph, driven, numbers, block)?;
+    for place in 0..blocks.len() {
+        drive_block(alloc, graph, driven, numbers, &blocks[place], &terms[place])?;
     }
     Ok(())
 }

@@ -5,10 +5,10 @@ use Rattle.names.specs.Maps.{value_of}
 use Rattle.dep_order.specs.Wiring.{DrivesBlocks, StaysLayered}
 use Rattle.dep_order.proofs.wiring.drive_blocks.Given as goal
 
-abbrev pub invariant-loop-block : goal.invariant-loop-block
-invariant-loop-block l = record {
+abbrev pub invariant-loop-place : goal.invariant-loop-place
+invariant-loop-place l = record {
   graph : IsGraph l.graph;
   longer : length l.initial.graph ≤ length l.graph;
   layers : StaysLayered l.initial.graph l.graph (value_of l.numbers);
-  drives : DrivesBlocks l.initial.graph l.initial.driven l.graph l.driven (value_of l.numbers) (map block_of (take l.block-index l.blocks));
+  drives : DrivesBlocks l.initial.graph l.initial.driven l.graph l.driven (value_of l.numbers) l.terms (map block_of (take l.place l.blocks));
 }

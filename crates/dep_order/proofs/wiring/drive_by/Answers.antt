@@ -4,7 +4,7 @@ use Rattle.design_exec.specs.Processes.{tree_of}
 use Rattle.list_core.specs.Lists.{EachOf}
 use Rattle.names.specs.Maps.{value_of}
 use Rattle.dep_order.specs.Standing.{StandFor}
-use Rattle.dep_order.proofs.Plain.{drives_by}
+use Rattle.dep_order.proofs.Names.{drives_by}
 use Rattle.dep_order.proofs.wiring.drive_by.Goals as goal
 
 pub drive-requires-clause-edges : goal.drive-requires-clause-edges
