@@ -75,12 +75,13 @@ pub const DESIGN: [Advice; 20] = [
     },
     Advice {
         name: "BadWidth",
-        means: "a width is not 1 to 128, a literal does not fit into its own, or a slice does not lie from 0 to 127",
+        means: "a width is not 1 to 128, a literal does not fit into its own, or a slice, read or assigned, does not lie from 0 to 127",
         todo: "widen the literal together with what it is for; a slice is [high:low]",
     },
     Advice {
         name: "WidthMismatch",
-        means: "two widths do not go together: 'have' stands there, and 'want' is needed",
+        means: "two widths do not go together: 'have' stands there, and 'want' is needed; a literal of an arm has the width of the case's \
+                value, and an assigned slice lies in its target",
         todo: "widen by zext(value, width), or take a slice [high:low]",
     },
     Advice {
@@ -105,12 +106,13 @@ pub const DESIGN: [Advice; 20] = [
     },
     Advice {
         name: "Latch",
-        means: "some path through the block leaves the name without a value, and hardware would have to remember it",
-        todo: "give it a value before the if, or in an else",
+        means: "some path through the block leaves the name or a bit of it without a value, and hardware would have to remember it",
+        todo: "give it a value before the if or the case, or in an else or a default",
     },
     Advice {
         name: "ReadBeforeWrite",
-        means: "the block reads a name of its own where some path to there has not assigned it; the conditions do not count",
+        means: "the block reads a name of its own, whole or in part, where some path to there has not assigned each bit of it; the conditions \
+                do not count",
         todo: "assign it first",
     },
     Advice {
