@@ -360,7 +360,8 @@ class Client:
             self.show()
 
     def walk(self, cmd, instance=None, count=1, behind=False):
-        """Steps so many times, or up to a stop that is passed or a breakpoint. Returns the registers over whose `<=` it stepped."""
+        """Steps so many times, or up to a stop that is passed or a breakpoint. Returns the registers, or their parts, over whose `<=` it
+        stepped and that no later one assigned anew."""
         pending = {}
         for _ in range(count):
             path, given = self.here(), None
@@ -369,7 +370,9 @@ class Client:
             self.asked(cmd, instance=instance)
             if behind:
                 break
-            pending.update(given or [])
+            for key, told in given or []:
+                pending = {at: it for at, it in pending.items() if at[0] != key[0] or not hgdb_source.overlap(at[1], key[1])}
+                pending[key] = told
             if not self.settle() or self.hits or self.passing(self.place):
                 break
         return pending.items()

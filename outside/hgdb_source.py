@@ -17,8 +17,8 @@ class Block:
 
 
 class Statement:
-    """A statement: its line, its kind (`if`, `let`, `=` or `<=`), the tokens of its target and of its expression, its block, and the
-    module and the loops and choices of the generator that it stands in, as numbers."""
+    """A statement: its line, its kind (`if`, `case`, `let`, `=` or `<=`), the tokens of its target, with its slice, and of its
+    expression, its block, and the module and the loops and choices of the generator that it stands in, as numbers."""
 
     def __init__(self, line, kind, target, value, block, within):
         self.line, self.kind, self.target, self.value, self.block, self.within = line, kind, target, value, block, within
@@ -95,6 +95,14 @@ class Walk:
                 self.upto("{")
                 self.rest(self.statement, block, within)
             return
+        if text == "case":
+            self.takes()
+            self.put(line, "case", [], self.upto("{"), block, within)
+            while self.tokens[self.at][1] != "}":
+                self.upto("{")
+                self.rest(self.statement, block, within)
+            self.takes()
+            return
         found = self.upto(";")
         kind, at = next((it[1], i) for i, it in enumerate(found) if it[1] in ("=", "<="))
         named = text == "let"
@@ -148,6 +156,15 @@ class Source:
         return [line for line in range(1, len(self.lines) + 1) if line not in have]
 
 
+def overlap(one, other):
+    """Whether two targets have a bit in common."""
+    (name, _, part), (named, _, parted) = one.partition("["), other.partition("[")
+    if name != named or not part or not parted:
+        return name == named
+    (high, low), (top, least) = ([int(it) for it in each.rstrip("]").split(":")] for each in (part, parted))
+    return low <= top and least <= high
+
+
 def read(path):
     """The source of a file."""
     with open(path, encoding="utf-8", errors="replace", newline="") as file:
@@ -155,6 +172,6 @@ def read(path):
 
 
 def told(statement, gens):
-    """The target of a statement as a name, and its expression as a text that a session takes; or None."""
+    """The target of a statement, with its slice, and its expression, as texts that a session takes; or None."""
     value, target = hgdb_expr.rewritten(statement.value, gens), hgdb_expr.rewritten(statement.target, gens)
     return None if value is None or target is None or value.numbers else (target.text(), value.text())

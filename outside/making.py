@@ -2,8 +2,9 @@
 
 A design is accepted by how it is made. A module's signals come one after the other, and an expression reads those alone that came
 before it, and registers; so there is no loop, though blocks and instances are put in any order at the end. A block assigns its
-targets on each path before it reads them. A width is a text beside the numbers that it can have, whatever the parameters are: two
-expressions go together where their texts are the same, and any other one is brought to a width by `zext` and a slice.
+targets, whole or by parts that have all bits, on each path before it reads them. A width is a text beside the numbers that it can
+have, whatever the parameters are: two expressions go together where their texts are the same, and any other one is brought to a
+width by `zext` and a slice.
 """
 import re
 
@@ -171,18 +172,61 @@ class Maker:
 
     def assigned(self, pool, target, may, depth):
         """Statements that assign a target."""
-        form = self.rng.choice(("plain", "plain", "if", "gen if")) if depth else "plain"
-        if form == "plain":
+        form = self.rng.choice(("plain", "plain", "parts", "if", "case", "gen if")) if depth else self.rng.choice(("plain", "parts"))
+        if form == "plain" or form == "parts" and target[1][1] == 1:
             return [f"{target[0]} {self.sets} {self.text(pool, target[1], 3)};"]
+        if form == "parts":
+            return self.parted(pool, target, may, depth)
+        if form == "case":
+            return self.case(pool, [target], may, depth, True)
         head = f"if {self.text(pool, ONE, 2)} {{" if form == "if" else f"gen if ({self.condition()}) {{"
         yes, no = (self.body(pool, [target], may, depth - 1) for _ in range(2))
         return [head, *yes, "} else {", *no, "}"]
+
+    def pieces(self, width):
+        """The parts of a width that is at least 2, from below: of each its bounds as they are written, and its width."""
+        text, least, most = width
+        if self.chance(0.5):
+            cut = self.rng.randint(1, least - 1)
+            return [(str(cut - 1), "0", fixed(cut)), (f"({text} - 1)", str(cut), (f"({text} - {cut})", least - cut, most - cut))]
+        if not text.isdigit():
+            cut = self.rng.randint(1, least - 1)
+            return [(f"({text} - {cut + 1})", "0", (f"({text} - {cut})", least - cut, most - cut)), (f"({text} - 1)", f"({text} - {cut})", fixed(cut))]
+        cuts = sorted({0, least, *(self.rng.randint(1, least - 1) for _ in range(self.rng.randint(1, 4)))})
+        return [(self.number(high - 1), self.number(low), fixed(high - low)) for low, high in zip(cuts, cuts[1:])]
+
+    def parted(self, pool, target, may, depth):
+        """Statements that assign a target part by part, some of them on both sides of an `if`."""
+        lines, pool = [], list(pool)
+        for high, low, width in self.rng.sample(pieces := self.pieces(target[1]), len(pieces)):
+            lines += self.extra(pool, may, depth - 1) if depth and self.chance(0.3) else []
+            piece = [f"{target[0]}[{high}:{low}] {self.sets} {self.text(pool, width, 2)};" for _ in range(2)]
+            if depth and self.chance(0.2):
+                lines += [f"if {self.text(pool, ONE, 2)} {{", piece[0], "} else {", piece[1], "}"]
+            else:
+                lines += piece[:1]
+        return lines
+
+    def case(self, pool, must, may, depth, whole):
+        """A `case` each arm of which assigns what it must, and so does its default, which there is where it is to be whole."""
+        width = fixed(self.rng.choice((1, 2, 2, 3, 4))) if self.chance(0.7) else self.width()
+        lines = [f"case {self.text(pool, width, 2)} {{"]
+        for _ in range(self.rng.randint(1, 4)):
+            tests = ", ".join(self.literal(width) if self.chance(0.3) else self.small(width) for _ in range(self.rng.choice((1, 1, 2, 3))))
+            lines += [f"{tests}: {{", *self.body(pool, must, may, depth - 1), "}"]
+        if whole or self.chance(0.5):
+            lines += ["default {", *self.body(pool, must, may, depth - 1), "}"]
+        return lines + ["}"]
+
+    def small(self, width):
+        """A literal of a low value."""
+        return f"bits({width[0]}, {self.some_int(0, min((1 << width[1]) - 1, 3))})"
 
     def extra(self, pool, may, depth):
         """Statements that nothing asks for."""
         lines = []
         while self.chance(0.45):
-            form = self.rng.choice((self.let, self.again, self.again, self.branch, self.turns))
+            form = self.rng.choice((self.let, self.again, self.again, self.branch, self.branch, self.turns))
             lines += form(pool, may, depth)
         return lines
 
@@ -201,11 +245,16 @@ class Maker:
         if not may:
             return []
         name, width = self.rng.choice(may)
+        if width[1] > 1 and self.chance(0.3):
+            high, low, part = self.rng.choice(self.pieces(width))
+            return [f"{name}[{high}:{low}] {self.sets} {self.text(pool, part, 3)};"]
         return [f"{name} {self.sets} {self.text(pool, width, 3)};"]
 
     def branch(self, pool, may, depth):
         if not depth:
             return []
+        if self.chance(0.3):
+            return self.case(pool, [], may, depth, False)
         test, yes = self.text(pool, ONE, 2), self.body(pool, [], may, depth - 1)
         head = [f"if {test} {{", *yes] if self.chance(0.7) else [f"gen if ({self.condition()}) {{", *yes]
         return head + (["} else {", *self.body(pool, [], may, depth - 1)] if self.chance(0.4) else []) + ["}"]

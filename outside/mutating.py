@@ -18,7 +18,7 @@ BYTES = [
 LONG = (33, 64, 255, 256, 4096, 65535, 65536, 70000, 200000)
 DEEP = (2, 10, 31, 32, 33, 55, 60, 61, 62, 63, 64, 65, 126, 127, 128, 129, 200, 1000, 5000, 100000)
 WORDS = {
-    "hg": "module input output wire reg comb ff if else for in gen inst let bits cat zext mux all any parity clk { } ( ) [ ] ; : . , # = == != < <= .. ~ & | ^ + - * << >> "
+    "hg": "module input output wire reg comb ff if else case default for in gen inst let bits cat zext mux all any parity clk { } ( ) [ ] ; : . , # = == != < <= .. ~ & | ^ + - * << >> "
           "1'h0 1'h1 8'hff 8'd256 0'h0 128'hf 129'h0 8' 'h 8'h 1'hx // \" \\ @ $".split(),
     "vcd": "$var $scope $upscope $end $enddefinitions $date $version $timescale $comment $dumpvars $dumpall $dumpon $dumpoff $dumpports module wire reg real string "
            "integer parameter event tri1 clk # #0 b b0 bx bz B1 r1.5 R s S 0 1 x X z Z u - \\ [7:0] [".split(),
@@ -231,9 +231,12 @@ def by_blocks(data, other, chance):
         a, b = chance.choice(more)
         return data[:first] + other[a:b] + data[last:]
     if kind == 4:
-        front = chance.choice((b"if 1'h1 {", b"for zz in 0..%s {" % chance.choice(NUMBERS), b"gen if (1 < %s) {" % chance.choice(NUMBERS), b"comb {", b"{"))
-        depth = chance.choice((1, 1, 2, 3, *DEEP))
-        return data[:start] + front * depth + data[start:last] + b"}" * depth + data[last:]
+        front = chance.choice((
+            b"if 1'h1 {", b"case 1'h1 { 1'h0, 1'h1: {", b"case 1'h0 { 1'h1: { } default {", b"for zz in 0..%s {" % chance.choice(NUMBERS),
+            b"gen if (1 < %s) {" % chance.choice(NUMBERS), b"comb {", b"{",
+        ))
+        depth, behind = chance.choice((1, 1, 2, 3, *DEEP)), b"}}" if front.startswith(b"case") else b"}"
+        return data[:start] + front * depth + data[start:last] + behind * depth + data[last:]
     there, end = chance.choice(found)
     return data[:first] + data[there:end] + data[last:]
 
@@ -261,6 +264,13 @@ def renamed(data, chance):
     return re.sub(rb"\b%s\b" % old, lambda it: new if always or chance.random() < 0.5 else it[0], data)
 
 
+def parted(data, chance):
+    """A source an assignment of which is of a slice, or some of which are."""
+    part = chance.choice((b"[0:0]", b"[3:0]", b"[0:3]", b"[127:0]", b"[128:1]", b"[(0 - 1):0]", b"[%s:%s]" % (chance.choice(NUMBERS), chance.choice(NUMBERS)), b"[1]", b"[:]"))
+    share = chance.choice((0.1, 0.5, 1))
+    return re.sub(rb"\w(?= <?= )", lambda it: it[0] + part if chance.random() < share else it[0], data)
+
+
 def numbered(data, chance):
     """A text one number of which is another one."""
     found = list(re.finditer(rb"\d+", data))
@@ -272,7 +282,9 @@ def numbered(data, chance):
 
 
 def source(data, other, chance):
-    kind = chance.randrange(6)
+    kind = chance.randrange(7)
+    if kind == 6:
+        return parted(data, chance)
     if kind == 0:
         return by_blocks(data, other, chance)
     if kind == 1:

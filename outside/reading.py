@@ -159,13 +159,42 @@ class Reader:
         if self.takes("if"):
             test, yes = self.expr(), self.body(self.stmt)
             return ("if", line, test, yes, self.body(self.stmt) if self.takes("else") else [])
+        if self.takes("case"):
+            return ("case", line, self.expr(), *self.arms())
         if self.sees("for") or self.sees("gen"):
             return self.generated(line, self.stmt)
         kind = "let" if self.takes("let") else "assign"
-        fam = self.fam()
+        fam, part = self.fam(), self.part()
         if not self.takes("<="):
             self.need("=")
-        return (kind, line, fam, self.expr()) + self.ended()
+        return (kind, line, fam, self.expr(), part) + self.ended()
+
+    def arms(self):
+        """The arms of a `case`, each with its literals, and its default, or None."""
+        self.need("{")
+        found = [self.arm()]
+        while not self.sees("default") and not self.sees("}"):
+            found.append(self.arm())
+        other = self.body(self.stmt) if self.takes("default") else None
+        self.need("}")
+        return found, other
+
+    def arm(self):
+        tests = [self.lit()]
+        while self.takes(","):
+            tests.append(self.lit())
+        self.need(":")
+        return tests, self.body(self.stmt)
+
+    def part(self):
+        """The bounds of a slice, the higher one first, or None."""
+        if not self.takes("["):
+            return None
+        high = self.int()
+        self.need(":")
+        low = self.int()
+        self.need("]")
+        return high, low
 
     def fam(self):
         name = self.name()
@@ -205,13 +234,8 @@ class Reader:
         return tuple(found)
 
     def expr(self):
-        found = self.prim()
-        if self.takes("["):
-            high = self.int()
-            self.need(":")
-            found = ("slice", found, high, self.int())
-            self.need("]")
-        return found
+        found, part = self.prim(), self.part()
+        return ("slice", found, *part) if part else found
 
     def prim(self):
         kind, text, line = self.tokens[self.at]

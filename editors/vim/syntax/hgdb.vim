@@ -8,8 +8,8 @@ syntax match hgdbNumber /\<\d\+\>/
 syntax match hgdbLiteral /\<\d\+'\(h\x\+\|d\d\+\)\>/
 syntax match hgdbComment +//.*$+
 syntax keyword hgdbStructure module input output wire reg inst let
-syntax keyword hgdbStatement comb ff clk default import
-syntax keyword hgdbConditional if else for in gen case
+syntax keyword hgdbStatement comb ff clk import
+syntax keyword hgdbConditional if else for in gen case default
 syntax keyword hgdbFunction bits cat zext mux all any parity
 highlight default link hgdbStructure Structure
 highlight default link hgdbStatement Statement
