@@ -26,7 +26,7 @@ use std::{env, io};
 use text_core::NoMemory;
 use ws_link::TcpDoor;
 
-const VERSION: &str = "hgdb 0.1.0\n";
+const VERSION: &str = "hgdb 0.2.0\n";
 
 const HELP: &str = "\
 hgdb shows what a hardware design does, statement by statement of its source.
