@@ -1,6 +1,6 @@
-//! Tests of `io_edge`: files and a sink in memory. The built program shows that words stand in their order.
+//! Tests of `io_edge`: files, a sink and input in memory. The built program shows that words stand in their order.
 
-use io_edge::{FileEnd, Files, MemFiles, MemSink, Sink};
+use io_edge::{FileEnd, Files, MemFiles, MemSink, MemSource, Sink, Source, SourceEnd};
 use std::alloc::Global;
 use std::test::Fail;
 use text_core::NoMemory;
@@ -95,5 +95,38 @@ fn a_put_takes_what_has_room_and_half_where_it_fails(rt: HostRuntime) -> Result<
         assert!(rt; puts(&mut sink, piece, *whole, *taken, *faults), "put {i}");
     }
     assert_eq!(rt; sink.bytes(), b"abcdeijk".as_slice());
+    Ok(())
+}
+
+/// Calls for more input, one after another: the answer that is wanted, and the count of faults after it.
+static CALLS: [(Result<&[u8], SourceEnd>, u64); 6] = [
+    (Ok(&[97, 98]), 0),
+    (Err(SourceEnd::Failed), 1),
+    (Ok(&[99]), 1),
+    (Ok(&[]), 1),
+    (Err(SourceEnd::Failed), 2),
+    (Ok(&[]), 2),
+];
+
+/// Whether input comes with the answer that is wanted.
+fn comes(alloc: Global, input: &mut MemSource, wanted: &Result<&[u8], SourceEnd>) -> bool {
+    match (input.more(alloc), wanted) {
+        (Ok(bytes), Ok(wanted)) => bytes.as_slice() == *wanted,
+        (Err(end), Err(wanted)) => end == *wanted,
+        _ => false,
+    }
+}
+
+#[test]
+fn input_comes_piece_by_piece_until_its_end(rt: HostRuntime) -> Result<(), Fail> {
+    let alloc = rt.alloc();
+    let pieces = vec![in alloc; vec![in alloc; 97, 98]?, vec![in alloc; 99]?]?;
+    let Ok(mut input) = MemSource::new(pieces, vec![in alloc; 1, 4]?) else {
+        return Err("memory lasts".into());
+    };
+    for (i, (wanted, faults)) in CALLS.iter().enumerate() {
+        let came = comes(alloc, &mut input, wanted);
+        assert!(rt; came && input.faults() == *faults, "call {i}");
+    }
     Ok(())
 }

@@ -1,4 +1,5 @@
 pub mod Growth
 mod Parts
+pub mod Pieces
 pub mod Passing
 pub mod Stops

@@ -2,9 +2,9 @@ ghost use Rattle.std.specs.Prelude.{◌≡◌, ◌≤◌, ◌<◌, None, Some, I
 ghost use Rattle.std.specs.Io.KnownBytes.{Consumes, IsAtEnd};
 ghost use Rattle.io_edge.specs.Files.{Answers};
 
-use crate::{Failed, FileEnd, Files, Sink};
+use crate::{Failed, FileEnd, Files, Sink, Source, SourceEnd};
 use std::alloc::Global;
-use std::io::{ErrorKind, Read};
+use std::io::{ErrorKind, Input, Read};
 use std::rt::Files as SystemFiles;
 
 /// The system's files. Nothing is told of what they hold, nor of which names were asked for.
@@ -120,5 +120,47 @@ impl<R: Print> Sink for StdSink<R> {
             return Err(Failed);
         }
         Ok(())
+    }
+}
+
+/// The standard input. Nothing is told of what it holds. A call answers what is there, and waits only where nothing is.
+#[derive(Drop)]
+pub struct StdSource<R> {
+    rt: R,
+    faults: u64,
+}
+
+impl<R: Input> StdSource<R> {
+    /// The standard input of this runtime, as yet without a fault.
+    pub fn new(rt: R) -> StdSource<R>
+        ensures { ⟦<StdSource<R> as Source>⟧.fault_count result ≡ 0 }
+    {
+        StdSource { rt, faults: 0 }
+    }
+}
+
+impl<R: Input> Source for StdSource<R> {
+    ghost left = { λ _. None };
+
+    ghost fault_count = { λ s. s.faults };
+
+    fn faults(&self) -> u64 {
+        self.faults
+    }
+
+    fn more(&mut self, alloc: Global) -> Result<Vec<u8>, SourceEnd> {
+        // Room is there before anything is read, so that nothing that was read is lost.
+        let mut bytes = Vec::with_capacity(alloc, PIECE)?;
+        let mut piece = [0u8; PIECE];
+        match read_some(&mut self.rt.reader(), &mut piece) {
+            Ok(count) => {
+                bytes.extend_from_slice(&piece[..count])?;
+                Ok(bytes)
+            }
+            Err(_) => {
+                self.faults = self.faults.saturating_add(1);
+                Err(SourceEnd::Failed)
+            }
+        }
     }
 }
