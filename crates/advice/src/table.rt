@@ -13,8 +13,8 @@ pub struct Advice {
     pub todo: &'static str,
 }
 
-/// The refusals of a source, from 1 on.
-pub const DESIGN: [Advice; 20] = [
+/// The refusals of the files of a design, from 1 on.
+pub const DESIGN: [Advice; 21] = [
     Advice {
         name: "TooLong",
         means: "the source has more than 1 MiB",
@@ -40,7 +40,7 @@ pub const DESIGN: [Advice; 20] = [
     Advice {
         name: "UnknownModule",
         means: "not exactly one module has this name",
-        todo: "look how it is spelled, and that the module stands in the file once",
+        todo: "look how it is spelled, and that the module stands once, in this file or in one that is imported",
     },
     Advice {
         name: "UnknownParameter",
@@ -120,6 +120,11 @@ pub const DESIGN: [Advice; 20] = [
         means: "each of these signals is computed from the next one, and the last from the first, within one cycle; a child's output and its \
                 parent's name for it have the same path",
         todo: "put a register into the ring",
+    },
+    Advice {
+        name: "TooManyFiles",
+        means: "this import names another file, and the design has 64 already",
+        todo: "put modules that belong together into one file",
     },
 ];
 

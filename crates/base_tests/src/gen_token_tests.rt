@@ -259,7 +259,7 @@ fn are(tokens: &[Placed<'_>], wanted: &[(u32, Token<'_>)]) -> bool {
 fn a_text_has_its_tokens(rt: HostRuntime) -> Result<(), Fail> {
     for (i, (text, wanted)) in READINGS.iter().enumerate() {
         assert!(rt; text.len() < 1000);
-        let Ok(tokens) = tokens_of(rt.alloc(), text) else {
+        let Ok(tokens) = tokens_of(rt.alloc(), 0, text) else {
             return Err("the text has tokens".into());
         };
         assert!(rt; are(&tokens, wanted), "case {i}");
@@ -271,7 +271,7 @@ fn a_text_has_its_tokens(rt: HostRuntime) -> Result<(), Fail> {
 fn a_text_has_its_first_bad_line(rt: HostRuntime) {
     for (i, (text, line)) in BAD.iter().enumerate() {
         assert!(rt; text.len() < 1000);
-        let read = tokens_of(rt.alloc(), text);
+        let read = tokens_of(rt.alloc(), 0, text);
         let is = matches!(read, Err(TokenFault::BadToken { line: at }) if at == *line);
         assert!(rt; is, "case {i}");
     }

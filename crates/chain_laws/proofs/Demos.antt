@@ -10,8 +10,9 @@ use Rattle.listen.specs.Pairs.{Heard}
 use Rattle.design_core.specs.declared.Ports.{Ports}
 use Rattle.design_core.specs.Design.{Design}
 use Rattle.stim_text.specs.declared.StimFault.{StimFault}
-use Rattle.design_judge.specs.Judgement.{IsAccepted, ArePortsOf}
+use Rattle.design_judge.specs.Judgement.{AreOfText, IsAccepted, ArePortsOf}
 use Rattle.design_judge.proofs.OneJudgement.{not_both}
+use Rattle.design_judge.proofs.OneReading.{one_text}
 use Rattle.trim_laws.specs.Runs.{RunsOver}
 use Rattle.trim_laws.proofs.Running.{designs_run}
 use Rattle.machine_core.proofs.Readers.{some_reader}
@@ -31,7 +32,7 @@ inputs_are k ports are = are.inputs ∙ chain_inputs k
 rows_for : (k : ℕ) → suc k ≤ 4000 → (ports : Ports) → ArePortsOf (chain_design k) ports → HasRows ports (Ok chain_rows)
 rows_for k h ports are = let count : ports.registers ≡ suc k = are.registers ∙ chain_registers k in chain_rows_are ports (inputs_are k ports are) (omega arith)
 
-has_rows : (k : ℕ) → suc k ≤ 4000 → (d : Design) → IsAccepted (chain_top (suc k)) chain_source d → (ports : Ports) → ArePortsOf d ports → HasRows ports (Ok chain_rows)
+has_rows : (k : ℕ) → suc k ≤ 4000 → (d : Design) → IsAccepted (chain_top (suc k)) (AreOfText chain_source) d → (ports : Ports) → ArePortsOf d ports → HasRows ports (Ok chain_rows)
 has_rows k h d a ports are = rows_for k h ports (subst (λ (e : Design). ArePortsOf e ports) (only_chain k h d a) are)
 
 pub stimuli_are_accepted : StimuliAreAccepted
@@ -41,11 +42,11 @@ stimuli_are_accepted (suc k) h d a ports are = (chain_rows, has_rows k h.few d a
 -- ---- no refusal
 
 no_design_refused : (k : ℕ) → suc k ≤ 4000 → (given : Given) → given.number ≡ suc k → (status : ℕ) (text : List ℕ) → RefusesDesign given status text → ⊥
-no_design_refused k h given e status text r = not_both (chain_top given.number) chain_source (chain_design k) r.fault (subst (λ (n : ℕ). IsAccepted (chain_top n) chain_source (chain_design k)) (sym e) (chain_is_accepted k h)) r.refused
+no_design_refused k h given e status text r = not_both (chain_top given.number) (AreOfText chain_source) (one_text chain_source) (chain_design k) r.fault (subst (λ (n : ℕ). IsAccepted (chain_top n) (AreOfText chain_source) (chain_design k)) (sym e) (chain_is_accepted k h)) r.refused
 
 no_stimulus_refused : (k : ℕ) → suc k ≤ 4000 → (given : Given) → given.number ≡ suc k → (status : ℕ) (text : List ℕ) → RefusesStimulus given status text → ⊥
 no_stimulus_refused k h given e status text r =
-    let there = has_rows k h r.design (subst (λ (n : ℕ). IsAccepted (chain_top n) chain_source r.design) e r.accepted) r.ports r.are in
+    let there = has_rows k h r.design (subst (λ (n : ℕ). IsAccepted (chain_top n) (AreOfText chain_source) r.design) e r.accepted) r.ports r.are in
     let same : ◌≡◌ {A = Result (List (List Bits)) StimFault} (Ok chain_rows) (Err r.fault) = sym there ∙ r.refused in
     cc
 
@@ -101,7 +102,7 @@ chain_held k h driven requests = record {
   reader = some_reader.0;
 }
 
-shows_line : (heard : List Heard) (files : Contents) (given : Given) (requests : List ℕ) (k : ℕ) (h : suc k ≤ 4000) → (accepted : IsAccepted (chain_top given.number) chain_source (chain_design k))
+shows_line : (heard : List Heard) (files : Contents) (given : Given) (requests : List ℕ) (k : ℕ) (h : suc k ≤ 4000) → (accepted : IsAccepted (chain_top given.number) (AreOfText chain_source) (chain_design k))
     → files given.requests ≡ Some requests → length requests ≤ most_requests
     → ShowsLine heard files given 0 (line_of heard given (chain_held k h (length accepted.1.pairs) requests))
 unfolding chain_held
@@ -120,7 +121,7 @@ shows_line heard files given requests k h accepted f l = record {
   text_is = refl;
 }
 
-refuses_requests : (files : Contents) (given : Given) (requests : List ℕ) (k : ℕ) (h : suc k ≤ 4000) → IsAccepted (chain_top given.number) chain_source (chain_design k)
+refuses_requests : (files : Contents) (given : Given) (requests : List ℕ) (k : ℕ) (h : suc k ≤ 4000) → IsAccepted (chain_top given.number) (AreOfText chain_source) (chain_design k)
     → files given.requests ≡ Some requests → most_requests < length requests → RefusesRequests files given 6 requests_fault
 refuses_requests files given requests k h accepted f l = record {
   design = chain_design k;
@@ -136,7 +137,7 @@ refuses_requests files given requests k h accepted f l = record {
 
 -- ---- the requests decide
 
-text_there : (heard : List Heard) (files : Contents) (given : Given) (requests : List ℕ) (k : ℕ) (h : suc k ≤ 4000) → IsAccepted (chain_top given.number) chain_source (chain_design k)
+text_there : (heard : List Heard) (files : Contents) (given : Given) (requests : List ℕ) (k : ℕ) (h : suc k ≤ 4000) → IsAccepted (chain_top given.number) (AreOfText chain_source) (chain_design k)
     → files given.requests ≡ Some requests → (b : Bool) → nat_le (length requests) most_requests ≡ b → (text : List ℕ) × AsksDemo heard files given (if b then 0 else 6) text
 text_there heard files given requests k h accepted f true e = (line_of heard given (chain_held k h (length accepted.1.pairs) requests), Accepted (shows_line heard files given requests k h accepted f (grind (arith, nat_tests))))
 text_there heard files given requests k h accepted f false e = (requests_fault, NoRequests (refuses_requests files given requests k h accepted f (grind (arith, nat_tests))))
@@ -164,7 +165,7 @@ pub requests_decide : RequestsDecide
 requests_decide heard files given requests h f =
     let at = more_than_none given.number h in
     let few : suc at.0 ≤ 4000 = omega arith in
-    let accepted : IsAccepted (chain_top given.number) chain_source (chain_design at.0) = subst (λ (n : ℕ). IsAccepted (chain_top n) chain_source (chain_design at.0)) (sym at.1) (chain_is_accepted at.0 few) in
+    let accepted : IsAccepted (chain_top given.number) (AreOfText chain_source) (chain_design at.0) = subst (λ (n : ℕ). IsAccepted (chain_top n) (AreOfText chain_source) (chain_design at.0)) (sym at.1) (chain_is_accepted at.0 few) in
     record {
       text = text_there heard files given requests at.0 few accepted f (nat_le (length requests) most_requests) refl;
       only = only_status heard files given requests at.0 few at.1 f (nat_le (length requests) most_requests) refl;

@@ -3,9 +3,9 @@ use Rattle.std.proofs.Common.{◌≡◌, ℕ, Bool, true, false, List, [], ◌�
 use Rattle.std.specs.Prelude.{codes}
 use Rattle.gen_tree.specs.declared.IntOp.TheVariants as int_op
 use Rattle.gen_tree.specs.declared.Op.TheVariants as op
-use Rattle.gen_tree.specs.Tree.{Int, num, var, bin, Fam, plain, Expr, read, out, value, binary, slice, assign, choose, Stmts, no_stmt, stmt, no_else, Item, reg, inst, comb, ff, repeat_items, Items, no_item, item, Port, Module}
+use Rattle.gen_tree.specs.Tree.{Int, num, var, bin, Fam, plain, Expr, read, out, value, binary, slice, assign, choose, Stmts, no_stmt, stmt, no_else, Item, reg, inst, comb, ff, repeat_items, Items, no_item, item, Port, Module, Source}
 use Rattle.gen_text.specs.Source.{Reads}
-use Rattle.gen_text.specs.Reading.{source_by, source_at, module_at, item_at, stmt_at, arms_at, expr_at, int_at, each_by, until_by}
+use Rattle.gen_text.specs.Reading.{modules_by, source_at, module_at, import_at, item_at, stmt_at, arms_at, expr_at, int_at, each_by, until_by}
 use Rattle.gen_text.proofs.Law.{read_found}
 use Rattle.demo_run.specs.Chain.{chain_source}
 use Rattle.chain_laws.proofs.Tokens.{chain_tokens, chain_tokens_are}
@@ -80,15 +80,19 @@ chain_modules = cell_module ∷ top_module ∷ []
 
 -- ---- the text is read so
 
-found : source_at 64 chain_tokens ≡ Ok chain_modules
-unfolding source_by module_at item_at stmt_at arms_at expr_at int_at each_by until_by
+-- the source that the text is
+abbrev pub chain_tree : Source
+chain_tree = record { imports = []; modules = chain_modules }
+
+found : source_at 64 chain_tokens ≡ Ok chain_tree
+unfolding modules_by module_at import_at item_at stmt_at arms_at expr_at int_at each_by until_by
 found = refl
 
-pub chain_is_read : Reads chain_source chain_modules
+pub chain_is_read : Reads 0 chain_source chain_tree
 chain_is_read = record {
-  source = record { fits = lit≤ tt; bytes = refl };
+  is_text = record { fits = lit≤ tt; bytes = refl };
   tokens = chain_tokens;
   are = chain_tokens_are;
-  spelled = (read_found 64 chain_tokens chain_modules found).0;
-  within = (read_found 64 chain_tokens chain_modules found).1;
+  spelled = (read_found 64 chain_tokens chain_tree found).0;
+  within = (read_found 64 chain_tokens chain_tree found).1;
 }

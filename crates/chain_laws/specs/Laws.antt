@@ -4,7 +4,7 @@ use Rattle.bv_core.specs.Value.{Bits}
 use Rattle.listen.specs.Pairs.{Heard}
 use Rattle.design_core.specs.declared.Ports.{Ports}
 use Rattle.design_core.specs.Design.{Design}
-use Rattle.design_judge.specs.Judgement.{IsAccepted, ArePortsOf}
+use Rattle.design_judge.specs.Judgement.{AreOfText, IsAccepted, ArePortsOf}
 use Rattle.batch_run.specs.Texts.{most_requests}
 use Rattle.demo_run.specs.Chain.{chain_source, chain_top}
 use Rattle.demo_run.specs.Asked.{Given, Contents, HasRows, AsksDemo, EndsAsAsked}
@@ -16,12 +16,12 @@ pub record IsCellCount (n : ℕ) : Type 0 where
 
 -- the source of the chain is accepted as a design
 abbrev pub ChainsAreAccepted : Type 0
-ChainsAreAccepted = (n : ℕ) → IsCellCount n → (d : Design) × IsAccepted (chain_top n) chain_source d
+ChainsAreAccepted = (n : ℕ) → IsCellCount n → (d : Design) × IsAccepted (chain_top n) (AreOfText chain_source) d
 
 -- and the stimulus has rows for the ports of that design
 abbrev pub StimuliAreAccepted : Type 0
 StimuliAreAccepted =
-    (n : ℕ) → IsCellCount n → (d : Design) → IsAccepted (chain_top n) chain_source d → (ports : Ports) → ArePortsOf d ports → (rows : List (List Bits)) × HasRows ports (Ok rows)
+    (n : ℕ) → IsCellCount n → (d : Design) → IsAccepted (chain_top n) (AreOfText chain_source) d → (ports : Ports) → ArePortsOf d ports → (rows : List (List Bits)) × HasRows ports (Ok rows)
 
 -- the status that a demo with these requests asks for: 6 where they are too long, else 0
 abbrev pub status_for : List ℕ → ℕ

@@ -13,7 +13,9 @@ use Rattle.trim_laws.proofs.Orders.{one_length}
 use Rattle.design_judge.specs.declared.DesignFault.{DesignFault}
 use Rattle.design_judge.specs.declared.DesignFault.TheVariants.{CombLoop}
 use Rattle.design_judge.specs.Refusals.{design_line, stimulus_line}
-use Rattle.design_judge.specs.Judgement.{Describes, IsAccepted, IsRefused, ArePortsOf}
+use Rattle.project_read.specs.Projects.{IsProject}
+use Rattle.project_read.proofs.OneProject.{one_project}
+use Rattle.design_judge.specs.Judgement.{ArePortsOf}
 use Rattle.design_judge.proofs.OneJudgement.{one_design, one_judgement, not_both}
 use Rattle.design_judge.proofs.OnePorts.{one_ports}
 use Rattle.dbg_app.specs.Command.{Task, Command}
@@ -40,14 +42,12 @@ ok_err rows fault e = cc
 -- a source is one design
 pub same_design : (files : Contents) (command : Command) (d e : Design) → HoldsDesign files command d → HoldsDesign files command e → d ≡ e
 same_design files command d e a b =
-    let source : a.source ≡ b.source = some_one (files command.source) a.source b.source a.found b.found in
-    one_design command.top b.source d e (subst (λ (s : List ℕ). Describes command.top s d) source a.accepted.0) b.accepted.0
+    one_design command.top (IsProject files command.source) (one_project files command.source) d e a.accepted.0 b.accepted.0
 
 -- what is refused is no accepted design
 no_design : (files : Contents) (command : Command) (a : Answer) → RefusesDesign files command a → (d : Design) → HoldsDesign files command d → ⊥
 no_design files command a r d h =
-    let source : h.source ≡ r.source = some_one (files command.source) h.source r.source h.found r.found in
-    not_both command.top r.source d r.fault (subst (λ (s : List ℕ). IsAccepted command.top s d) source h.accepted) r.refused
+    not_both command.top (IsProject files command.source) (one_project files command.source) d r.fault h.accepted r.refused
 
 -- a stimulus is one thing for ports
 pub same_rows : (files : Contents) (p q : Ports) (name : Option (List ℕ)) (x y : Rows) → p ≡ q → HoldsRows files p name x → HoldsRows files q name y → x ≡ y
@@ -149,20 +149,17 @@ work_taken heard files command work asked old new w s taken =
 -- the line of a refusal, where another is asked for, is of the same cause, or of another loop
 refusal_taken : (files : Contents) (command : Command) (given asked : Answer) (old new : Option (List ℕ)) → (r : RefusesDesign files command given) → (s : RefusesDesign files command asked) → Appends old new given.text → TakesAnswer files command asked old new
 refusal_taken files command given asked old new r s t =
-    elim (one_judgement command.top s.source (Err r.fault) (Err s.fault) refused s.refused) [
+    elim (one_judgement command.top (IsProject files command.source) (one_project files command.source) (Err r.fault) (Err s.fault) r.refused s.refused) [
       | inl both ↦ inl (subst (λ (text : List ℕ). Appends old new text) (answer_text given _ r.is ∙ ap design_line (one_err r.fault s.fault both) ∙ sym (answer_text asked _ s.is)) t)
       | inr loops ↦ inr (record {
         design = loops.design;
-        asked = record { source = s.source; found = s.found; paths = loops.others; loop = loops.other; is = s.is ∙ ap (λ (f : DesignFault). record { status = 3; text = design_line f }) (one_err s.fault (CombLoop loops.others) loops.second) };
+        asked = record { paths = loops.others; loop = loops.other; is = s.is ∙ ap (λ (f : DesignFault). record { status = 3; text = design_line f }) (one_err s.fault (CombLoop loops.others) loops.second) };
         other = given;
-        also_asked = record { source = s.source; found = s.found; paths = loops.paths; loop = loops.one; is = r.is ∙ ap (λ (f : DesignFault). record { status = 3; text = design_line f }) (one_err r.fault (CombLoop loops.paths) loops.first) };
+        also_asked = record { paths = loops.paths; loop = loops.one; is = r.is ∙ ap (λ (f : DesignFault). record { status = 3; text = design_line f }) (one_err r.fault (CombLoop loops.paths) loops.first) };
         taken = t;
       })
     ]
   where
-    refused : IsRefused command.top s.source r.fault
-    refused = subst (λ (t : List ℕ). IsRefused command.top t r.fault) (some_one (files command.source) r.source s.source r.found s.found) r.refused
-
     one_err : (a b : DesignFault) → ◌≡◌ {A = Result Design DesignFault} (Err a) (Err b) → a ≡ b
     one_err a b e = cc
 

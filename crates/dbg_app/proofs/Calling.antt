@@ -8,12 +8,13 @@ use Rattle.replay_run.specs.Asked as replay
 use Rattle.replay_run.specs.Asked.{Names}
 use Rattle.demo_run.specs.Asked as demo
 use Rattle.demo_run.specs.Asked.{Given}
-use Rattle.dbg_app.specs.Command.{Command, command_of, names_of}
+use Rattle.dbg_app.specs.Command.{Command, command_of}
+use Rattle.dbg_app.specs.Names as by_design
 use Rattle.dbg_app.specs.Answers.{Contents, IfAsked}
 use Rattle.dbg_app.specs.Outcome as outcome
 use Rattle.dbg_app.specs.Outcome.{is_status, is_status_for, TakesDesignLine, TakesStimulusLine}
 use Rattle.dbg_app.specs.Compiled.{CompilesCommand}
-use Rattle.dbg_app.specs.Call.{Call, ByDesign, ByTrace, ByChain, replay_of, demo_of, call_by, call_of, files_of, IfCalled, is_run_status, is_status_of, AsksByStatus, Compiles}
+use Rattle.dbg_app.specs.Call.{Call, ByDesign, ByTrace, ByChain, replay_of, demo_of, call_by, call_of, IfCalled, is_run_status, is_status_of, AsksFrontOf, StopsInsideOf, AsksByStatus, Compiles}
 
 -- ---- statuses
 
@@ -93,8 +94,8 @@ by_told (Some files) names P h = h
 pub trace_called : (told : Option Contents) (words : List (List ℕ)) (names : Names) (P : Contents → Call → Type 0) → Some names ≡ replay_of words → IfSome told (λ files. P files (ByTrace names)) → IfCalled told (call_of words) P
 trace_called told words names P e h = subst (λ (call : Option Call). IfCalled told call P) (sym (trace_call words names e)) (by_told told names P h)
 
-pub trace_files : (words : List (List ℕ)) (names : Names) (old new : Option (List (List ℕ))) → Some names ≡ replay_of words → AppendsFront old new (replay.names_of names) → AppendsFront old new (files_of (call_of words))
-trace_files words names old new e h = subst (λ (call : Option Call). AppendsFront old new (files_of call)) (sym (trace_call words names e)) h
+pub trace_files : (told : Option Contents) (words : List (List ℕ)) (names : Names) (old new : Option (List (List ℕ))) → Some names ≡ replay_of words → AppendsFront old new (replay.names_of names) → AsksFrontOf told (call_of words) old new
+trace_files told words names old new e h = subst (λ (call : Option Call). AsksFrontOf told call old new) (sym (trace_call words names e)) h
 
 -- ---- the words of a demo
 
@@ -111,8 +112,8 @@ by_given (Some files) given P h = h
 pub chain_called : (told : Option Contents) (words : List (List ℕ)) (given : Given) (P : Contents → Call → Type 0) → None ≡ replay_of words → Some given ≡ demo_of words → IfSome told (λ files. P files (ByChain given)) → IfCalled told (call_of words) P
 chain_called told words given P n e h = subst (λ (call : Option Call). IfCalled told call P) (sym (chain_call words given n e)) (by_given told given P h)
 
-pub chain_files : (words : List (List ℕ)) (given : Given) (old new : Option (List (List ℕ))) → None ≡ replay_of words → Some given ≡ demo_of words → AppendsFront old new (given.requests ∷ []) → AppendsFront old new (files_of (call_of words))
-chain_files words given old new n e h = subst (λ (call : Option Call). AppendsFront old new (files_of call)) (sym (chain_call words given n e)) h
+pub chain_files : (told : Option Contents) (words : List (List ℕ)) (given : Given) (old new : Option (List (List ℕ))) → None ≡ replay_of words → Some given ≡ demo_of words → AppendsFront old new (given.requests ∷ []) → AsksFrontOf told (call_of words) old new
+chain_files told words given old new n e h = subst (λ (call : Option Call). AsksFrontOf told call old new) (sym (chain_call words given n e)) h
 
 pub chain_design_line : (old new : Option (List ℕ)) → demo.TakesDesignLine old new → TakesDesignLine old new
 chain_design_line old new t = record { fault = t.fault; refuses = t.refuses; taken = t.taken }
@@ -143,12 +144,12 @@ by_command (Some files) (Some command) P h = h
 pub design_called : (told : Option Contents) (words : List (List ℕ)) (P : Contents → Call → Type 0) → None ≡ replay_of words → None ≡ demo_of words → IfAsked told (command_of words) (λ files command. P files (ByDesign command)) → IfCalled told (call_of words) P
 design_called told words P n e h = subst (λ (call : Option Call). IfCalled told call P) (sym (design_call words n e)) (by_command told (command_of words) P h)
 
-files_are : (command : Option Command) → files_of (option_map ByDesign command) ≡ names_of command
-files_are None = refl
-files_are (Some command) = refl
+front_is : (told : Option Contents) (command : Option Command) (old new : Option (List (List ℕ))) → by_design.AsksFrontOf told command old new → AsksFrontOf told (option_map ByDesign command) old new
+front_is told None old new h = h
+front_is told (Some command) old new h = h
 
-pub design_files : (words : List (List ℕ)) (old new : Option (List (List ℕ))) → None ≡ replay_of words → None ≡ demo_of words → AppendsFront old new (names_of (command_of words)) → AppendsFront old new (files_of (call_of words))
-design_files words old new n e h = subst (AppendsFront old new) (sym (ap files_of (design_call words n e) ∙ files_are (command_of words))) h
+pub design_files : (told : Option Contents) (words : List (List ℕ)) (old new : Option (List (List ℕ))) → None ≡ replay_of words → None ≡ demo_of words → by_design.AsksFrontOf told (command_of words) old new → AsksFrontOf told (call_of words) old new
+design_files told words old new n e h = subst (λ (call : Option Call). AsksFrontOf told call old new) (sym (design_call words n e)) (front_is told (command_of words) old new h)
 
 -- ---- the status, and the files that were asked for, by the words
 
@@ -165,32 +166,35 @@ row_is (Some command) status h = h
 pub design_row : (words : List (List ℕ)) (status : ℕ) → None ≡ replay_of words → None ≡ demo_of words → IsTrue (is_status_for (command_of words) status) → IsTrue (is_status_of (call_of words) status)
 design_row words status n e h = subst (λ (call : Option Call). IsTrue (is_status_of call status)) (sym (design_call words n e)) (row_is (command_of words) status h)
 
-pub trace_asked : (words : List (List ℕ)) (names : Names) (status : ℕ) (a b : Option (List (List ℕ))) (old new : Option (List ℕ)) → Some names ≡ replay_of words → replay.AsksByStatus names status a b old new → AsksByStatus (call_of words) status a b old new
-trace_asked words names status a b old new e h = subst (λ (call : Option Call). AsksByStatus call status a b old new) (sym (trace_call words names e)) h
+pub trace_asked : (told : Option Contents) (words : List (List ℕ)) (names : Names) (status : ℕ) (a b : Option (List (List ℕ))) (old new : Option (List ℕ)) → Some names ≡ replay_of words → replay.AsksByStatus names status a b old new
+    → AsksByStatus told (call_of words) status a b old new
+trace_asked told words names status a b old new e h = subst (λ (call : Option Call). AsksByStatus told call status a b old new) (sym (trace_call words names e)) h
 
-pub chain_asked : (words : List (List ℕ)) (given : Given) (status : ℕ) (a b : Option (List (List ℕ))) (old new : Option (List ℕ)) → None ≡ replay_of words → Some given ≡ demo_of words → demo.AsksByStatus given status a b
-    → AsksByStatus (call_of words) status a b old new
-chain_asked words given status a b old new n e h = subst (λ (call : Option Call). AsksByStatus call status a b old new) (sym (chain_call words given n e)) h
+pub chain_asked : (told : Option Contents) (words : List (List ℕ)) (given : Given) (status : ℕ) (a b : Option (List (List ℕ))) (old new : Option (List ℕ)) → None ≡ replay_of words → Some given ≡ demo_of words → demo.AsksByStatus given status a b
+    → AsksByStatus told (call_of words) status a b old new
+chain_asked told words given status a b old new n e h = subst (λ (call : Option Call). AsksByStatus told call status a b old new) (sym (chain_call words given n e)) h
 
-asked_is : (command : Option Command) (status : ℕ) (a b : Option (List (List ℕ))) (old new : Option (List ℕ)) → outcome.AsksByStatus command status a b → AsksByStatus (option_map ByDesign command) status a b old new
-asked_is None status a b old new h = h
-asked_is (Some command) status a b old new h = h
+asked_is : (told : Option Contents) (command : Option Command) (status : ℕ) (a b : Option (List (List ℕ))) (old new : Option (List ℕ)) → outcome.AsksByStatus told command status a b → AsksByStatus told (option_map ByDesign command) status a b old new
+asked_is told None status a b old new h = h
+asked_is told (Some command) status a b old new h = h
 
-pub design_asked : (words : List (List ℕ)) (status : ℕ) (a b : Option (List (List ℕ))) (old new : Option (List ℕ)) → None ≡ replay_of words → None ≡ demo_of words → outcome.AsksByStatus (command_of words) status a b
-    → AsksByStatus (call_of words) status a b old new
-design_asked words status a b old new n e h = subst (λ (call : Option Call). AsksByStatus call status a b old new) (sym (design_call words n e)) (asked_is (command_of words) status a b old new h)
+pub design_asked : (told : Option Contents) (words : List (List ℕ)) (status : ℕ) (a b : Option (List (List ℕ))) (old new : Option (List ℕ)) → None ≡ replay_of words → None ≡ demo_of words → outcome.AsksByStatus told (command_of words) status a b
+    → AsksByStatus told (call_of words) status a b old new
+design_asked told words status a b old new n e h = subst (λ (call : Option Call). AsksByStatus told call status a b old new) (sym (design_call words n e)) (asked_is told (command_of words) status a b old new h)
 
-pub trace_unread : {S : Type 0} (asked : S → Option (List (List ℕ))) (faults : S → ℕ) (old new : S) (words : List (List ℕ)) (names : Names) → Some names ≡ replay_of words → StopsAt asked faults old new (replay.names_of names)
-    → StopsAt asked faults old new (files_of (call_of words))
-trace_unread asked faults old new words names e h = subst (λ (call : Option Call). StopsAt asked faults old new (files_of call)) (sym (trace_call words names e)) h
+module _ {S : Type 0} (asked : S → Option (List (List ℕ))) (faults : S → ℕ) (told : Option Contents) (old new : S) (words : List (List ℕ)) where
+  pub trace_unread : (names : Names) → Some names ≡ replay_of words → StopsAt asked faults old new (replay.names_of names) → StopsInsideOf told (call_of words) asked faults old new
+  trace_unread names e h = subst (λ (call : Option Call). StopsInsideOf told call asked faults old new) (sym (trace_call words names e)) h
 
-pub chain_unread : {S : Type 0} (asked : S → Option (List (List ℕ))) (faults : S → ℕ) (old new : S) (words : List (List ℕ)) (given : Given) → None ≡ replay_of words → Some given ≡ demo_of words → StopsAt asked faults old new (given.requests ∷ [])
-    → StopsAt asked faults old new (files_of (call_of words))
-chain_unread asked faults old new words given n e h = subst (λ (call : Option Call). StopsAt asked faults old new (files_of call)) (sym (chain_call words given n e)) h
+  pub chain_unread : (given : Given) → None ≡ replay_of words → Some given ≡ demo_of words → StopsAt asked faults old new (given.requests ∷ []) → StopsInsideOf told (call_of words) asked faults old new
+  chain_unread given n e h = subst (λ (call : Option Call). StopsInsideOf told call asked faults old new) (sym (chain_call words given n e)) h
 
-pub design_unread : {S : Type 0} (asked : S → Option (List (List ℕ))) (faults : S → ℕ) (old new : S) (words : List (List ℕ)) → None ≡ replay_of words → None ≡ demo_of words → StopsAt asked faults old new (names_of (command_of words))
-    → StopsAt asked faults old new (files_of (call_of words))
-design_unread asked faults old new words n e h = subst (StopsAt asked faults old new) (sym (ap files_of (design_call words n e) ∙ files_are (command_of words))) h
+  unread_is : (command : Option Command) → by_design.StopsInsideOf told command asked faults old new → StopsInsideOf told (option_map ByDesign command) asked faults old new
+  unread_is None h = h
+  unread_is (Some command) h = h
+
+  pub design_unread : None ≡ replay_of words → None ≡ demo_of words → by_design.StopsInsideOf told (command_of words) asked faults old new → StopsInsideOf told (call_of words) asked faults old new
+  design_unread n e h = subst (λ (call : Option Call). StopsInsideOf told call asked faults old new) (sym (design_call words n e)) (unread_is (command_of words) h)
 
 -- ---- the net and the table behind what was written
 

@@ -13,7 +13,7 @@ use Rattle.design_core.specs.DesignView.{design_of}
 use Rattle.design_judge.specs.declared.Accepted.{Accepted}
 use Rattle.design_judge.specs.Refusals.{stimulus_line}
 use Rattle.design_judge.specs.Accepting.{IsKept, accepting_of}
-use Rattle.design_judge.specs.Judging.{JudgesSource, JudgesStimulus, IsWhole}
+use Rattle.design_judge.specs.Judging.{JudgesFiles, JudgesStimulus, IsWhole}
 use Rattle.dbg_app.specs.Command.{Session, Command}
 use Rattle.dbg_app.specs.Asked.{alone_as, over_as}
 use Rattle.batch_run.specs.Texts.{requests_fault}
@@ -52,25 +52,25 @@ alone_runs task mode a kept =
 
 -- the source is this design, and nothing more is asked
 pub alone_held : (told : Option Contents) (command : Command) (task : OfDesign) (mode : Mode) (a : Accepted) → alone_as task ≡ command.task → mode ≡ command.mode → command.stimulus ≡ None → command.requests ≡ None → IsKept (accepting_of a)
-    → IfSome told (λ files. JudgesSource (files command.source) command.top (Ok a)) → IfSome told (λ files. HoldsWork files command (alone task mode a))
+    → IfSome told (λ files. JudgesFiles files command.source command.top (Ok a)) → IfSome told (λ files. HoldsWork files command (alone task mode a))
 alone_held None command task mode a t m none bare kept s = tt
 alone_held (Some files) command task mode a t m none bare kept s =
-    record { task = t; mode = m; kept = kept; design = record { source = s.0; found = s.1; accepted = s.2 }; rows = rw none refl; requests = rw bare refl }
+    record { task = t; mode = m; kept = kept; design = record { accepted = s }; rows = rw none refl; requests = rw bare refl }
 
 -- the source is this design, and the stimulus has these rows for it
 pub over_held : (told : Option Contents) (command : Command) (name : List ℕ) (task : OverRows) (mode : Mode) (a : Accepted) (stim : Stimulus) → over_as task ≡ command.task → mode ≡ command.mode → command.stimulus ≡ Some name → command.requests ≡ None → IsKept (accepting_of a)
-    → IfSome told (λ files. JudgesSource (files command.source) command.top (Ok a)) → IfSome told (λ files. JudgesStimulus (files name) a.ports (Ok stim)) → IfSome told (λ files. HoldsWork files command (over task mode a stim))
+    → IfSome told (λ files. JudgesFiles files command.source command.top (Ok a)) → IfSome told (λ files. JudgesStimulus (files name) a.ports (Ok stim)) → IfSome told (λ files. HoldsWork files command (over task mode a stim))
 over_held None command name task mode a stim t m named bare kept s r = tt
 over_held (Some files) command name task mode a stim t m named bare kept s r =
-    record { task = t; mode = m; kept = kept; design = record { source = s.0; found = s.1; accepted = s.2 }; rows = rw named r; requests = rw bare refl }
+    record { task = t; mode = m; kept = kept; design = record { accepted = s }; rows = rw named r; requests = rw bare refl }
 
 -- the source is this design, and the stimulus is refused for it
 pub over_refused : (told : Option Contents) (command : Command) (name : List ℕ) (a : Accepted) (fault : StimFault) → command.stimulus ≡ Some name → IsKept (accepting_of a)
-    → IfSome told (λ files. JudgesSource (files command.source) command.top (Ok a)) → IfSome told (λ files. JudgesStimulus (files name) a.ports (Err fault))
+    → IfSome told (λ files. JudgesFiles files command.source command.top (Ok a)) → IfSome told (λ files. JudgesStimulus (files name) a.ports (Err fault))
     → IfSome told (λ files. RefusesStimulus files command (record { status = 4; text = stimulus_line fault }))
 over_refused None command name a fault named kept s r = tt
 over_refused (Some files) command name a fault named kept s r =
-    record { design = design_of a.design; holds = record { source = s.0; found = s.1; accepted = s.2 }; ports = a.ports; are = kept.ports; fault = fault; refused = rw named r; is = refl }
+    record { design = design_of a.design; holds = record { accepted = s }; ports = a.ports; are = kept.ports; fault = fault; refused = rw named r; is = refl }
 
 -- ---- the same of a session, where the source was judged before
 
@@ -95,9 +95,9 @@ requests_refused (Some files) command name other a stim named asked kept r q =
     λ design. record { design = design_of a.design; holds = design; ports = a.ports; are = kept.ports; rows = stim.rows; stimulus = rw named r; refused = rw asked q; is = refl }
 
 -- what a source was judged to be is held
-pub source_held : (told : Option Contents) (command : Command) (a : Accepted) → IfSome told (λ files. JudgesSource (files command.source) command.top (Ok a)) → IfSome told (λ files. HoldsDesign files command (design_of a.design))
+pub source_held : (told : Option Contents) (command : Command) (a : Accepted) → IfSome told (λ files. JudgesFiles files command.source command.top (Ok a)) → IfSome told (λ files. HoldsDesign files command (design_of a.design))
 source_held None command a s = tt
-source_held (Some files) command a s = record { source = s.0; found = s.1; accepted = s.2 }
+source_held (Some files) command a s = record { accepted = s }
 
 -- what was judged so where the source holds a design is judged so
 judged_of_held : (told : Option Contents) (command : Command) (d : Design) (judged : Judged) → IfSome told (λ files. HoldsDesign files command d) → IfSome told (λ files. HoldsDesign files command d → Judges files command judged)

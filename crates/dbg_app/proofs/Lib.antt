@@ -4,6 +4,7 @@ mod Statuses
 mod Compiling
 mod Writing
 pub mod Asking
+mod Names
 mod Judging
 mod Given
 pub mod Offering

@@ -1,6 +1,6 @@
 -- What was judged of the files of a service is what they hold.
-use Rattle.std.proofs.Common.{◌≡◌, ◌<◌, ◌≤◌, ◌⊎◌, inl, inr, ◌||◌, ◌==◌, ℕ, List, [], ◌∷◌, ◌++◌, Option, Some, None, Ok, length, refl, sym, ◌∙◌, ap, subst, IfSome, IsTrue, arith}
-use Rattle.io_edge.specs.Taken.{Appends, Grows}
+use Rattle.std.proofs.Common.{◌≡◌, ◌<◌, ◌≤◌, ◌⊎◌, inl, inr, ◌||◌, ◌==◌, ℕ, List, [], ◌++◌, Option, Some, None, Ok, length, refl, sym, ◌∙◌, ap, subst, IfSome, IsTrue, arith}
+use Rattle.io_edge.specs.Taken.{Grows}
 use Rattle.io_edge.proofs.Stops.{nothing_more, grows_whole, grows_front}
 use Rattle.bv_core.specs.Value.{Bits}
 use Rattle.design_core.specs.DesignView.{design_of}
@@ -9,15 +9,18 @@ use Rattle.stim_text.specs.Rows.{rows_of}
 use Rattle.design_judge.specs.Accepting.{IsKept, accepting_of}
 use Rattle.serve_net.specs.declared.service.Service.{Service}
 use Rattle.serve_net.specs.Over.{Over, Shows}
-use Rattle.dbg_app.specs.Command.{Command, file_names, names_of}
+use Rattle.std.specs.Prelude.{option_map}
+use Rattle.std.proofs.lemmas.List.{append-nil}
+use Rattle.dbg_app.specs.Command.{Command, file_names, rest_names}
+use Rattle.dbg_app.specs.Names.{AsksFrontOf, StopsInsideOf, AsksBehind}
 use Rattle.dbg_app.specs.Answers.{Contents, HoldsDesign}
-use Rattle.dbg_app.specs.Offer.{Offer, offer_of, IfOffered}
+use Rattle.dbg_app.specs.Offer.{Offer, offer_of, offer_files, IfOffered}
 use Rattle.listen.specs.Pairs.{Heard}
 use Rattle.link_edge.specs.Links.{Meaning}
 use Rattle.duo_run.specs.declared.served.Served.{Served}
 use Rattle.serve_net.specs.Service.{AsksNone, ServesAll, ServesSome, is_end_status}
 use Rattle.dbg_app.specs.Answers.{IfAsked}
-use Rattle.dbg_app.specs.Judged.{Judges, HasText, TakesText, TakesTextFront, asked_behind, asked_for, judged_status}
+use Rattle.dbg_app.specs.Judged.{AsksOwn, Judges, HasText, TakesText, TakesTextFront, judged_status}
 use Rattle.dbg_app.specs.Outcome.{is_status, EndsAsAsked, TakesSome, Completes}
 use Rattle.dbg_app.specs.declared.judge.Judged.{Judged}
 use Rattle.dbg_app.specs.declared.shown.Shown.TheVariants as shown
@@ -132,40 +135,46 @@ module _ (offer : Offer) (status : ℕ) (old new : Option (List ℕ)) (read_rose
 
 -- ---- the files that were asked for
 
-pub no_files : (words : List (List ℕ)) (status : ℕ) (asked : Option (List (List ℕ))) → None ≡ offer_of words → AsksByStatus (offer_of words) status asked asked
-no_files words status asked e = subst (λ (o : Option Offer). AsksByStatus o status asked asked) e (nothing_more asked)
+pub no_files : (told : Option Contents) (words : List (List ℕ)) (status : ℕ) (asked : Option (List (List ℕ))) → None ≡ offer_of words → AsksByStatus told (offer_of words) status asked asked
+no_files told words status asked e = subst (λ (o : Option Offer). AsksByStatus told o status asked asked) e (nothing_more asked)
 
-module _ (words : List (List ℕ)) (offer : Offer) (stimulus : List ℕ) (is_offer : Some offer ≡ offer_of words) (named : offer.files.stimulus ≡ Some stimulus) (bare : offer.files.requests ≡ None) where
-  both_names : offer.files.source ∷ stimulus ∷ [] ≡ names_of (Some offer.files)
-  both_names = λ i. offer.files.source ∷ file_names (sym named i) ++ file_names (sym bare i)
+-- none is asked for where the words are no service
+pub no_front : (told : Option Contents) (words : List (List ℕ)) (asked : Option (List (List ℕ))) → None ≡ offer_of words → AsksFrontOf told (option_map offer_files (offer_of words)) asked asked
+no_front told words asked e = subst (λ (o : Option Offer). AsksFrontOf told (option_map offer_files o) asked asked) e refl
 
-  with_stimulus : offer.files.source ∷ file_names offer.files.stimulus ≡ names_of (Some offer.files)
-  with_stimulus = ap (λ (n : Option (List ℕ)). offer.files.source ∷ file_names n) named ∙ both_names
+module _ (told : Option Contents) (words : List (List ℕ)) (offer : Offer) (is_offer : Some offer ≡ offer_of words) (bare : offer.files.requests ≡ None) where
+  with_stimulus : file_names offer.files.stimulus ≡ rest_names offer.files
+  with_stimulus = sym (append-nil (file_names offer.files.stimulus)) ∙ ap (λ (n : Option (List ℕ)). file_names offer.files.stimulus ++ file_names n) (sym bare)
 
-  of_offer : (status : ℕ) (old new : Option (List (List ℕ))) → AsksOffer offer status old new → AsksByStatus (offer_of words) status old new
-  of_offer status old new h = subst (λ (o : Option Offer). AsksByStatus o status old new) is_offer h
+  of_offer : (status : ℕ) (old new : Option (List (List ℕ))) → AsksOffer told offer status old new → AsksByStatus told (offer_of words) status old new
+  of_offer status old new h = subst (λ (o : Option Offer). AsksByStatus told o status old new) is_offer h
 
-  -- both were asked for before what they hold was served
-  pub shown_files : (status : ℕ) (old new : Option (List (List ℕ))) → Appends old new (offer.files.source ∷ stimulus ∷ []) → IsTrue (is_end_status status) → AsksByStatus (offer_of words) status old new
+  pub front_offer : (old new : Option (List (List ℕ))) → AsksFrontOf told (Some offer.files) old new → AsksFrontOf told (option_map offer_files (offer_of words)) old new
+  front_offer old new h = subst (λ (o : Option Offer). AsksFrontOf told (option_map offer_files o) old new) is_offer h
+
+  pub unread_offer : {S : Type 0} (asked : S → Option (List (List ℕ))) (faults : S → ℕ) (old new : S) → StopsInsideOf told (Some offer.files) asked faults old new → StopsInsideOf told (option_map offer_files (offer_of words)) asked faults old new
+  unread_offer asked faults old new h = subst (λ (o : Option Offer). StopsInsideOf told (option_map offer_files o) asked faults old new) is_offer h
+
+  -- all were asked for before what they hold was served
+  pub shown_files : (status : ℕ) (old new : Option (List (List ℕ))) → AsksBehind told offer.files.source (rest_names offer.files) old new → IsTrue (is_end_status status) → AsksByStatus told (offer_of words) status old new
   shown_files status old new p known = of_offer status old new (record {
     source = λ three. absurd (elim (end_status_is status known) [ inl e ↦ omega (arith, three, e) | inr (inl e) ↦ omega (arith, three, e) | inr (inr e) ↦ omega (arith, three, e) ]);
-    all = λ late. subst (Appends old new) both_names p;
+    all = λ late. p;
   })
 
   -- a refusal was asked for as it is
-  pub refused_files : (j : Judged) (status : ℕ) (old new : Option (List (List ℕ))) → Appends old new (offer.files.source ∷ asked_behind (Some stimulus) None j) → (status < 7 → status ≡ judged_status j) → AsksByStatus (offer_of words) status old new
-  refused_files j status old new p is =
-      let own : Appends old new (asked_for (Some offer.files) j) = subst (Appends old new) (λ i. offer.files.source ∷ asked_behind (sym named i) (sym bare i) j) p in
+  pub refused_files : (j : Judged) (status : ℕ) (old new : Option (List (List ℕ))) → AsksOwn told offer.files old new j → (status < 7 → status ≡ judged_status j) → AsksByStatus told (offer_of words) status old new
+  refused_files j status old new own is =
       of_offer status old new (record {
-        source = λ three. source_asked offer.files old new j (sym three ∙ is (early_is status 3 (omega arith) three)) own;
+        source = λ three. source_asked told offer.files old new j (sym three ∙ is (early_is status 3 (omega arith) three)) own;
         all = λ late. elim late [
-          | inl zero ↦ all_asked offer.files old new j status (inl zero) (is (early_is status 0 (omega arith) zero)) own
-          | inr four ↦ subst (Appends old new) with_stimulus (stimulus_asked offer.files old new j (sym four ∙ is (early_is status 4 (omega arith) four)) own)
+          | inl zero ↦ all_asked told offer.files old new j status (inl zero) (is (early_is status 0 (omega arith) zero)) own
+          | inr four ↦ subst (λ (more : List (List ℕ)). AsksBehind told offer.files.source more old new) with_stimulus (stimulus_asked told offer.files old new j (sym four ∙ is (early_is status 4 (omega arith) four)) own)
         ];
       })
 
   -- where a service ends late nothing is said of them
-  pub late_files : (status : ℕ) (old new : Option (List (List ℕ))) → 7 ≤ status → AsksByStatus (offer_of words) status old new
+  pub late_files : (status : ℕ) (old new : Option (List (List ℕ))) → 7 ≤ status → AsksByStatus told (offer_of words) status old new
   late_files status old new late = of_offer status old new (record {
     source = λ three. absurd (omega (arith, late, three));
     all = λ early. absurd (elim early [ inl zero ↦ omega (arith, late, zero) | inr four ↦ omega (arith, late, four) ]);

@@ -1,14 +1,17 @@
 -- What the status of a run tells: which files were asked for, and that the words have what is refused.
-use Rattle.std.proofs.Common.{◌≡◌, ◌<◌, ◌≤◌, ℕ, Bool, true, false, List, [], ◌∷◌, Option, Some, None, refl, sym, ap, ◌∙◌, subst, IsTrue, ◌⊎◌, inl, inr, arith, ◌↔◌}
+use Rattle.std.proofs.Common.{◌≡◌, ◌<◌, ◌≤◌, ℕ, Bool, true, false, List, Option, Some, None, refl, sym, ap, ◌∙◌, subst, IsTrue, ◌⊎◌, inl, inr, arith, ◌↔◌}
 use Rattle.std.specs.Prelude.{is_some}
-use Rattle.io_edge.specs.Taken.{Appends, Grows}
+use Rattle.io_edge.specs.Taken.{Grows}
 use Rattle.io_edge.proofs.Stops.{grows_whole, grows_front}
 use Rattle.listen.specs.Pairs.{Heard}
 use Rattle.batch_run.specs.Texts.{requests_fault}
 use Rattle.design_judge.specs.Refusals.{design_line, stimulus_line}
-use Rattle.dbg_app.specs.Command.{Command, file_names, names_of}
+use Rattle.project_read.specs.Projects.{Contents}
+use Rattle.project_read.specs.Asking.{AsksSome}
+use Rattle.dbg_app.specs.Command.{Command, file_names, rest_names}
+use Rattle.dbg_app.specs.Names.{AsksBehind}
 use Rattle.dbg_app.specs.Answers.{usage_fault}
-use Rattle.dbg_app.specs.Judged.{HasText, IsTextOf, RefusesOwn, TakesText, TakesTextFront, alone, asked_for, judged_status, over, session}
+use Rattle.dbg_app.specs.Judged.{AsksFor, AsksOwn, HasText, IsTextOf, RefusesOwn, TakesText, TakesTextFront, alone, judged_status, over, session}
 use Rattle.dbg_app.specs.Outcome.{AsksByStatus, is_status, is_status_for, is_usage_status, may_end}
 use Rattle.dbg_app.specs.declared.judge.Judged.{Judged}
 use Rattle.dbg_app.specs.declared.judge.Judged.TheVariants as judged
@@ -16,8 +19,8 @@ use Rattle.dbg_app.proofs.Ending.{late_status, work_text, is_work_text}
 
 -- ---- the files
 
-module _ (command : Command) (old new : Option (List (List ℕ))) where
-  pub source_asked : (j : Judged) → 3 ≡ judged_status j → Appends old new (asked_for (Some command) j) → Appends old new (command.source ∷ [])
+module _ (told : Option Contents) (command : Command) (old new : Option (List (List ℕ))) where
+  pub source_asked : (j : Judged) → 3 ≡ judged_status j → AsksOwn told command old new j → (count : ℕ) × AsksSome told command.source old new count
   source_asked judged.NoCommand is p = absurd (let same : 3 ≡ 2 = is in cc)
   source_asked (judged.NoDesign fault) is p = p
   source_asked (judged.NoStimulus fault) is p = absurd (let same : 3 ≡ 4 = is in cc)
@@ -26,7 +29,7 @@ module _ (command : Command) (old new : Option (List (List ℕ))) where
   source_asked (judged.Over task mode a stim) is p = absurd (let same : 3 ≡ 0 = is in cc)
   source_asked (judged.Session mode a stim requests) is p = absurd (let same : 3 ≡ 0 = is in cc)
 
-  pub stimulus_asked : (j : Judged) → 4 ≡ judged_status j → Appends old new (asked_for (Some command) j) → Appends old new (command.source ∷ file_names command.stimulus)
+  pub stimulus_asked : (j : Judged) → 4 ≡ judged_status j → AsksOwn told command old new j → AsksBehind told command.source (file_names command.stimulus) old new
   stimulus_asked judged.NoCommand is p = absurd (let same : 4 ≡ 2 = is in cc)
   stimulus_asked (judged.NoDesign fault) is p = absurd (let same : 4 ≡ 3 = is in cc)
   stimulus_asked (judged.NoStimulus fault) is p = p
@@ -38,7 +41,7 @@ module _ (command : Command) (old new : Option (List (List ℕ))) where
   not_all : (status n : ℕ) → (status ≡ 0) ⊎ (status ≡ 6) → status ≡ n → 2 ≤ n → n ≤ 4 → ⊥
   not_all status n late is least most = elim late [ inl zero ↦ omega (arith, zero, is, least) | inr six ↦ omega (arith, six, is, most) ]
 
-  pub all_asked : (j : Judged) (status : ℕ) → (status ≡ 0) ⊎ (status ≡ 6) → status ≡ judged_status j → Appends old new (asked_for (Some command) j) → Appends old new (names_of (Some command))
+  pub all_asked : (j : Judged) (status : ℕ) → (status ≡ 0) ⊎ (status ≡ 6) → status ≡ judged_status j → AsksOwn told command old new j → AsksBehind told command.source (rest_names command) old new
   all_asked judged.NoCommand status late is p = absurd (not_all status 2 late is (omega arith) (omega arith))
   all_asked (judged.NoDesign fault) status late is p = absurd (not_all status 3 late is (omega arith) (omega arith))
   all_asked (judged.NoStimulus fault) status late is p = absurd (not_all status 4 late is (omega arith) (omega arith))
@@ -53,18 +56,18 @@ early_is status n h e = omega (arith, h, e)
 early_all : (status : ℕ) → (status ≡ 0) ⊎ (status ≡ 6) → status < 7
 early_all status e = elim e [ inl zero ↦ omega (arith, zero) | inr six ↦ omega (arith, six) ]
 
-pub files_asked : (command : Option Command) (j : Judged) (status : ℕ) (old new : Option (List (List ℕ))) → Appends old new (asked_for command j) → (status < 7 → status ≡ judged_status j) → AsksByStatus command status old new
-files_asked None j status old new p is = p
-files_asked (Some command) j status old new p is = record {
-  source = λ three. source_asked command old new j (sym three ∙ is (early_is status 3 (omega arith) three)) p;
-  stimulus = λ four. stimulus_asked command old new j (sym four ∙ is (early_is status 4 (omega arith) four)) p;
-  all = λ late. all_asked command old new j status late (is (early_all status late)) p;
+pub files_asked : (told : Option Contents) (command : Option Command) (j : Judged) (status : ℕ) (old new : Option (List (List ℕ))) → AsksFor told command old new j → (status < 7 → status ≡ judged_status j) → AsksByStatus told command status old new
+files_asked told None j status old new p is = p
+files_asked told (Some command) j status old new p is = record {
+  source = λ three. source_asked told command old new j (sym three ∙ is (early_is status 3 (omega arith) three)) p;
+  stimulus = λ four. stimulus_asked told command old new j (sym four ∙ is (early_is status 4 (omega arith) four)) p;
+  all = λ late. all_asked told command old new j status late (is (early_all status late)) p;
 }
 
 -- where the run ends late nothing is said of them
-pub files_late : (command : Option Command) (status : ℕ) (old new : Option (List (List ℕ))) → (command ≡ None → ⊥) → 7 ≤ status → AsksByStatus command status old new
-files_late None status old new some late = absurd (some refl)
-files_late (Some command) status old new some late = record {
+pub files_late : (told : Option Contents) (command : Option Command) (status : ℕ) (old new : Option (List (List ℕ))) → (command ≡ None → ⊥) → 7 ≤ status → AsksByStatus told command status old new
+files_late told None status old new some late = absurd (some refl)
+files_late told (Some command) status old new some late = record {
   source = λ three. absurd (omega (arith, late, three));
   stimulus = λ four. absurd (omega (arith, late, four));
   all = λ early. absurd (omega (arith, late, early_all status early));

@@ -19,6 +19,8 @@ use Rattle.vcd_write.specs.Run.{waves_text}
 use Rattle.listen.specs.Pairs.{Heard}
 use Rattle.machine_core.specs.Reading.{Reader, IsReader}
 use Rattle.batch_run.specs.Texts.{batch_text, most_requests, requests_fault}
+pub use Rattle.project_read.specs.Projects.{Contents}
+use Rattle.project_read.specs.Projects.{IsProject}
 use Rattle.design_judge.specs.declared.DesignFault.{DesignFault}
 use Rattle.design_judge.specs.declared.DesignFault.TheVariants.{CombLoop}
 use Rattle.design_judge.specs.Refusals.{design_line, stimulus_line}
@@ -34,17 +36,11 @@ pub record Answer : Type 0 where
 abbrev pub usage_fault : List ℕ
 usage_fault = codes "usage fault\n"
 
--- the bytes of each file by its name
-abbrev pub Contents : Type 0
-Contents = List ℕ → Option (List ℕ)
-
 -- ---- what the files hold
 
--- the source of the command is accepted as this design
+-- the source of the command, with the files that it imports, is accepted as this design
 pub record HoldsDesign (files : Contents) (command : Command) (d : Design) : Type 0 where
-  pub source : List ℕ
-  pub found : files command.source ≡ Some source
-  pub accepted : IsAccepted command.top source d
+  pub accepted : IsAccepted command.top (IsProject files command.source) d
 
 -- what the stimulus of the command is for these ports: its rows, or why it is refused; where none is named there are no rows
 abbrev pub HoldsRows : Contents → Ports → Option (List ℕ) → Result (List (List Bits)) StimFault → Type 0
@@ -95,12 +91,10 @@ text_of heard Session held = batch_text held.reader (source_world held.design he
 
 -- ---- what a command asks for
 
--- the source is refused, with the line of its refusal
+-- the source, or a file that it imports, is refused, with the line of its refusal
 pub record RefusesDesign (files : Contents) (command : Command) (answer : Answer) : Type 0 where
-  pub source : List ℕ
-  pub found : files command.source ≡ Some source
   pub fault : DesignFault
-  pub refused : IsRefused command.top source fault
+  pub refused : IsRefused command.top (IsProject files command.source) fault
   pub is : answer ≡ record { status = 3; text = design_line fault }
 
 -- the source is accepted, and the stimulus is refused for the ports of its design
@@ -130,8 +124,8 @@ pub record ShowsText (heard : List Heard) (files : Contents) (command : Command)
   pub holds : Holds files command held
   pub is : answer ≡ record { status = 0; text = text_of heard command.task held }
 
--- what a command asks for, where these are the files and the listeners mean this: the source is judged first, then the stimulus, then
--- the requests
+-- what a command asks for, where these are the files and the listeners mean this: the source and its imports are judged first, then
+-- the stimulus, then the requests
 pub data Asks (heard : List Heard) (files : Contents) (command : Command) (answer : Answer) : Type 0 where
   NoDesign : RefusesDesign files command answer → Asks heard files command answer
   NoStimulus : RefusesStimulus files command answer → Asks heard files command answer
@@ -140,10 +134,8 @@ pub data Asks (heard : List Heard) (files : Contents) (command : Command) (answe
 
 -- the source is refused for a loop of this design, with its line
 pub record RefusesLoop (files : Contents) (command : Command) (d : Design) (answer : Answer) : Type 0 where
-  pub source : List ℕ
-  pub found : files command.source ≡ Some source
   pub paths : List Name
-  pub loop : IsLooped command.top source d paths
+  pub loop : IsLooped command.top (IsProject files command.source) d paths
   pub is : answer ≡ record { status = 3; text = design_line (CombLoop paths) }
 
 -- a fact of the files and the command, where the files are told and the words are a command

@@ -1,5 +1,5 @@
 -- What words ask: of a design, of the files of another simulator, or of the chain of the demo; and how a run ends by that.
-use Rattle.std.specs.Prelude.{ℕ, ◌==◌, ◌||◌, ◌&&◌, not, Bool, List, [], ◌∷◌, Option, Some, None, option_map, option_and_then, codes, bytes_eq, if◌then◌else◌, ⊤}
+use Rattle.std.specs.Prelude.{◌≡◌, ℕ, ◌==◌, ◌||◌, ◌&&◌, not, Bool, List, [], ◌∷◌, Option, Some, None, option_map, option_and_then, codes, bytes_eq, if◌then◌else◌, ⊤}
 use Rattle.listen.specs.Pairs.{Heard}
 use Rattle.replay_run.specs.Asked as replay
 use Rattle.replay_run.specs.Asked.{Names}
@@ -7,11 +7,13 @@ use Rattle.world_core.specs.declared.mode.Mode.{Mode}
 use Rattle.demo_run.specs.Asked as demo
 use Rattle.demo_run.specs.Asked.{Given}
 use Rattle.dbg_app.specs.Number.{number_to}
-use Rattle.dbg_app.specs.Command.{Command, command_of, mode_of, names_of}
+use Rattle.dbg_app.specs.Command.{Command, command_of, mode_of}
+use Rattle.dbg_app.specs.Names as by_design
 use Rattle.dbg_app.specs.Answers.{Contents}
 use Rattle.dbg_app.specs.Outcome as design
 use Rattle.dbg_app.specs.Compiled.{CompilesCommand}
-use Rattle.io_edge.specs.Taken.{Appends}
+use Rattle.io_edge.specs.Taken.{Appends, AppendsFront}
+use Rattle.io_edge.specs.Unread.{StopsAt}
 
 -- ---- the words
 
@@ -54,12 +56,19 @@ call_by words None None = option_map ByDesign (command_of words)
 abbrev pub call_of : List (List ℕ) → Option Call
 call_of words = call_by words (replay_of words) (demo_of words)
 
--- the names of the files, in the order of the words
-abbrev pub files_of : Option Call → List (List ℕ)
-files_of None = []
-files_of (Some (ByDesign command)) = names_of (Some command)
-files_of (Some (ByTrace names)) = replay.names_of names
-files_of (Some (ByChain given)) = given.requests ∷ []
+-- files that are named were asked for, in the order in which they are taken, and no others; some of them
+abbrev pub AsksFrontOf : Option Contents → Option Call → Option (List (List ℕ)) → Option (List (List ℕ)) → Type 0
+AsksFrontOf told None old new = new ≡ old
+AsksFrontOf told (Some (ByDesign command)) old new = by_design.AsksFrontOf told (Some command) old new
+AsksFrontOf told (Some (ByTrace names)) old new = AppendsFront old new (replay.names_of names)
+AsksFrontOf told (Some (ByChain given)) old new = AppendsFront old new (given.requests ∷ [])
+
+-- and the last of them was not read
+abbrev pub StopsInsideOf : {S : Type 0} → Option Contents → Option Call → (S → Option (List (List ℕ))) → (S → ℕ) → S → S → Type 0
+StopsInsideOf told None asked fault_count old new = ⊥
+StopsInsideOf told (Some (ByDesign command)) asked fault_count old new = by_design.StopsInsideOf told (Some command) asked fault_count old new
+StopsInsideOf told (Some (ByTrace names)) asked fault_count old new = StopsAt asked fault_count old new (replay.names_of names)
+StopsInsideOf told (Some (ByChain given)) asked fault_count old new = StopsAt asked fault_count old new (given.requests ∷ [])
 
 -- a fact of the files and of what is asked, where the files are told and the words ask something
 abbrev pub IfCalled : Option Contents → Option Call → (Contents → Call → Type 0) → Type 0
@@ -81,11 +90,11 @@ is_status_of (Some (ByTrace names)) status = replay.is_status status
 is_status_of (Some (ByChain given)) status = demo.is_status status
 
 -- the files that were asked for, by the status
-abbrev pub AsksByStatus : Option Call → ℕ → Option (List (List ℕ)) → Option (List (List ℕ)) → Option (List ℕ) → Option (List ℕ) → Type 0
-AsksByStatus None status asked_old asked_new old new = Appends asked_old asked_new []
-AsksByStatus (Some (ByDesign command)) status asked_old asked_new old new = design.AsksCommand command status asked_old asked_new
-AsksByStatus (Some (ByTrace names)) status asked_old asked_new old new = replay.AsksByStatus names status asked_old asked_new old new
-AsksByStatus (Some (ByChain given)) status asked_old asked_new old new = demo.AsksByStatus given status asked_old asked_new
+abbrev pub AsksByStatus : Option Contents → Option Call → ℕ → Option (List (List ℕ)) → Option (List (List ℕ)) → Option (List ℕ) → Option (List ℕ) → Type 0
+AsksByStatus told None status asked_old asked_new old new = Appends asked_old asked_new []
+AsksByStatus told (Some (ByDesign command)) status asked_old asked_new old new = design.AsksCommand told command status asked_old asked_new
+AsksByStatus told (Some (ByTrace names)) status asked_old asked_new old new = replay.AsksByStatus names status asked_old asked_new old new
+AsksByStatus told (Some (ByChain given)) status asked_old asked_new old new = demo.AsksByStatus given status asked_old asked_new
 
 -- a command over a design that writes a symbol file, waves or a session has found the net and the table that they stand on
 abbrev pub Compiles : Contents → Call → Type 0

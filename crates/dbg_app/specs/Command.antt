@@ -121,11 +121,10 @@ abbrev pub command_of : List (List ℕ) → Option Command
 command_of [] = None
 command_of (word ∷ words) = option_and_then (command_by (word ∷ words)) (form_of word)
 
--- the names of the files, in the order of the words
+-- the names of the files that are taken behind those of the design
 abbrev pub file_names : Option (List ℕ) → List (List ℕ)
 file_names None = []
 file_names (Some name) = name ∷ []
 
-abbrev pub names_of : Option Command → List (List ℕ)
-names_of None = []
-names_of (Some command) = command.source ∷ file_names command.stimulus ++ file_names command.requests
+abbrev pub rest_names : Command → List (List ℕ)
+rest_names command = file_names command.stimulus ++ file_names command.requests

@@ -1,5 +1,5 @@
 -- What was judged is what is asked for.
-use Rattle.std.specs.Prelude.{◌≡◌, ◌≢◌, ℕ, false, List, [], ◌∷◌, ◌++◌, Option, Some, None, Ok, length, IsTrue, is_some}
+use Rattle.std.specs.Prelude.{◌≡◌, ◌≢◌, ℕ, false, List, [], ◌++◌, Option, Some, None, Ok, length, IsTrue, is_some}
 use Rattle.io_edge.specs.Taken.{Appends, AppendsFront}
 use Rattle.bv_core.specs.Value.{Bits}
 use Rattle.exec_core.specs.Whole.{Place}
@@ -12,7 +12,9 @@ use Rattle.machine_core.specs.Reading.{Reader, IsReader}
 use Rattle.design_judge.specs.Refusals.{is_no_memory, design_line, stimulus_line}
 use Rattle.design_judge.specs.declared.Accepted.{Accepted}
 use Rattle.design_judge.specs.Accepting.{Accepting, IsKept, accepting_of}
-use Rattle.dbg_app.specs.Command.{Task, Session, Command, file_names}
+use Rattle.project_read.specs.Asking.{AsksSome}
+use Rattle.dbg_app.specs.Command.{Task, Session, Command, file_names, rest_names}
+use Rattle.dbg_app.specs.Names.{AsksBehind}
 use Rattle.dbg_app.specs.Asked.{alone_as, over_as}
 use Rattle.batch_run.specs.Texts.{requests_fault}
 use Rattle.dbg_app.specs.Answers.{Contents, Held, HoldsDesign, HoldsRows, HoldsRequests, RefusesDesign, RefusesStimulus, RefusesRequests, usage_fault, text_of}
@@ -97,9 +99,19 @@ asked_behind stimulus requests (judged.Alone task mode a) = file_names stimulus 
 asked_behind stimulus requests (judged.Over task mode a stim) = file_names stimulus ++ file_names requests
 asked_behind stimulus requests (judged.Session mode a stim text) = file_names stimulus ++ file_names requests
 
-abbrev pub asked_for : Option Command → Judged → List (List ℕ)
-asked_for None j = []
-asked_for (Some command) j = command.source ∷ asked_behind command.stimulus command.requests j
+-- and all of them, from the files of the design on
+abbrev pub AsksOwn : Option Contents → Command → Option (List (List ℕ)) → Option (List (List ℕ)) → Judged → Type 0
+AsksOwn told command old new judged.NoCommand = Unit {0}
+AsksOwn told command old new (judged.NoDesign fault) = (count : ℕ) × AsksSome told command.source old new count
+AsksOwn told command old new (judged.NoStimulus fault) = AsksBehind told command.source (file_names command.stimulus) old new
+AsksOwn told command old new judged.NoRequests = AsksBehind told command.source (rest_names command) old new
+AsksOwn told command old new (judged.Alone task mode a) = AsksBehind told command.source (rest_names command) old new
+AsksOwn told command old new (judged.Over task mode a stim) = AsksBehind told command.source (rest_names command) old new
+AsksOwn told command old new (judged.Session mode a stim text) = AsksBehind told command.source (rest_names command) old new
+
+abbrev pub AsksFor : Option Contents → Option Command → Option (List (List ℕ)) → Option (List (List ℕ)) → Judged → Type 0
+AsksFor told None old new j = Appends old new []
+AsksFor told (Some command) old new j = AsksOwn told command old new j
 
 -- a stimulus is refused only where one is named, and so are requests
 abbrev pub RefusesNamed : Option (List ℕ) → Option (List ℕ) → Judged → Type 0

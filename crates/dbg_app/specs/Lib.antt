@@ -1,4 +1,5 @@
 pub mod Command
+pub mod Names
 pub mod Asked
 pub mod Answers
 pub mod Compiled

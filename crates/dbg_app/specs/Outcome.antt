@@ -1,5 +1,5 @@
 -- How a run ends.
-use Rattle.std.specs.Prelude.{◌≡◌, ◌≢◌, ℕ, List, [], ◌∷◌, Bool, false, Option, Some, None, is_some, ◌||◌, ◌&&◌, ◌==◌, ◌⊎◌}
+use Rattle.std.specs.Prelude.{◌≡◌, ◌≢◌, ℕ, List, [], Bool, false, Option, Some, None, is_some, ◌||◌, ◌&&◌, ◌==◌, ◌⊎◌}
 use Rattle.io_edge.specs.Taken.{Appends, AppendsFront}
 use Rattle.stim_text.specs.declared.StimFault.{StimFault}
 use Rattle.stim_text.specs.declared.StimFault.TheVariants as stim_faults
@@ -7,7 +7,9 @@ use Rattle.design_core.specs.Design.{Design}
 use Rattle.design_judge.specs.declared.DesignFault.{DesignFault}
 use Rattle.design_judge.specs.Refusals.{is_no_memory, design_line, stimulus_line}
 use Rattle.listen.specs.Pairs.{Heard}
-use Rattle.dbg_app.specs.Command.{Command, file_names, names_of}
+use Rattle.project_read.specs.Asking.{AsksSome}
+use Rattle.dbg_app.specs.Command.{Command, file_names, rest_names}
+use Rattle.dbg_app.specs.Names.{AsksBehind}
 use Rattle.dbg_app.specs.Answers.{Answer, Contents, Asks, RefusesLoop}
 use Rattle.dbg_app.specs.declared.halt.Halt.{Halt}
 use Rattle.dbg_app.specs.declared.halt.Halt.TheVariants.{ReadFault, WriteFault, NoMemory}
@@ -64,16 +66,16 @@ halt_status NoMemory = status_of OutOfMemory
 
 -- ---- the files that were asked for
 
--- the source alone where it is refused, that and the stimulus where this is, and else all, in the order of the words; none where the words
--- are no command
-pub record AsksCommand (command : Command) (status : ℕ) (old new : Option (List (List ℕ))) : Type 0 where
-  pub source : status ≡ 3 → Appends old new (command.source ∷ [])
-  pub stimulus : status ≡ 4 → Appends old new (command.source ∷ file_names command.stimulus)
-  pub all : (status ≡ 0) ⊎ (status ≡ 6) → Appends old new (names_of (Some command))
+-- files of the design, up to the one that is refused, where it is refused; all of them and the stimulus where this is refused; and else
+-- all, in the order of the words; none where the words are no command
+pub record AsksCommand (told : Option Contents) (command : Command) (status : ℕ) (old new : Option (List (List ℕ))) : Type 0 where
+  pub source : status ≡ 3 → (count : ℕ) × AsksSome told command.source old new count
+  pub stimulus : status ≡ 4 → AsksBehind told command.source (file_names command.stimulus) old new
+  pub all : (status ≡ 0) ⊎ (status ≡ 6) → AsksBehind told command.source (rest_names command) old new
 
-abbrev pub AsksByStatus : Option Command → ℕ → Option (List (List ℕ)) → Option (List (List ℕ)) → Type 0
-AsksByStatus None status old new = Appends old new []
-AsksByStatus (Some command) status old new = AsksCommand command status old new
+abbrev pub AsksByStatus : Option Contents → Option Command → ℕ → Option (List (List ℕ)) → Option (List (List ℕ)) → Type 0
+AsksByStatus told None status old new = Appends old new []
+AsksByStatus told (Some command) status old new = AsksCommand told command status old new
 
 -- ---- what was taken
 

@@ -14,11 +14,13 @@ use Rattle.duo_run.specs.declared.served.Served.{Served}
 use Rattle.serve_net.specs.Over.{Over, Shows}
 use Rattle.serve_net.specs.Service.{AsksNone, ServesAll, ServesSome}
 use Rattle.io_edge.specs.Taken.{Appends}
-use Rattle.dbg_app.specs.Command.{Command, names_of}
+use Rattle.project_read.specs.Asking.{AsksSome}
+use Rattle.dbg_app.specs.Command.{Command, rest_names}
+use Rattle.dbg_app.specs.Names.{AsksBehind}
 use Rattle.dbg_app.specs.Asked.{command_as}
 use Rattle.dbg_app.specs.Answers.{Answer, Contents, HoldsDesign, HoldsRows, Asks}
 use Rattle.dbg_app.specs.Outcome as run
-use Rattle.dbg_app.specs.Judged.{HasText, Judges, asked_behind, judged_status}
+use Rattle.dbg_app.specs.Judged.{AsksOwn, HasText, Judges, asked_behind, judged_status}
 use Rattle.dbg_app.specs.Offer.{Offer}
 use Rattle.dbg_app.specs.declared.judge.Judged.{Judged}
 use Rattle.dbg_app.specs.declared.offer.Offer as code
@@ -73,24 +75,27 @@ CompletesOffer files offer status old new read_rose write_rose =
     (answer : Answer) → Asks [] files offer.files answer → (read_rose → ⊥) → (write_rose → ⊥)
     → ((status ≡ answer.status) × (status ≢ 0 → run.TakesAnswer files offer.files answer old new)) ⊎ (status ≡ 9)
 
--- the files that were asked for: the source alone where it is refused, and else that and the stimulus; none where the words are no service
-pub record AsksOffer (offer : Offer) (status : ℕ) (old new : Option (List (List ℕ))) : Type 0 where
-  pub source : status ≡ 3 → Appends old new (offer.files.source ∷ [])
-  pub all : (status ≡ 0) ⊎ (status ≡ 4) → Appends old new (names_of (Some offer.files))
+-- the files that were asked for: those of the design up to the one that is refused, where one is, and else all of them and the stimulus; none
+-- where the words are no service
+pub record AsksOffer (told : Option Contents) (offer : Offer) (status : ℕ) (old new : Option (List (List ℕ))) : Type 0 where
+  pub source : status ≡ 3 → (count : ℕ) × AsksSome told offer.files.source old new count
+  pub all : (status ≡ 0) ⊎ (status ≡ 4) → AsksBehind told offer.files.source (rest_names offer.files) old new
 
-abbrev pub AsksByStatus : Option Offer → ℕ → Option (List (List ℕ)) → Option (List (List ℕ)) → Type 0
-AsksByStatus None status old new = Appends old new []
-AsksByStatus (Some offer) status old new = AsksOffer offer status old new
+abbrev pub AsksByStatus : Option Contents → Option Offer → ℕ → Option (List (List ℕ)) → Option (List (List ℕ)) → Type 0
+AsksByStatus told None status old new = Appends old new []
+AsksByStatus told (Some offer) status old new = AsksOffer told offer status old new
 
 -- ---- what was judged
 
--- the names that were asked for before it was judged so, and those of them behind the source
+-- the names that were asked for before it was judged so, behind the files of the design
 abbrev pub asked_show : List ℕ → code_shown.Shown → List (List ℕ)
 asked_show stimulus (shown.Refused j) = asked_behind (Some stimulus) None j
 asked_show stimulus (shown.Accepted service) = stimulus ∷ []
 
-abbrev pub asked_shown : List ℕ → List ℕ → code_shown.Shown → List (List ℕ)
-asked_shown source stimulus s = source ∷ asked_show stimulus s
+-- and all of them, from the files of the design on
+abbrev pub AsksShown : Option Contents → Command → Option (List (List ℕ)) → Option (List (List ℕ)) → code_shown.Shown → Type 0
+AsksShown told command old new (shown.Refused j) = AsksOwn told command old new j
+AsksShown told command old new (shown.Accepted service) = AsksBehind told command.source (rest_names command) old new
 
 -- the text of a stimulus was judged: it is accepted for these ports, or refused
 abbrev pub FindsRows : Option (List ℕ) → Ports → Result (Vec ℕ Global) StimFault → Type 0

@@ -1,17 +1,19 @@
 //! Reads the files of a command in the order of its words, and judges each.
 
-ghost use Rattle.std.specs.Prelude.{◌≡◌, ◌<◌, ◌≤◌, ◌↔◌, IsTrue, [], ◌∷◌, ◌++◌, Some, None, IfOk, IfSome, OnOk, OnErr, IsErrOf};
+ghost use Rattle.std.specs.Prelude.{◌≡◌, ◌<◌, ◌≤◌, ◌↔◌, IsTrue, [], ◌∷◌, Some, None, IfOk, IfSome, OnOk, OnErr, IsErrOf};
 ghost use Rattle.io_edge.specs.Faults.{Rose};
 ghost use Rattle.io_edge.specs.Taken.{Appends, AppendsFront};
 ghost use Rattle.io_edge.specs.Unread.{StopsAt};
 ghost use Rattle.design_core.specs.DesignView.{design_of};
 ghost use Rattle.design_judge.specs.Accepting.{IsKept, accepting_of};
-ghost use Rattle.design_judge.specs.Judging.{IsFit, IsWhole, JudgesSource, JudgesStimulus};
-ghost use Rattle.dbg_app.specs.Command.{command_of, file_names, names_of};
+ghost use Rattle.project_read.specs.Asking.{AsksFront, StopsInside};
+ghost use Rattle.design_judge.specs.Judging.{AsksFiles, IsFit, IsWhole, JudgesFiles, JudgesStimulus};
+ghost use Rattle.dbg_app.specs.Command.{command_of};
+ghost use Rattle.dbg_app.specs.Names.{AsksFrontOf, StopsInsideOf};
 ghost use Rattle.dbg_app.specs.Answers.{IfAsked, HoldsDesign};
-ghost use Rattle.dbg_app.specs.Asked.{command_as, requests_as, stimulus_as};
+ghost use Rattle.dbg_app.specs.Asked.{command_as};
 ghost use Rattle.dbg_app.specs.declared.command.Task.TheVariants.{Session};
-ghost use Rattle.dbg_app.specs.Judged.{HasText, Judges, RefusesNamed, RefusesOwn, asked_behind, asked_for, judged_status};
+ghost use Rattle.dbg_app.specs.Judged.{AsksFor, HasText, Judges, RefusesNamed, RefusesOwn, asked_behind, judged_status};
 ghost use Rattle.dbg_app.specs.Outcome.{is_status};
 
 use crate::Halt;
@@ -60,19 +62,19 @@ impl Judged {
     }
 }
 
-/// Reads and judges the source of a command.
+/// Reads the source of a command and the files that it imports, and judges their design.
 pub(crate) fn judge_source<F: Files>(
     alloc: Global,
     command: &Command<'_>,
     files: &mut F,
 ) -> Result<Result<Accepted, DesignFault>, Halt>
-    ensures judged { IfOk result (λ found. IfSome (F.told files.old) (λ told. JudgesSource (told command.now.source.now) (command_as command.now).top found)) }
+    ensures judged { IfOk result (λ found. IfSome (F.told files.old) (λ told. JudgesFiles told command.now.source.now (command_as command.now).top found)) }
     ensures fit { IfOk result IsFit }
     ensures same { F.told files.new ≡ F.told files.old }
-    ensures asked { OnOk result (Appends (F.asked files.old) (F.asked files.new) (command.now.source.now ∷ [])) }
-    ensures front { AppendsFront (F.asked files.old) (F.asked files.new) (command.now.source.now ∷ []) }
+    ensures asked { IfOk result (AsksFiles (F.told files.old) command.now.source.now (F.asked files.old) (F.asked files.new)) }
+    ensures front { AsksFront (F.told files.old) command.now.source.now (F.asked files.old) (F.asked files.new) }
     ensures read { IsErrOf result Halt.ReadFault → Rose (F.fault_count files.old) (F.fault_count files.new) }
-    ensures unread { IsErrOf result Halt.ReadFault → StopsAt F.asked F.fault_count files.old files.new (command.now.source.now ∷ []) }
+    ensures unread { IsErrOf result Halt.ReadFault → StopsInside (F.told files.old) command.now.source.now F.asked F.fault_count files.old files.new }
     ensures no_write { IsErrOf result Halt.WriteFault → ⊥ }
     ensures later { F.fault_count files.old ≤ F.fault_count files.new }
 {
@@ -145,10 +147,10 @@ fn judge_command<F: Files>(
     ensures command { IfOk result (λ judged. judged ≡ Judged.NoCommand → ⊥) }
     ensures named { IfOk result (RefusesOwn (Some (command_as command.now))) }
     ensures same { F.told files.new ≡ F.told files.old }
-    ensures asked { IfOk result (λ judged. Appends (F.asked files.old) (F.asked files.new) (asked_for (Some (command_as command.now)) judged)) }
-    ensures front { AppendsFront (F.asked files.old) (F.asked files.new) (command.now.source.now ∷ file_names (stimulus_as command.now.task) ++ file_names (requests_as command.now.task)) }
+    ensures asked { IfOk result (AsksFor (F.told files.old) (Some (command_as command.now)) (F.asked files.old) (F.asked files.new)) }
+    ensures front { AsksFrontOf (F.told files.old) (Some (command_as command.now)) (F.asked files.old) (F.asked files.new) }
     ensures read { IsErrOf result Halt.ReadFault → Rose (F.fault_count files.old) (F.fault_count files.new) }
-    ensures unread { IsErrOf result Halt.ReadFault → StopsAt F.asked F.fault_count files.old files.new (command.now.source.now ∷ file_names (stimulus_as command.now.task) ++ file_names (requests_as command.now.task)) }
+    ensures unread { IsErrOf result Halt.ReadFault → StopsInsideOf (F.told files.old) (Some (command_as command.now)) F.asked F.fault_count files.old files.new }
     ensures no_write { IsErrOf result Halt.WriteFault → ⊥ }
     ensures later { F.fault_count files.old ≤ F.fault_count files.new }
 {
@@ -177,11 +179,11 @@ pub(crate) fn judge<F: Files>(alloc: Global, words: &Words, files: &mut F) -> Re
     ensures text { IfOk result HasText }
     ensures named { IfOk result (RefusesOwn (command_of words.now)) }
     ensures same { F.told files.new ≡ F.told files.old }
-    ensures asked { IfOk result (λ judged. Appends (F.asked files.old) (F.asked files.new) (asked_for (command_of words.now) judged)) }
-    ensures front { AppendsFront (F.asked files.old) (F.asked files.new) (names_of (command_of words.now)) }
+    ensures asked { IfOk result (AsksFor (F.told files.old) (command_of words.now) (F.asked files.old) (F.asked files.new)) }
+    ensures front { AsksFrontOf (F.told files.old) (command_of words.now) (F.asked files.old) (F.asked files.new) }
     ensures memory { OnErr result (command_of words.now ≡ None → ⊥) }
     ensures read { IsErrOf result Halt.ReadFault → Rose (F.fault_count files.old) (F.fault_count files.new) }
-    ensures unread { IsErrOf result Halt.ReadFault → StopsAt F.asked F.fault_count files.old files.new (names_of (command_of words.now)) }
+    ensures unread { IsErrOf result Halt.ReadFault → StopsInsideOf (F.told files.old) (command_of words.now) F.asked F.fault_count files.old files.new }
     ensures no_write { IsErrOf result Halt.WriteFault → ⊥ }
     ensures later { F.fault_count files.old ≤ F.fault_count files.new }
 {

@@ -18,5 +18,6 @@ mod write;
 use halt::Halt;
 pub use offer::address_of;
 pub use program::{Ended, run};
+pub use project_read::{ProjectEnd, read_project};
 pub use serve_net::Many;
 pub use serving::serve;

@@ -3,15 +3,15 @@
 ghost use Rattle.std.specs.Prelude.{◌≡◌, ◌≤◌, ◌<◌, ◌⊎◌, None, IsTrue, length, map};
 ghost use Rattle.io_edge.specs.Faults.{Rose};
 ghost use Rattle.io_edge.specs.Taken.{Appends, AppendsFront, Grows};
-ghost use Rattle.io_edge.specs.Unread.{StopsAt};
-ghost use Rattle.dbg_app.specs.Command.{command_of, names_of};
+ghost use Rattle.dbg_app.specs.Command.{command_of};
+ghost use Rattle.dbg_app.specs.Names.{AsksFrontOf, StopsInsideOf};
 ghost use Rattle.batch_run.specs.Texts.{requests_fault};
 ghost use Rattle.dbg_app.specs.Answers.{usage_fault, IfAsked};
 ghost use Rattle.dbg_app.specs.Compiled.{CompilesCommand};
 ghost use Rattle.dbg_app.specs.Judged.{HasText, IsCompiled, TakesText, TakesTextFront, judged_status};
 ghost use Rattle.replay_run.specs.Asked.{TakesFileLine};
 ghost use Rattle.dbg_app.specs.Call as call;
-ghost use Rattle.dbg_app.specs.Call.{call_of, files_of, IfCalled, is_run_status, is_status_of, Compiles, EndsAsCalled, TakesSomeOf, CompletesCall};
+ghost use Rattle.dbg_app.specs.Call.{call_of, IfCalled, is_run_status, is_status_of, Compiles, EndsAsCalled, TakesSomeOf, CompletesCall};
 ghost use Rattle.dbg_app.specs.Outcome.{is_status, is_status_for, is_usage_status, AsksByStatus, TakesDesignLine, TakesStimulusLine, EndsAsAsked, TakesSome, Completes};
 
 use crate::demo::read_demo;
@@ -34,7 +34,8 @@ pub struct Ended {
 ///
 /// The commands are `trail MODE SRC STIM TOP [NAME=N]..`, `sim MODE SRC STIM TOP [NAME=N]..`, `compile MODE SRC TOP [NAME=N]..`,
 /// `symbols MODE SRC TOP [NAME=N]..`, `debug MODE SRC STIM REQ TOP [NAME=N]..`, where MODE is `opt` or `keep`, `replay SYM VCD SCOPE REQ`,
-/// and `demo MODE N REQ`, where N is 1 to 4,000. The files are read in the order of the words, and each is judged before the next is read.
+/// and `demo MODE N REQ`, where N is 1 to 4,000. The files are read in the order of the words, and behind SRC those that it imports, by their
+/// numbers; each is judged before the next is read.
 /// Nothing is written before all of them were judged. The listeners, at most 65,536, are those of the session of a `debug`, a `replay`
 /// or a `demo`; the other commands drop them.
 ///
@@ -42,7 +43,7 @@ pub struct Ended {
 /// |---|---|---|
 /// | 0 | none of the rest | the whole trail, the waves as a value change dump file, the design as a Verilog module, its symbol file, the session's lines, or the line of the demo |
 /// | 2 | the words are no command | `usage fault` |
-/// | 3 | SRC is no source, or its design from the module TOP is refused | `design fault`, with the number and name of the refusal, and its fields |
+/// | 3 | SRC or a file that it imports is no source, these are more than 64, or the design from the module TOP is refused | `design fault`, with the number and name of the refusal, and its fields |
 /// | 4 | STIM is refused for the design's ports | `stimulus fault`, with the number and name of the refusal, and its row and column |
 /// | 5 | SYM is no symbol file, VCD no value change dump file, or it is not bound to the symbols in SCOPE | `table fault`, `vcd fault` or `bind fault`, with the number and name of the refusal, and its fields |
 /// | 6 | REQ has more than 16 MiB | `requests fault 1 TooLong` |
@@ -81,10 +82,11 @@ pub fn run<F: Files, S: Sink>(
         CompletesCall (map (λ b. heard b) listeners.items) told call result.status (S.taken out.old) (S.taken out.new)
         (Rose (F.fault_count files.old) (F.fault_count files.new)) (Rose (S.fault_count out.old) (S.fault_count out.new))) }
 
-    // The files that are asked for are those of the words, in their order: up to the one that is refused, or that was not read.
-    ensures asked { AppendsFront (F.asked files.old) (F.asked files.new) (files_of (call_of words.now)) }
-    ensures files { call.AsksByStatus (call_of words.now) result.status (F.asked files.old) (F.asked files.new) (S.taken out.old) (S.taken out.new) }
-    ensures unread { result.status ≡ 7 → StopsAt F.asked F.fault_count files.old files.new (files_of (call_of words.now)) }
+    // The files that are asked for are those of the words, in their order, and behind a source those that it imports, by their numbers:
+    // up to the one that is refused, or that was not read.
+    ensures asked { call.AsksFrontOf (F.told files.old) (call_of words.now) (F.asked files.old) (F.asked files.new) }
+    ensures files { call.AsksByStatus (F.told files.old) (call_of words.now) result.status (F.asked files.old) (F.asked files.new) (S.taken out.old) (S.taken out.new) }
+    ensures unread { result.status ≡ 7 → call.StopsInsideOf (F.told files.old) (call_of words.now) F.asked F.fault_count files.old files.new }
 
     // A fault of the files, before anything was written.
     ensures read { result.status ≡ 7 → Rose (F.fault_count files.old) (F.fault_count files.new) }
@@ -150,10 +152,11 @@ fn run_design<F: Files, S: Sink>(
         Completes (map (λ b. heard b) listeners.items) told command result.status (S.taken out.old) (S.taken out.new)
         (Rose (F.fault_count files.old) (F.fault_count files.new)) (Rose (S.fault_count out.old) (S.fault_count out.new))) }
 
-    // The files that are asked for are those of the words, in their order: up to the one that is refused, or that was not read.
-    ensures asked { AppendsFront (F.asked files.old) (F.asked files.new) (names_of (command_of words.now)) }
-    ensures files { AsksByStatus (command_of words.now) result.status (F.asked files.old) (F.asked files.new) }
-    ensures unread { result.status ≡ 7 → StopsAt F.asked F.fault_count files.old files.new (names_of (command_of words.now)) }
+    // The files that are asked for are those of the words, in their order, and behind the source those that it imports, by their
+    // numbers: up to the one that is refused, or that was not read.
+    ensures asked { AsksFrontOf (F.told files.old) (command_of words.now) (F.asked files.old) (F.asked files.new) }
+    ensures files { AsksByStatus (F.told files.old) (command_of words.now) result.status (F.asked files.old) (F.asked files.new) }
+    ensures unread { result.status ≡ 7 → StopsInsideOf (F.told files.old) (command_of words.now) F.asked F.fault_count files.old files.new }
 
     // A fault of the files, before anything was written.
     ensures read { result.status ≡ 7 → Rose (F.fault_count files.old) (F.fault_count files.new) }

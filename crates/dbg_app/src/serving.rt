@@ -4,9 +4,8 @@ ghost use Rattle.std.specs.Prelude.{◌≡◌, ◌≢◌, ◌≤◌, ◌<◌, �
 ghost use Rattle.std.specs.Option.{option_map};
 ghost use Rattle.io_edge.specs.Faults.{Rose};
 ghost use Rattle.io_edge.specs.Taken.{Appends, AppendsFront, Grows};
-ghost use Rattle.io_edge.specs.Unread.{StopsAt};
 ghost use Rattle.serve_net.specs.Service.{AsksNone};
-ghost use Rattle.dbg_app.specs.Command.{names_of};
+ghost use Rattle.dbg_app.specs.Names.{AsksFrontOf, StopsInsideOf};
 ghost use Rattle.dbg_app.specs.Answers.{usage_fault};
 ghost use Rattle.dbg_app.specs.Judged.{HasText, TakesText, TakesTextFront, judged_status};
 ghost use Rattle.dbg_app.specs.Outcome.{is_status, is_usage_status, TakesDesignLine, TakesStimulusLine, EndsAsAsked};
@@ -34,7 +33,7 @@ use std::thread::Threads;
 /// |---|---|---|
 /// | 0 | none of the rest | of each time that the door was asked a line: `connection I end E requests R`, or `connection I door failed` |
 /// | 2 | the words are no service | `usage fault` |
-/// | 3 | SRC is no source, or its design from the module TOP is refused | `design fault`, with the number and name of the refusal, and its fields |
+/// | 3 | SRC or a file that it imports is no source, these are more than 64, or the design from the module TOP is refused | `design fault`, with the number and name of the refusal, and its fields |
 /// | 4 | STIM is refused for the design's ports | `stimulus fault`, with the number and name of the refusal, and its row and column |
 /// | 7 | a file was not read | nothing |
 /// | 8 | the output failed | a front of it |
@@ -77,10 +76,11 @@ pub fn serve<R: Threads + Wait + Sync, F: Files, S: Sink, D: Door>(
         CompletesOffer told offer result.status (S.taken out.old) (S.taken out.new)
         (Rose (F.fault_count files.old) (F.fault_count files.new)) (Rose (S.fault_count out.old) (S.fault_count out.new))) }
 
-    // The files that are asked for are those of the words, in their order: up to the one that is refused, or that was not read.
-    ensures asked { AppendsFront (F.asked files.old) (F.asked files.new) (names_of (option_map offer_files (offer_of words.now))) }
-    ensures files { AsksByStatus (offer_of words.now) result.status (F.asked files.old) (F.asked files.new) }
-    ensures unread { result.status ≡ 7 → StopsAt F.asked F.fault_count files.old files.new (names_of (option_map offer_files (offer_of words.now))) }
+    // The files that are asked for are those of the words, in their order, and behind the source those that it imports, by their
+    // numbers: up to the one that is refused, or that was not read.
+    ensures asked { AsksFrontOf (F.told files.old) (option_map offer_files (offer_of words.now)) (F.asked files.old) (F.asked files.new) }
+    ensures files { AsksByStatus (F.told files.old) (offer_of words.now) result.status (F.asked files.old) (F.asked files.new) }
+    ensures unread { result.status ≡ 7 → StopsInsideOf (F.told files.old) (option_map offer_files (offer_of words.now)) F.asked F.fault_count files.old files.new }
 
     // A fault of the files, before anything was written.
     ensures read { result.status ≡ 7 → Rose (F.fault_count files.old) (F.fault_count files.new) }

@@ -2,15 +2,16 @@
 //!
 //! The text of the stimulus is kept: each session reads its rows anew.
 
-ghost use Rattle.std.specs.Prelude.{◌≡◌, ◌≤◌, [], ◌∷◌, Some, IfOk, IfSome, OnOk, IsErrOf};
+ghost use Rattle.std.specs.Prelude.{◌≡◌, ◌≤◌, [], ◌∷◌, Some, None, IfOk, IfSome, OnOk, IsErrOf};
 ghost use Rattle.io_edge.specs.Faults.{Rose};
 ghost use Rattle.io_edge.specs.Taken.{Appends, AppendsFront};
 ghost use Rattle.io_edge.specs.Unread.{StopsAt};
 ghost use Rattle.design_core.specs.DesignView.{design_of};
 ghost use Rattle.design_judge.specs.Accepting.{IsKept, accepting_of};
-ghost use Rattle.dbg_app.specs.Asked.{command_as, stimulus_as};
+ghost use Rattle.dbg_app.specs.Asked.{command_as, requests_as, stimulus_as};
+ghost use Rattle.dbg_app.specs.Names.{AsksFrontOf, StopsInsideOf};
 ghost use Rattle.dbg_app.specs.Answers.{HoldsDesign};
-ghost use Rattle.dbg_app.specs.Serving.{AreRows, FindsRows, IsShown, JudgesOffer, asked_show, asked_shown};
+ghost use Rattle.dbg_app.specs.Serving.{AreRows, FindsRows, IsShown, JudgesOffer, AsksShown, asked_show};
 
 use crate::Halt;
 use crate::command::Command;
@@ -86,7 +87,7 @@ fn show<F: Files>(
     }
 }
 
-/// Reads the source and the stimulus of a service, in this order, and judges each before the next is read.
+/// Reads the source of a service, the files that it imports, and the stimulus, in this order, and judges each before the next is read.
 pub(crate) fn judge_shown<F: Files>(
     alloc: Global,
     command: &Command<'_>,
@@ -94,13 +95,14 @@ pub(crate) fn judge_shown<F: Files>(
     files: &mut F,
 ) -> Result<Shown, Halt>
     requires stimulus { stimulus_as command.now.task ≡ Some stimulus.now }
+    requires bare { requests_as command.now.task ≡ None }
     ensures judged { IfOk result (λ shown. IfSome (F.told files.old) (λ told. JudgesOffer told (command_as command.now) shown)) }
     ensures shown { IfOk result IsShown }
     ensures same { F.told files.new ≡ F.told files.old }
-    ensures asked { IfOk result (λ shown. Appends (F.asked files.old) (F.asked files.new) (asked_shown command.now.source.now stimulus.now shown)) }
-    ensures front { AppendsFront (F.asked files.old) (F.asked files.new) (command.now.source.now ∷ stimulus.now ∷ []) }
+    ensures asked { IfOk result (AsksShown (F.told files.old) (command_as command.now) (F.asked files.old) (F.asked files.new)) }
+    ensures front { AsksFrontOf (F.told files.old) (Some (command_as command.now)) (F.asked files.old) (F.asked files.new) }
     ensures read { IsErrOf result Halt.ReadFault → Rose (F.fault_count files.old) (F.fault_count files.new) }
-    ensures unread { IsErrOf result Halt.ReadFault → StopsAt F.asked F.fault_count files.old files.new (command.now.source.now ∷ stimulus.now ∷ []) }
+    ensures unread { IsErrOf result Halt.ReadFault → StopsInsideOf (F.told files.old) (Some (command_as command.now)) F.asked F.fault_count files.old files.new }
     ensures no_write { IsErrOf result Halt.WriteFault → ⊥ }
     ensures later { F.fault_count files.old ≤ F.fault_count files.new }
 {

@@ -4,7 +4,6 @@ use Rattle.std.specs.Prelude.{nat_eq, Contains, IfOk}
 use Rattle.std.specs.List.{list_any, list_all}
 use Rattle.bv_core.specs.Value.{Bits}
 use Rattle.bv_core.specs.declared.Binding.{Binding}
-use Rattle.bv_core.specs.declared.NodeId.{NodeId}
 use Rattle.bv_core.specs.declared.Ref.{Ref}
 use Rattle.bv_core.specs.declared.Sample.{Sample}
 use Rattle.bv_core.specs.declared.Sample.TheVariants.{Known, Unknown}
@@ -24,7 +23,7 @@ use Rattle.cond_lang.specs.declared.fault.CondFault.{CondFault}
 use Rattle.cond_lang.specs.declared.fault.CondFault.TheVariants as cond_faults
 use Rattle.cond_lang.specs.declared.text.CondText.{CondText}
 use Rattle.cond_lang.specs.Bound as bound
-use Rattle.cond_lang.specs.Bound.{scope_of, ref_or_nought, bound_by, bound_value, EachNode, HasWidth}
+use Rattle.cond_lang.specs.Bound.{scope_of, ref_or_nought, bound_by, bound_value, EachNode}
 use Rattle.cond_lang.specs.Faults.{IsCause}
 use Rattle.cond_lang.specs.Judged.{Refusal, judged}
 use Rattle.cond_lang.specs.Meaning as cond
@@ -37,11 +36,10 @@ use Rattle.machine_core.specs.declared.reply.Body.TheVariants as body
 use Rattle.machine_core.specs.Reading.{Reading, Condition, NoCondition, Reader, IsReader}
 use Rattle.machine_core.specs.Matching.{value_there}
 use Rattle.machine_core.specs.Machine.{sample_of, threads_at}
-use Rattle.slot_sched.specs.Waiting.{cycle_samples, IsSet, IsValue, IsNodeOf}
+use Rattle.slot_sched.specs.Waiting.{cycle_samples, IsNodeOf}
 use Rattle.slot_sched.proofs.Matches.{shown_told}
 use Rattle.slot_sched.proofs.Readings.{read_never}
 use Rattle.slot_sched.proofs.Scopes.{judged_told}
-use Rattle.slot_sched.proofs.Tests.{each_weaker, wide}
 use Rattle.slot_sched.proofs.Values.{bound_value_is, value_told, node_of}
 use Rattle.slot_sched.specs.Scan.{total_of}
 use Rattle.dbg_core.specs.World.{world_of}
@@ -59,16 +57,6 @@ pub nodes_own : (parts : TableParts) → IsTable parts → (s : Samples) → Fit
 nodes_own parts table s fits k i text tree e =
     subst (EachNode (IsNodeOf s)) (sym e)
     (each_place (IsNodeOf s) (λ x. ref_or_nought (binding_of parts k i x)) (λ x. node_of parts table s fits k i x (binding_of parts k i x) refl) (tree_of (text_expr text)))
-
-pub each_asked_for : (s : Samples) (Q : NodeId → ℕ → Type 0) (tree : Tree Ref) → EachNode (IsNodeOf s) tree → ((n : NodeId) (w : ℕ) → n.0 < s.nodes → Q n w) → EachNode Q tree
-each_asked_for s Q tree own ask = each_weaker (IsNodeOf s) Q (λ n w h. ask n w h.within) tree own
-
-pub each_has_width : (s : Samples) (cursor : Option ℕ) (R : NodeId → Sample → Type 0) (tree : Tree Ref) → EachNode (IsNodeOf s) tree → IsSet s cursor
-    → ((n : NodeId) (found : Sample) → R n found → (found ≡ cycle_samples s cursor n.0) × IsValue found)
-    → EachNode (λ n w. (found : Sample) → R n found → HasWidth w found) tree
-each_has_width s cursor R tree own set tells =
-    each_weaker (IsNodeOf s) (λ n w. (found : Sample) → R n found → HasWidth w found)
-    (λ n w h found r. wide s cursor n w found set h (tells n found r).0 (tells n found r).1) tree own
 
 -- ---- the value
 

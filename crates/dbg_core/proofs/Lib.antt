@@ -10,3 +10,4 @@ pub mod Threads
 pub mod Told
 pub mod Turns
 pub mod Values
+pub mod Watches

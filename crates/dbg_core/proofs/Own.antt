@@ -1,6 +1,6 @@
--- That breakpoints are those of a table holds in one way at most, up to where an instance is listed; so where it is merely known, it is
--- known.
-use Rattle.std.proofs.Common.{◌≡◌, ℕ, suc, ◌<◌, true, List, [], ◌∷◌, length, map, Option, Some, None, sym, ap, ◌∙◌, arith, eqb-true, inl, inr}
+-- That breakpoints and watches are those of a table holds in one way at most, up to where an instance is listed; so where it is merely
+-- known, it is known.
+use Rattle.std.proofs.Common.{◌≡◌, ℕ, suc, ◌<◌, Bool, true, false, List, [], ◌∷◌, length, map, Option, Some, None, sym, ap, ◌∙◌, arith, eqb-true, inl, inr}
 use Rattle.std.specs.Prelude.{nat_eq, All, Contains}
 use Rattle.std.specs.List.{list_any}
 use Rattle.std.specs.Coded.{×_prop}
@@ -18,8 +18,12 @@ use Rattle.cond_lang.specs.Judged.{Refusal}
 use Rattle.slot_sched.specs.declared.armed.Trap.{Trap}
 use Rattle.slot_sched.specs.declared.armed.Armed.{Armed}
 use Rattle.slot_sched.specs.declared.schedule.Schedule.{Schedule}
-use Rattle.slot_sched.specs.Armed.{trap_place, traps_of, IsBoundAt, IsTrap, IsArmed, AreOf}
+use Rattle.slot_sched.specs.Armed.{trap_place, traps_of, IsFittingAt, IsTrapOf, IsArmed, AreOf}
 use Rattle.slot_sched.proofs.Matches.{number_told}
+use Rattle.watch.specs.declared.watched.Watched.{Watched}
+use Rattle.watch.specs.declared.watch_list.WatchList.{WatchList}
+use Rattle.watch.specs.Watching as watching
+use Rattle.watch.specs.Watching.{IsWatched}
 use Rattle.cond_lang.specs.Sets.{tree_set}
 
 -- ---- what is listed
@@ -42,42 +46,67 @@ ref_set = hlevel props
 refusal_set : IsSet Refusal
 refusal_set = hlevel props
 
-bound_prop : (parts : TableParts) (k i : ℕ) (text : Option CondText) (cond : Option Cond) → IsProp (IsBoundAt parts k i text cond)
-bound_prop parts k i None None = hlevel props
-bound_prop parts k i None (Some cond) = hlevel props
-bound_prop parts k i (Some text) None = hlevel props
-bound_prop parts k i (Some text) (Some cond) = hlevel (props, tree_set ref_set, refusal_set)
+bound_prop : (bit : Bool) (parts : TableParts) (k i : ℕ) (text : Option CondText) (cond : Option Cond) → IsProp (IsFittingAt bit parts k i text cond)
+bound_prop bit parts k i None None = hlevel props
+bound_prop bit parts k i None (Some cond) = hlevel props
+bound_prop bit parts k i (Some text) None = hlevel props
+bound_prop true parts k i (Some text) (Some cond) = hlevel (props, tree_set ref_set, refusal_set)
+bound_prop false parts k i (Some text) (Some cond) = hlevel (props, tree_set ref_set, refusal_set)
 
-abbrev OwnTrap : TableParts → Option CondText → Trap → Type 0
-OwnTrap parts text t = (t.slot < length parts.slots) × (list_any (nat_eq t.instance) (instances_of parts t.slot) ≡ true) × IsBoundAt parts t.slot t.instance text t.cond
+abbrev OwnTrap : (bit : Bool) → TableParts → Option CondText → Trap → Type 0
+OwnTrap bit parts text t = (t.slot < length parts.slots) × (list_any (nat_eq t.instance) (instances_of parts t.slot) ≡ true) × IsFittingAt bit parts t.slot t.instance text t.cond
+
+abbrev OwnTraps : (bit : Bool) → TableParts → Option CondText → Option ℕ → (slots : List ℕ) → List Trap → Type 0
+OwnTraps bit parts text named slots traps = (map trap_place traps ≡ traps_of parts named slots) × All (OwnTrap bit parts text) traps
 
 abbrev OwnArmed : TableParts → Armed → Type 0
-OwnArmed parts a = (map trap_place a.traps.items ≡ traps_of parts a.instance a.slots.items) × All (OwnTrap parts a.text) a.traps.items
+OwnArmed parts a = OwnTraps true parts a.text a.instance a.slots.items a.traps.items
+
+abbrev OwnWatched : TableParts → Watched → Type 0
+OwnWatched parts a = OwnTraps false parts (Some a.text) (Some a.instance) a.slots.items a.traps.items
 
 all_prop : {X : Type 0} (P : X → Type 0) → ((x : X) → IsProp (P x)) → (xs : List X) → IsProp (All P xs)
 all_prop P h xs = hlevel h
 
-trap_prop : (parts : TableParts) (text : Option CondText) (t : Trap) → IsProp (OwnTrap parts text t)
-trap_prop parts text t = hlevel (props, bound_prop parts t.slot t.instance text t.cond)
+trap_prop : (bit : Bool) (parts : TableParts) (text : Option CondText) (t : Trap) → IsProp (OwnTrap bit parts text t)
+trap_prop bit parts text t = hlevel (props, bound_prop bit parts t.slot t.instance text t.cond)
+
+traps_prop : (bit : Bool) (parts : TableParts) (text : Option CondText) (named : Option ℕ) (slots : List ℕ) (traps : List Trap) → IsProp (OwnTraps bit parts text named slots traps)
+traps_prop bit parts text named slots traps =
+    let places : IsProp (map trap_place traps ≡ traps_of parts named slots) = hlevel props in
+    ×_prop places (all_prop (OwnTrap bit parts text) (trap_prop bit parts text) traps)
 
 armed_prop : (parts : TableParts) (a : Armed) → IsProp (OwnArmed parts a)
-armed_prop parts a =
-    let places : IsProp (map trap_place a.traps.items ≡ traps_of parts a.instance a.slots.items) = hlevel props in
-    ×_prop places (all_prop (OwnTrap parts a.text) (trap_prop parts a.text) a.traps.items)
+armed_prop parts a = traps_prop true parts a.text a.instance a.slots.items a.traps.items
+
+watched_prop : (parts : TableParts) (a : Watched) → IsProp (OwnWatched parts a)
+watched_prop parts a = traps_prop false parts (Some a.text) (Some a.instance) a.slots.items a.traps.items
 
 -- ---- there and back
 
-trap_to : (parts : TableParts) (text : Option CondText) (t : Trap) → IsTrap parts text t → OwnTrap parts text t
-trap_to parts text t h = (h.slot, listed_any t.instance (instances_of parts t.slot) h.instance, h.bound)
+trap_to : (bit : Bool) (parts : TableParts) (text : Option CondText) (t : Trap) → IsTrapOf bit parts text t → OwnTrap bit parts text t
+trap_to bit parts text t h = (h.slot, listed_any t.instance (instances_of parts t.slot) h.instance, h.bound)
 
-trap_from : (parts : TableParts) (text : Option CondText) (t : Trap) → OwnTrap parts text t → IsTrap parts text t
-trap_from parts text t h = record { slot = h.0; instance = any_listed t.instance (instances_of parts t.slot) h.1; bound = h.2 }
+trap_from : (bit : Bool) (parts : TableParts) (text : Option CondText) (t : Trap) → OwnTrap bit parts text t → IsTrapOf bit parts text t
+trap_from bit parts text t h = record { slot = h.0; instance = any_listed t.instance (instances_of parts t.slot) h.1; bound = h.2 }
+
+traps_to : (bit : Bool) (parts : TableParts) (text : Option CondText) (traps : List Trap) → All (IsTrapOf bit parts text) traps → All (OwnTrap bit parts text) traps
+traps_to bit parts text traps h = All-weaker (IsTrapOf bit parts text) (OwnTrap bit parts text) (trap_to bit parts text) traps h
+
+traps_from : (bit : Bool) (parts : TableParts) (text : Option CondText) (traps : List Trap) → All (OwnTrap bit parts text) traps → All (IsTrapOf bit parts text) traps
+traps_from bit parts text traps h = All-weaker (OwnTrap bit parts text) (IsTrapOf bit parts text) (trap_from bit parts text) traps h
 
 armed_to : (parts : TableParts) (a : Armed) → IsArmed parts a → OwnArmed parts a
-armed_to parts a h = (h.places, All-weaker (IsTrap parts a.text) (OwnTrap parts a.text) (trap_to parts a.text) a.traps.items h.each)
+armed_to parts a h = (h.places, traps_to true parts a.text a.traps.items h.each)
 
 armed_from : (parts : TableParts) (a : Armed) → OwnArmed parts a → IsArmed parts a
-armed_from parts a h = record { places = h.0; each = All-weaker (OwnTrap parts a.text) (IsTrap parts a.text) (trap_from parts a.text) a.traps.items h.1 }
+armed_from parts a h = record { places = h.0; each = traps_from true parts a.text a.traps.items h.1 }
+
+watched_to : (parts : TableParts) (a : Watched) → IsWatched parts a → OwnWatched parts a
+watched_to parts a h = (h.places, traps_to false parts (Some a.text) a.traps.items h.each)
+
+watched_from : (parts : TableParts) (a : Watched) → OwnWatched parts a → IsWatched parts a
+watched_from parts a h = record { places = h.0; each = traps_from false parts (Some a.text) a.traps.items h.1 }
 
 pub own_again : (parts : TableParts) (s : Schedule) → ∥ AreOf parts s ∥₁ → AreOf parts s
 own_again parts s m =
@@ -86,3 +115,11 @@ own_again parts s m =
 
 pub own_kept : (parts : TableParts) (s t : Schedule) → (AreOf parts s → AreOf parts t) → ∥ AreOf parts s ∥₁ → ∥ AreOf parts t ∥₁
 own_kept parts s t f m = ∣ f (own_again parts s m) ∣₁
+
+pub watches_again : (parts : TableParts) (list : WatchList) → ∥ watching.AreOf parts list ∥₁ → watching.AreOf parts list
+watches_again parts list m =
+    All-weaker (OwnWatched parts) (IsWatched parts) (watched_from parts) list.watched.items
+    (∥∥₁_elim m (all_prop (OwnWatched parts) (watched_prop parts) list.watched.items) (All-weaker (IsWatched parts) (OwnWatched parts) (watched_to parts) list.watched.items))
+
+pub watches_kept : (parts : TableParts) (s t : WatchList) → (watching.AreOf parts s → watching.AreOf parts t) → ∥ watching.AreOf parts s ∥₁ → ∥ watching.AreOf parts t ∥₁
+watches_kept parts s t f m = ∣ f (watches_again parts s m) ∣₁

@@ -13,7 +13,7 @@ use Rattle.dbg_core.proofs.Turns.{rests}
 -- an idle machine makes no turns
 still : (w : World) (n : ℕ) (m : Machine) → m.motion ≡ Idle → turns_from w n m ≡ record { after = m; lines = [] }
 still w zero m e = refl
-still w (suc n) m e = ap (λ (t : Turn). behind (notices_of w t.turned) (turns_from w n t.after)) (sym (rests w m e)) ∙ still w n m e
+still w (suc n) m e = ap (λ (t : Turn). behind (notices_of w t.after t.turned) (turns_from w n t.after)) (sym (rests w m e)) ∙ still w n m e
 
 pub idle_ran : (w : World) (m : Machine) → m.motion ≡ Idle → until_idle w m ≡ record { after = m; lines = [] }
 idle_ran w m e = still w (position_count w + 1) m e
@@ -21,15 +21,15 @@ idle_ran w m e = still w (position_count w + 1) m e
 -- once it is idle, one turn more adds nothing
 settled : (w : World) (n : ℕ) (m : Machine) → (turns_from w n m).after.motion ≡ Idle → turns_from w (suc n) m ≡ turns_from w n m
 settled w zero m e = still w 1 m e
-settled w (suc n) m e = ap (behind (notices_of w (turn_of w m).turned)) (settled w n (turn_of w m).after e)
+settled w (suc n) m e = ap (behind (notices_of w (turn_of w m).after (turn_of w m).turned)) (settled w n (turn_of w m).after e)
 
 -- the turns until it is idle are one turn, and those until it is idle from there
-pub one_turn : (w : World) (m : Machine) → m.place ≤ end_place w → until_idle w m ≡ behind (notices_of w (turn_of w m).turned) (until_idle w (turn_of w m).after)
+pub one_turn : (w : World) (m : Machine) → m.place ≤ end_place w → until_idle w m ≡ behind (notices_of w (turn_of w m).after (turn_of w m).turned) (until_idle w (turn_of w m).after)
 one_turn w m within =
     let next : turns_from w (position_count w + 1) m ≡ turns_from w (suc (position_count w)) m = ap (λ n. turns_from w n m) (add-one (position_count w)) in
     let ends : (turns_from w (suc (position_count w)) m).after.motion ≡ Idle = ap (λ (r : Ran). r.after.motion) (sym next) ∙ batches_end w m within in
     next
-    ∙ ap (behind (notices_of w (turn_of w m).turned)) (sym (settled w (position_count w) (turn_of w m).after ends) ∙ ap (λ n. turns_from w n (turn_of w m).after) (sym (add-one (position_count w))))
+    ∙ ap (behind (notices_of w (turn_of w m).after (turn_of w m).turned)) (sym (settled w (position_count w) (turn_of w m).after ends) ∙ ap (λ n. turns_from w n (turn_of w m).after) (sym (add-one (position_count w))))
 
 -- ---- a batch, as a loop puts out its lines: those before, and those of what is left, are the whole
 
@@ -38,10 +38,10 @@ behind_twice a b ran = ap (λ lines. record { after = ran.after; lines = lines }
 
 -- one turn more
 pub turn_more : (w : World) (m : Machine) (rest : Machine → Ran) (before : List Line) (whole : Ran) → m.place ≤ end_place w → behind before (waited (until_idle w m) rest) ≡ whole
-    → behind (before ++ notices_of w (turn_of w m).turned) (waited (until_idle w (turn_of w m).after) rest) ≡ whole
+    → behind (before ++ notices_of w (turn_of w m).after (turn_of w m).turned) (waited (until_idle w (turn_of w m).after) rest) ≡ whole
 turn_more w m rest before whole within inv =
-    behind_twice before (notices_of w (turn_of w m).turned) (waited (until_idle w (turn_of w m).after) rest)
-    ∙ ap (behind before) (sym (behind_twice (notices_of w (turn_of w m).turned) (until_idle w (turn_of w m).after).lines (rest (until_idle w (turn_of w m).after).after)))
+    behind_twice before (notices_of w (turn_of w m).after (turn_of w m).turned) (waited (until_idle w (turn_of w m).after) rest)
+    ∙ ap (behind before) (sym (behind_twice (notices_of w (turn_of w m).after (turn_of w m).turned) (until_idle w (turn_of w m).after).lines (rest (until_idle w (turn_of w m).after).after)))
     ∙ ap (λ ran. behind before (waited ran rest)) (sym (one_turn w m within))
     ∙ inv
 

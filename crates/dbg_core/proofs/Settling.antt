@@ -1,5 +1,5 @@
 -- Turns until a session is idle: all but the last only move, and tell nothing.
-use Rattle.std.proofs.Common.{◌≡◌, ℕ, ◌<◌, ◌≤◌, Bool, true, false, List, length, take, Option, Some, None, refl, ap, ◌∙◌, sym, subst, arith, find, inl, inr, append-nil}
+use Rattle.std.proofs.Common.{◌≡◌, ℕ, ◌<◌, ◌≤◌, Bool, true, false, List, length, Option, Some, None, refl, ap, ◌∙◌, sym, subst, arith, inl, inr, append-nil}
 use Rattle.trace_core.specs.declared.scan.Way.{Way}
 use Rattle.trace_core.specs.declared.scan.Way.TheVariants.{Forward, Backward}
 use Rattle.trace_core.specs.declared.scan.Want.{Want}
@@ -8,9 +8,10 @@ use Rattle.machine_core.specs.declared.turn.Motion.{Motion}
 use Rattle.machine_core.specs.declared.turn.Motion.TheVariants.{Idle, Running}
 use Rattle.machine_core.specs.declared.turn.Turned.{Turned}
 use Rattle.machine_core.specs.declared.turn.Turned.TheVariants as turned
-use Rattle.machine_core.specs.Positions.{position_count, end_place, ahead, reach}
+use Rattle.machine_core.specs.Positions.{position_count, end_place, ahead}
 use Rattle.machine_core.specs.Matching.{matches}
-use Rattle.machine_core.specs.Machine.{Machine, Turn, edge_turn, moved_turn, turn_to, turn_by, turn_of}
+use Rattle.machine_core.specs.Search.{nearest_that}
+use Rattle.machine_core.specs.Machine.{Machine, awaited_by, Turn, edge_turn, moved_turn, turn_to, turn_by, turn_of}
 use Rattle.machine_core.specs.Journal.{Line, Ran, notices_of, behind, until_idle}
 use Rattle.machine_core.proofs.Ends.{length_ahead, ahead_length, running_turns, far_or_near, edge_is_idle}
 use Rattle.dbg_core.proofs.Runs.{idle_ran, one_turn}
@@ -74,7 +75,7 @@ turn_kind w m within = by_motion m.motion refl
     by_motion Idle e = subst (TurnKind w m) (sym (idle_turn w m e)) (rests refl e)
     by_motion (Running way want) e =
         subst (TurnKind w m) (sym (running_turns w m way want e))
-        (turn_to_kind w way want m (find (matches w m.breakpoints want) (take reach (ahead (position_count w) way m.place))) (ahead (position_count w) way m.place) e within (ahead_length (position_count w) way m.place))
+        (turn_to_kind w way want m (nearest_that (matches w (awaited_by m) want) (position_count w) way m.place) (ahead (position_count w) way m.place) e within (ahead_length (position_count w) way m.place))
 
 -- ---- turns until it is idle
 
@@ -85,18 +86,18 @@ module _ (w : World) (m : Machine) (t : Turn) (is : t ≡ turn_of w m) (within :
   -- those behind a turn that only moves tell what is left to tell
   pub after_move : t.turned ≡ turned.Moved → until_idle w m ≡ until_idle w t.after
   after_move told =
-      one_turn w m within ∙ ap (λ (x : Turn). behind (notices_of w x.turned) (until_idle w x.after)) (sym is) ∙ ap (λ x. behind (notices_of w x) (until_idle w t.after)) told
+      one_turn w m within ∙ ap (λ (x : Turn). behind (notices_of w x.after x.turned) (until_idle w x.after)) (sym is) ∙ ap (λ x. behind (notices_of w t.after x) (until_idle w t.after)) told
 
   -- any other turn is the last that tells something
-  pub last_turn : is_moved t.turned ≡ false → (let ran : Ran = record { after = t.after; lines = notices_of w t.turned } in ran) ≡ until_idle w m
+  pub last_turn : is_moved t.turned ≡ false → (let ran : Ran = record { after = t.after; lines = notices_of w t.after t.turned } in ran) ≡ until_idle w m
   last_turn told = by_kind kind
     where
-      by_kind : TurnKind w m t → (let ran : Ran = record { after = t.after; lines = notices_of w t.turned } in ran) ≡ until_idle w m
+      by_kind : TurnKind w m t → (let ran : Ran = record { after = t.after; lines = notices_of w t.after t.turned } in ran) ≡ until_idle w m
       by_kind (moves x way want was on inside less) = let both : true ≡ false = sym (ap is_moved x) ∙ told in cc
       by_kind (rests x idle) =
-          sym (one_turn w m within ∙ ap (λ (x : Turn). behind (notices_of w x.turned) (until_idle w x.after)) (sym is)
-          ∙ ap (behind (notices_of w t.turned)) (idle_ran w t.after idle)
-          ∙ ap (λ (lines : List Line). record { after = t.after; lines = lines }) (append-nil (notices_of w t.turned)))
+          sym (one_turn w m within ∙ ap (λ (x : Turn). behind (notices_of w x.after x.turned) (until_idle w x.after)) (sym is)
+          ∙ ap (behind (notices_of w t.after t.turned)) (idle_ran w t.after idle)
+          ∙ ap (λ (lines : List Line). record { after = t.after; lines = lines }) (append-nil (notices_of w t.after t.turned)))
 
   -- a move leaves fewer positions ahead
   pub less_left : t.turned ≡ turned.Moved → left_of w t.after.motion t.after.place < left_of w m.motion m.place

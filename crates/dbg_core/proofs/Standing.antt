@@ -14,10 +14,10 @@ use Rattle.machine_core.specs.declared.turn.Motion.{Motion}
 use Rattle.machine_core.specs.declared.turn.Motion.TheVariants.{Idle, Running}
 use Rattle.machine_core.specs.Positions.{cycle_at, slot_at, at_place}
 use Rattle.machine_core.specs.Reading.{Reader, Reading, Condition, NoCondition}
-use Rattle.machine_core.specs.Matching.{Breakpoint}
+use Rattle.machine_core.specs.Matching.{Breakpoint, Watch}
 use Rattle.machine_core.specs.Arming.{instance_named, scope_at}
-use Rattle.machine_core.specs.Machine.{Machine, Outcome, Refused, accepted_unless, armed_break, if_idle, if_stopped, at_stop, if_thread, at_thread, position_of, threads_at, threads, values, eval, judged_value, drop_listener, answer_by}
-use Rattle.dbg_core.specs.Answering.{answered, told_of, stand, stand_at, thread_of, thread_there, thread_from, threads_body, values_body, eval_body, judged_body, broken, dropped}
+use Rattle.machine_core.specs.Machine.{Machine, Outcome, Refused, accepted_unless, armed_break, armed_watch, if_idle, if_stopped, at_stop, if_thread, at_thread, position_of, threads_at, threads, values, eval, judged_value, drop_listener, answer_by}
+use Rattle.dbg_core.specs.Answering.{answered, told_of, stand, stand_at, thread_of, thread_there, thread_from, threads_body, values_body, eval_body, judged_body, broken, watched, dropped}
 
 same_Ok : {A B : Type 0} (x y : A) → (let r : Result A B = Ok x in r) ≡ Ok y → x ≡ y
 same_Ok x y e = cc
@@ -98,7 +98,7 @@ known_from w place named (Ok p) q i e = known_there w place p named q i e
 pub thread_known : (w : World) (motion : Motion) (place : ℕ) (path : Name) (q i : ℕ) → thread_of w motion place path ≡ Ok (q, i) → list_any (nat_eq i) (threads_at w q) ≡ true
 thread_known w motion place path q i e = known_from w place (instance_named w path) (stand w motion place) q i e
 
--- ---- breakpoints and listeners
+-- ---- breakpoints, watches and listeners
 
 -- a machine with these breakpoints, and this next number
 abbrev pub armed_with : Machine → List Breakpoint × ℕ × Body → Machine
@@ -108,6 +108,15 @@ pub break_answered : (m : Machine) (id : Option ℕ) (made : Result Breakpoint B
     → answered (armed_with m (broken made m.breakpoints m.next)) id (broken made m.breakpoints m.next).2 ≡ answer_by m id (accepted_unless made (armed_break m))
 break_answered m id (Ok b) = refl
 break_answered m id (Err refusal) = refl
+
+-- and with these watches
+abbrev pub watching_with : Machine → List Watch × ℕ × Body → Machine
+watching_with m left = record m { watches = left.0; next_watch = left.1 }
+
+pub watch_answered : (m : Machine) (id : Option ℕ) (made : Result Watch Body)
+    → answered (watching_with m (watched made m.watches m.next_watch)) id (watched made m.watches m.next_watch).2 ≡ answer_by m id (accepted_unless made (armed_watch m))
+watch_answered m id (Ok watch) = refl
+watch_answered m id (Err refusal) = refl
 
 pub drop_answered : (m : Machine) (id : Option ℕ) (k : ℕ) (o : Option Heard)
     → answered (record m { heard = (dropped m.heard k o).0 }) id (dropped m.heard k o).1 ≡ answer_by m id (drop_listener m k o)

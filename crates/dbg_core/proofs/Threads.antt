@@ -1,5 +1,5 @@
 -- The threads of a slot, as the machine sees them.
-use Rattle.std.proofs.Common.{◌≡◌, ℕ, ◌*◌, ◌/◌, ◌%◌, ◌^◌, ◌<◌, ◌≤◌, ◌==◌, ◌&&◌, Bool, true, false, [], length, filter, Option, Some, None, nat_lt, if◌then◌else◌, refl, sym, ap, ap₂, ◌∙◌, subst, arith}
+use Rattle.std.proofs.Common.{◌≡◌, ℕ, ◌*◌, ◌/◌, ◌%◌, ◌^◌, ◌<◌, ◌≤◌, ◌==◌, ◌&&◌, Bool, List, true, false, [], length, filter, Option, Some, None, nat_lt, if◌then◌else◌, refl, sym, ap, ap₂, ◌∙◌, subst, arith}
 use Rattle.std.specs.Prelude.{slice_get, nat_eq}
 use Rattle.std.specs.List.{list_any}
 use Rattle.std.specs.Option.{option_map_or}
@@ -18,6 +18,7 @@ use Rattle.symtab.proofs.Grouped.{length-places_from}
 use Rattle.trace_core.specs.Samples.{Samples}
 use Rattle.trace_core.specs.declared.scan.Seek.{Seek}
 use Rattle.trace_core.specs.declared.scan.Seek.TheVariants as seek
+use Rattle.machine_core.specs.Matching.{Watch, watches_at}
 use Rattle.machine_core.specs.Machine.{note_at, line_at, threads_at}
 use Rattle.machine_core.specs.Positions.{cycle_at, slot_at}
 use Rattle.slot_sched.specs.Waiting.{is_thread, step_stops, any_steps, cycle_samples}
@@ -121,12 +122,14 @@ pub few_instances : (parts : TableParts) → IsTable parts → (k : ℕ) → len
 few_instances parts table k = let most = few_by parts (slice_get parts.slots k) in let short = table.short_instances in omega (arith, most, short)
 
 -- what is told of a stop
-pub note_told : (parts : TableParts) (s now : Samples) (cursor : Option ℕ) (p cycle k line count : ℕ) (slot : Slot) → p < total_of parts s → slice_get parts.slots k ≡ Some slot
+pub note_told : (parts : TableParts) (s now : Samples) (cursor : Option ℕ) (watches : List Watch) (p cycle k line count matching : ℕ) (slot : Slot) → p < total_of parts s → slice_get parts.slots k ≡ Some slot
     → cycle ≡ p / length parts.slots → k ≡ p % length parts.slots → line ≡ slot.line → count ≡ length (slot_threads parts (cycle_samples now cursor) k) → now ≡ s → cursor ≡ Some cycle
-    → (let note : StopNote = record { cycle = cycle; slot = k; line = line; threads = count } in note) ≡ note_at (world_of parts s) p
-note_told parts s now cursor p cycle k line count slot below there ec ek el en es et =
+    → matching ≡ length (watches_at (world_of parts s) cycle k watches)
+    → (let note : StopNote = record { cycle = cycle; slot = k; line = line; threads = count; watches = matching } in note) ≡ note_at (world_of parts s) watches p
+note_told parts s now cursor watches p cycle k line count matching slot below there ec ek el en es et em =
     let first : cycle ≡ cycle_at (world_of parts s) p = ec ∙ ap (λ n. p / n) (sym (slots_told parts s)) in
     let second : k ≡ slot_at (world_of parts s) p = ek ∙ ap (λ n. p % n) (sym (slots_told parts s)) in
     let third = el ∙ sym (line_told parts s k slot there) in
     let fourth = en ∙ ap length ((λ j. slot_threads parts (cycle_samples (es j) ((et ∙ ap (λ t. Some t) ec) j)) (ek j)) ∙ sym (threads_there parts s p below)) in
-    (λ j. record { cycle = first j; slot = second j; line = third j; threads = fourth j }) ∙ ap (λ n. record { cycle = cycle_at (world_of parts s) p; slot = slot_at (world_of parts s) p; line = line_at (world_of parts s) n; threads = length (threads_at (world_of parts s) p) }) second
+    (λ j. record { cycle = first j; slot = second j; line = third j; threads = fourth j; watches = (em ∙ (λ i. length (watches_at (world_of parts s) (first i) (second i) watches))) j })
+    ∙ ap (λ n. record { cycle = cycle_at (world_of parts s) p; slot = slot_at (world_of parts s) p; line = line_at (world_of parts s) n; threads = length (threads_at (world_of parts s) p); watches = length (watches_at (world_of parts s) (cycle_at (world_of parts s) p) (slot_at (world_of parts s) p) watches) }) second

@@ -14,7 +14,7 @@ use Rattle.machine_core.specs.declared.turn.Motion.{Motion}
 use Rattle.machine_core.specs.declared.turn.Motion.TheVariants.{Idle, Running}
 use Rattle.machine_core.specs.Positions.{cycle_at, slot_at, at_place}
 use Rattle.machine_core.specs.Reading.{Reading, Condition, NoCondition}
-use Rattle.machine_core.specs.Matching.{Breakpoint, value_there}
+use Rattle.machine_core.specs.Matching.{Breakpoint, Watch, value_there}
 use Rattle.machine_core.specs.Arming.{instance_named, scope_at, refusal_at}
 use Rattle.machine_core.specs.declared.reply.Reply.{Reply}
 use Rattle.machine_core.specs.Journal.{Replied, Ran, behind, after_answer}
@@ -107,6 +107,11 @@ step_granted Backward = body.Back
 abbrev pub broken : Result Breakpoint Body → List Breakpoint → ℕ → List Breakpoint × ℕ × Body
 broken (Ok b) old next = (old ++ b ∷ [], next + 1, body.Break b.number b.slots)
 broken (Err refusal) old next = (old, next, refusal)
+
+-- the watches, the next number and the answer, where one was to be armed
+abbrev pub watched : Result Watch Body → List Watch → ℕ → List Watch × ℕ × Body
+watched (Ok watch) old next = (old ++ watch ∷ [], next + 1, body.Watch watch.slots watch.number)
+watched (Err refusal) old next = (old, next, refusal)
 
 -- what listeners mean, and the answer, where one of them was to be dropped
 abbrev pub dropped : List (Option Heard) → ℕ → Option Heard → List (Option Heard) × Body

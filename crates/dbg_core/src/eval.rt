@@ -1,20 +1,17 @@
 //! What an expression comes to in a thread.
 
-ghost use Rattle.std.specs.Prelude.{◌≡◌, ◌<◌, ℕ, Contains, IfOk, Result};
+ghost use Rattle.std.specs.Prelude.{◌≡◌, ℕ, Contains, IfOk, Result};
 ghost use Rattle.symtab.specs.Lookups.{instances_of};
 ghost use Rattle.trace_world.specs.Fitting.{FitsTable};
-ghost use Rattle.cond_lang.specs.Bound.{EachNode, known, bound_value};
 ghost use Rattle.cond_lang.specs.Faults.{Refuses};
 ghost use Rattle.cond_lang.specs.Judged.{Refusal, judged};
-ghost use Rattle.cond_lang.specs.Shown.{cond_tree};
 ghost use Rattle.machine_core.specs.Reading.{Reader, IsReader};
-ghost use Rattle.slot_sched.specs.Waiting.{cycle_samples, IsSet, IsValue, IsNodeOf};
+ghost use Rattle.slot_sched.specs.Waiting.{cycle_samples, IsSet};
 ghost use Rattle.dbg_core.specs.Eval.{text_body, table_body, is_refused_so, is_unread_so};
 
-use bv_core::{NodeId, Sample};
-use cond_lang::{BindEnd, Cond, CondFault, CondText, bind, read_cond, value_of};
+use cond_lang::{BindEnd, CondFault, CondText, bind, read_cond};
 use machine_core::Body;
-use slot_sched::sample_at;
+use slot_sched::come_to;
 use std::alloc::Global;
 use symtab::Table;
 use text_core::NoMemory;
@@ -41,21 +38,6 @@ fn unread(fault: CondFault) -> Result<Body, NoMemory>
         CondFault::At { offset } => Ok(Body::BadCondAt { offset }),
         CondFault::NoMemory => Err(NoMemory),
     }
-}
-
-/// What a condition comes to, in the cycle at which the trace stands.
-fn come_to<T: Trace>(trace: &T, cond: &Cond) -> Sample
-    requires set { IsSet (T.samples trace.now) (T.cursor trace.now) }
-    requires nodes { EachNode (IsNodeOf (T.samples trace.now)) (cond_tree cond.now) }
-    ensures { known result ≡ bound_value (λ node. cycle_samples (T.samples trace.now) (T.cursor trace.now) node.0) (cond_tree cond.now) }
-{
-    let value = |node: NodeId| -> Sample
-        requires set { IsSet (T.samples trace.now) (T.cursor trace.now) }
-        requires node { node.0 < (T.samples trace.now).nodes }
-        ensures sample { result ≡ cycle_samples (T.samples trace.entry.now) (T.cursor trace.entry.now) node.0 }
-        ensures value { IsValue result }
-    { sample_at(trace, node) };
-    value_of(cond, &value)
 }
 
 /// What an expression that was read comes to at a slot of an instance.

@@ -7,6 +7,7 @@ ghost use Rattle.trace_world.specs.Fitting.{FitsTable};
 ghost use Rattle.machine_core.specs.Positions.{at_place};
 ghost use Rattle.machine_core.specs.Machine.{note_at, gens_at};
 ghost use Rattle.slot_sched.specs.Scan.{total_of};
+ghost use Rattle.watch.specs.Watching.{watches, AreOf};
 ghost use Rattle.dbg_core.specs.World.{world_of, path_at};
 
 use crate::sampled::{thread_count, threads_of};
@@ -16,6 +17,7 @@ use std::alloc::Global;
 use symtab::{GenVariable, Table};
 use text_core::{NoMemory, Text};
 use trace_core::{Seek, Trace};
+use watch::WatchList;
 
 /// How many positions there are, fewer than 2^62.
 pub(crate) fn total<T: Trace>(table: &Table, trace: &T) -> u64
@@ -55,20 +57,23 @@ pub(crate) fn at_place<T: Trace>(table: &Table, trace: &T, place: u64) -> At
 }
 
 /// What is told of a stop at a position.
-pub(crate) fn note_at<T: Trace>(table: &Table, trace: &mut T, p: u64) -> StopNote
+pub(crate) fn note_at<T: Trace>(table: &Table, trace: &mut T, watch: &WatchList, p: u64) -> StopNote
     requires fits { FitsTable table.now (T.samples trace.old) }
+    requires own { AreOf table.now watch.now }
     requires within { p < total_of table.now (T.samples trace.old) }
     ensures kept { T.samples trace.new ≡ T.samples trace.old }
-    ensures note { result ≡ note_at (world_of table.now (T.samples trace.old)) p }
+    ensures note { result ≡ note_at (world_of table.now (T.samples trace.old)) (watches watch.now) p }
 {
     let _parts = table.parts();
     let (cycle, slot) = spot(table, p);
+    let watches = watch.matching_at(table, trace, cycle, slot);
     trace.seek(cycle);
     StopNote {
         cycle,
         slot,
         line: table.slot(slot).line,
         threads: thread_count(table, trace, slot),
+        watches,
     }
 }
 

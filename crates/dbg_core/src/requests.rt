@@ -5,7 +5,7 @@ ghost use Rattle.std.specs.Prelude.{◌≡◌, ℕ, List, Option, IfOk, OnErr, m
 ghost use Rattle.machine_core.specs.Machine.{going_of, asked_id};
 ghost use Rattle.dbg_core.specs.Answering.{run_granted, step_granted};
 
-use crate::arming::{break_asked, numbers_of};
+use crate::arming::{break_asked, numbers_of, watch_asked};
 use crate::listeners::Listeners;
 use crate::position::at_place;
 use crate::session::Session;
@@ -60,7 +60,7 @@ impl<T: Trace> Session<T> {
     ghost use Rattle.machine_core.specs.Reading.{Reader, IsReader};
     ghost use Rattle.machine_core.specs.declared.turn.Motion.TheVariants.{Running};
     ghost use Rattle.trace_core.specs.declared.scan.Want.TheVariants.{Breakpoints};
-    ghost use Rattle.machine_core.specs.Machine.{Answer, Accepted, if_idle, delete, step, obey, asked_outcome, answer_by, answer_of};
+    ghost use Rattle.machine_core.specs.Machine.{Answer, Accepted, if_idle, delete, unwatch, step, obey, asked_outcome, answer_by, answer_of};
     ghost use Rattle.dbg_core.specs.World.{world_of};
     ghost use Rattle.dbg_core.specs.Answering.{answered};
     ghost use Rattle.dbg_core.specs.State.{machine_of, counted_as};
@@ -102,7 +102,39 @@ impl<T: Trace> Session<T> {
         }
     }
 
-    /// Runs to a breakpoint.
+    /// Arms a watch.
+    fn watch_on(&mut self, line: u64, instance: &Utf8, expr: &Utf8) -> Result<Body, NoMemory>
+        ensures table { self.new.table ≡ self.old.table }
+        ensures samples { T.samples self.new.trace ≡ T.samples self.old.trace }
+        ensures ordinal { self.new.ordinal ≡ self.old.ordinal }
+        ensures answer { IfOk result (λ body. (read : Reader) (ordinal : ℕ) (heard : List (Option Heard)) (id : Option ℕ) → IsReader read → answered (counted_as self.new ordinal heard) id body ≡ answer_by (counted_as self.old ordinal heard) id (obey read (world_of self.old.table (T.samples self.old.trace)) (counted_as self.old ordinal heard) (Cmd.Watch line instance.now expr.now))) }
+        ensures kept { OnErr result ((heard : List (Option Heard)) → machine_of self.new heard ≡ machine_of self.old heard) }
+    {
+        watch_asked(
+            self.alloc,
+            &mut self.watch,
+            &self.table,
+            line,
+            instance.text(),
+            expr.text().as_bytes(),
+        )
+    }
+
+    /// Disarms a watch.
+    fn unwatch(&mut self, wp: u64) -> Body
+        ensures table { self.new.table ≡ self.old.table }
+        ensures samples { T.samples self.new.trace ≡ T.samples self.old.trace }
+        ensures ordinal { self.new.ordinal ≡ self.old.ordinal }
+        ensures answer { (ordinal : ℕ) (heard : List (Option Heard)) (id : Option ℕ) → answered (counted_as self.new ordinal heard) id result ≡ answer_by (counted_as self.old ordinal heard) id (unwatch (counted_as self.old ordinal heard) wp) }
+    {
+        if self.watch.disarm(wp) {
+            Body::Unwatch
+        } else {
+            Body::NoWatch { wp }
+        }
+    }
+
+    /// Runs to a breakpoint or a watch.
     fn run_on(&mut self, way: Way) -> Body
         ensures table { self.new.table ≡ self.old.table }
         ensures samples { T.samples self.new.trace ≡ T.samples self.old.trace }
@@ -242,6 +274,12 @@ impl<T: Trace> Session<T> {
                 cond,
             } => self.break_on(*line, instance, cond),
             Cmd::Delete { bp } => Ok(self.delete(*bp)),
+            Cmd::Watch {
+                line,
+                instance,
+                expr,
+            } => self.watch_on(*line, instance, expr),
+            Cmd::Unwatch { wp } => Ok(self.unwatch(*wp)),
             Cmd::Continue => Ok(self.run_on(Way::Forward)),
             Cmd::Reverse => Ok(self.run_on(Way::Backward)),
             Cmd::Step { instance } => self.step_on(Way::Forward, instance),

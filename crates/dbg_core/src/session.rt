@@ -1,21 +1,23 @@
-//! A session: a table, a trace, the breakpoints that are armed, and where it stands; and its turns.
+//! A session: a table, a trace, the breakpoints and the watches that are armed, and where it stands; and its turns.
 
-ghost use Rattle.std.specs.Prelude.{◌≡◌, ◌<◌, ◌≤◌, ◌+◌, List, Option, IfOk, IsTrue, map, nat_eq, option_map};
+ghost use Rattle.std.specs.Prelude.{◌≡◌, ◌<◌, ◌≤◌, ◌+◌, ◌-◌, ℕ, List, Option, IfOk, IsTrue, map, nat_eq, option_map};
 ghost use Rattle.std.specs.List.{list_any};
 ghost use Rattle.trace_world.specs.Fitting.{FitsTable};
 ghost use Rattle.slot_sched.specs.Armed.{AreOf};
+ghost use Rattle.watch.specs.Watching as watching;
 ghost use Rattle.slot_sched.specs.Scan.{total_of};
 
 use crate::listeners::Listeners;
-use crate::notices::notice_of;
+use crate::notices::{notice_of, watches_at};
 use crate::position::{at_place, note_at, threads_in, total};
 use crate::stops::values_in;
-use machine_core::{At, Motion, Notice, Shown, Turned};
-use slot_sched::{Found, Schedule};
+use machine_core::{At, Found, Motion, Notice, Shown, Turned};
+use slot_sched::Schedule;
 use std::alloc::Global;
 use symtab::Table;
 use text_core::{NoMemory, Text};
 use trace_core::{Trace, Want, Way};
+use watch::WatchList;
 
 /// A turn looks at so many positions.
 const REACH: u64 = 64;
@@ -27,6 +29,7 @@ pub struct Session<T: Trace> {
     pub(crate) table: Table,
     pub(crate) trace: T,
     pub(crate) schedule: Schedule,
+    pub(crate) watch: WatchList,
     pub(crate) place: u64,
     pub(crate) motion: Motion,
     pub(crate) ordinal: u64,
@@ -34,13 +37,16 @@ pub struct Session<T: Trace> {
     pub ghost fits: { FitsTable table (T.samples trace) },
     pub ghost within: { place ≤ total_of table (T.samples trace) + 1 },
     pub ghost own: { ∥ AreOf table schedule ∥₁ },
+    pub ghost own_watches: { ∥ watching.AreOf table watch ∥₁ },
 }
 
 impl<T: Trace> Session<T> {
     ghost use Rattle.listen.specs.Pairs.{Heard};
     ghost use Rattle.machine_core.specs.declared.turn.Motion.TheVariants.{Running};
     ghost use Rattle.machine_core.specs.Machine.{Turn, opening, stopped_at, edge_turn, moved_turn, turn_of, is_running, threads_of, values_of};
-    ghost use Rattle.machine_core.specs.Journal.{Ran, notices_of, until_idle, told_lines};
+    ghost use Rattle.machine_core.specs.Journal.{Ran, notices_of, watch_numbers, until_idle, told_lines};
+    ghost use Rattle.machine_core.specs.Laws.{found_by};
+    ghost use Rattle.machine_core.specs.Positions.{cycle_at, slot_at};
     ghost use Rattle.dbg_core.specs.World.{world_of};
     ghost use Rattle.dbg_core.specs.Answering.{left_ahead};
     ghost use Rattle.dbg_core.specs.State.{machine_of};
@@ -56,6 +62,7 @@ impl<T: Trace> Session<T> {
             table,
             trace,
             schedule: Schedule::new(alloc),
+            watch: WatchList::new(alloc),
             place: 0,
             motion: Motion::Idle,
             ordinal: 0,
@@ -84,7 +91,7 @@ impl<T: Trace> Session<T> {
         ensures samples { T.samples self.new.trace ≡ T.samples self.old.trace }
         ensures turn { (let turn : Turn = record { after = machine_of self.new (map (option_map (λ b. heard b)) listeners.new.boxes.items); turned = result } in turn) ≡ stopped_at (world_of self.old.table (T.samples self.old.trace)) (machine_of self.old (map (option_map (λ b. heard b)) listeners.old.boxes.items)) p }
     {
-        let note = note_at(&self.table, &mut self.trace, p);
+        let note = note_at(&self.table, &mut self.trace, &self.watch, p);
         self.place = p + 1;
         self.motion = Motion::Idle;
         listeners.tell(&note);
@@ -124,6 +131,28 @@ impl<T: Trace> Session<T> {
         Turned::Moved
     }
 
+    /// What searches from where it stands find: the nearer of one for breakpoints and one for watches, or that of one for a step.
+    fn look(&mut self, way: Way, want: Want) -> Found
+        ensures table { self.new.table ≡ self.old.table }
+        ensures samples { T.samples self.new.trace ≡ T.samples self.old.trace }
+        ensures state { (heard : List (Option Heard)) → machine_of self.new heard ≡ machine_of self.old heard }
+        ensures value { (heard : List (Option Heard)) → result ≡ found_by (world_of self.old.table (T.samples self.old.trace)) (machine_of self.old heard) way want }
+        ensures hit { (p : ℕ) → result ≡ Found.At p → p < total_of self.old.table (T.samples self.old.trace) }
+    {
+        let found = self
+            .schedule
+            .search(&self.table, &mut self.trace, self.place, way, want);
+        match want {
+            Want::Breakpoints => {
+                let watched = self
+                    .watch
+                    .search(&self.table, &mut self.trace, self.place, way);
+                Found::nearer(way, watched, found)
+            }
+            Want::Step(_) => found,
+        }
+    }
+
     /// A turn of a session that runs.
     fn run(&mut self, way: Way, want: Want, listeners: &mut Listeners) -> Turned
         requires { self.old.motion ≡ Running way want }
@@ -131,10 +160,7 @@ impl<T: Trace> Session<T> {
         ensures samples { T.samples self.new.trace ≡ T.samples self.old.trace }
         ensures turn { (let turn : Turn = record { after = machine_of self.new (map (option_map (λ b. heard b)) listeners.new.boxes.items); turned = result } in turn) ≡ turn_of (world_of self.old.table (T.samples self.old.trace)) (machine_of self.old (map (option_map (λ b. heard b)) listeners.old.boxes.items)) }
     {
-        match self
-            .schedule
-            .search(&self.table, &mut self.trace, self.place, way, want)
-        {
+        match self.look(way, want) {
             Found::At(p) => self.stop(p, listeners),
             Found::Edge => self.stop_at_edge(way),
             Found::Nowhere => self.move_on(way),
@@ -160,7 +186,7 @@ impl<T: Trace> Session<T> {
     pub fn settle(&mut self, listeners: &mut Listeners) -> Turned
         ensures table { self.new.table ≡ self.old.table }
         ensures samples { T.samples self.new.trace ≡ T.samples self.old.trace }
-        ensures ran { (let ran : Ran = record { after = machine_of self.new (map (option_map (λ b. heard b)) listeners.new.boxes.items); lines = notices_of (world_of self.old.table (T.samples self.old.trace)) result } in ran) ≡ until_idle (world_of self.old.table (T.samples self.old.trace)) (machine_of self.old (map (option_map (λ b. heard b)) listeners.old.boxes.items)) }
+        ensures ran { (let ran : Ran = record { after = machine_of self.new (map (option_map (λ b. heard b)) listeners.new.boxes.items); lines = notices_of (world_of self.old.table (T.samples self.old.trace)) (machine_of self.new (map (option_map (λ b. heard b)) listeners.new.boxes.items)) result } in ran) ≡ until_idle (world_of self.old.table (T.samples self.old.trace)) (machine_of self.old (map (option_map (λ b. heard b)) listeners.old.boxes.items)) }
     {
         loop {
             let turned = self.turn(listeners);
@@ -202,14 +228,45 @@ impl<T: Trace> Session<T> {
         }
     }
 
-    /// What is told of a turn that was just made: of a stop the generator variables at its statement and the paths of its threads; nothing
+    /// The numbers of the armed watches that match at the position, rising.
+    pub fn watches(&mut self) -> Result<Vec<u64>, NoMemory>
+        requires start { 0 < self.old.place }
+        requires end { self.old.place ≤ total_of self.old.table (T.samples self.old.trace) }
+        ensures table { self.new.table ≡ self.old.table }
+        ensures samples { T.samples self.new.trace ≡ T.samples self.old.trace }
+        ensures state { (heard : List (Option Heard)) → machine_of self.new heard ≡ machine_of self.old heard }
+        ensures numbers { IfOk result (λ numbers. (heard : List (Option Heard)) → numbers.items ≡ watch_numbers (world_of self.old.table (T.samples self.old.trace)) (machine_of self.old heard) (cycle_at (world_of self.old.table (T.samples self.old.trace)) (self.old.place - 1)) (slot_at (world_of self.old.table (T.samples self.old.trace)) (self.old.place - 1))) }
+    {
+        match at_place(&self.table, &self.trace, self.place) {
+            At::Position { cycle, slot } => {
+                watches_at(
+                    self.alloc,
+                    &self.table,
+                    &mut self.trace,
+                    &self.watch,
+                    cycle,
+                    slot,
+                )
+            }
+            At::Start | At::End => Ok(Vec::new(self.alloc)),
+        }
+    }
+
+    /// What is told of a turn that was just made: of a stop the generator variables at its statement, the paths of its threads and the numbers of
+    /// the watches that match; nothing
     /// of a turn that only moved, or did nothing.
     pub fn notice(&mut self, turned: Turned) -> Result<Option<Notice>, NoMemory>
         ensures table { self.new.table ≡ self.old.table }
         ensures samples { T.samples self.new.trace ≡ T.samples self.old.trace }
         ensures state { (heard : List (Option Heard)) → machine_of self.new heard ≡ machine_of self.old heard }
-        ensures lines { IfOk result (λ notice. told_lines notice ≡ notices_of (world_of self.old.table (T.samples self.old.trace)) turned) }
+        ensures lines { IfOk result (λ notice. (heard : List (Option Heard)) → told_lines notice ≡ notices_of (world_of self.old.table (T.samples self.old.trace)) (machine_of self.old heard) turned) }
     {
-        notice_of(self.alloc, &self.table, &mut self.trace, turned)
+        notice_of(
+            self.alloc,
+            &self.table,
+            &mut self.trace,
+            &self.watch,
+            turned,
+        )
     }
 }

@@ -20,8 +20,9 @@ use Rattle.trim_laws.proofs.Running.{designs_run}
 use Rattle.design_judge.specs.declared.DesignFault.{DesignFault}
 use Rattle.design_judge.specs.declared.DesignFault.TheVariants.{CombLoop}
 use Rattle.design_judge.specs.Refusals.{design_line, stimulus_line}
-use Rattle.design_judge.specs.Judgement.{IsRefused, ArePortsOf}
+use Rattle.design_judge.specs.Judgement.{AreOfText, IsRefused, ArePortsOf}
 use Rattle.design_judge.proofs.OneJudgement.{one_design, one_judgement, not_both}
+use Rattle.design_judge.proofs.OneReading.{one_text as one_reading}
 use Rattle.design_judge.proofs.OnePorts.{one_ports}
 use Rattle.machine_core.proofs.Readers.{some_reader}
 use Rattle.batch_run.specs.Texts.{requests_fault}
@@ -76,10 +77,10 @@ ok_err rows fault e = cc
 
 module _ (given : Given) where
   same_design : (d e : Design) → IsChain given d → IsChain given e → d ≡ e
-  same_design d e a b = one_design (chain_top given.number) chain_source d e a.0 b.0
+  same_design d e a b = one_design (chain_top given.number) (AreOfText chain_source) (one_reading chain_source) d e a.0 b.0
 
   no_design : (fault : DesignFault) (d : Design) → IsChain given d → (status : ℕ) (text : List ℕ) → RefusesDesign given status text → ⊥
-  no_design fault d a status text r = not_both (chain_top given.number) chain_source d r.fault a r.refused
+  no_design fault d a status text r = not_both (chain_top given.number) (AreOfText chain_source) (one_reading chain_source) d r.fault a r.refused
 
   same_ports : (d e : Design) (p q : Ports) → IsChain given d → IsChain given e → ArePortsOf d p → ArePortsOf e q → p ≡ q
   same_ports d e p q a b x y = one_ports e p q (subst (λ (t : Design). ArePortsOf t p) (same_design d e a b) x) y
@@ -159,7 +160,7 @@ module _ (heard : List Heard) (files : Contents) (given : Given) (walk : Walk) (
 
 refusal_taken : (given : Given) (line text : List ℕ) (status : ℕ) (old new : Option (List ℕ)) → (j : RefusesDesign given 3 line) → (r : RefusesDesign given status text) → Appends old new line → TakesText given text old new
 refusal_taken given line text status old new j r t =
-    elim (one_judgement (chain_top given.number) chain_source (Err j.fault) (Err r.fault) j.refused r.refused) [
+    elim (one_judgement (chain_top given.number) (AreOfText chain_source) (one_reading chain_source) (Err j.fault) (Err r.fault) j.refused r.refused) [
       | inl both ↦ inl (subst (λ (l : List ℕ). Appends old new l) (j.text_is ∙ ap design_line (one_err j.fault r.fault both) ∙ sym r.text_is) t)
       | inr loops ↦ inr (record {
         design = loops.design;
@@ -316,7 +317,7 @@ pub walked : (told : Option Contents) (given : Given) (walk : Walk) → walk.mod
 walked None given walk m n chain rows asked = tt
 walked (Some files) given walk m n chain rows asked = record { mode = m; number = n; accepted = chain; rows = rows; requests = asked }
 
-pub no_chain : (told : Option Contents) (given : Given) (fault : DesignFault) → IsRefused (chain_top given.number) chain_source fault → IfSome told (λ files. Judges files given (judged.NoDesign fault))
+pub no_chain : (told : Option Contents) (given : Given) (fault : DesignFault) → IsRefused (chain_top given.number) (AreOfText chain_source) fault → IfSome told (λ files. Judges files given (judged.NoDesign fault))
 no_chain None given fault r = tt
 no_chain (Some files) given fault r = record { fault = fault; refused = r; status_is = refl; text_is = refl }
 

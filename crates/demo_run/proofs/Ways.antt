@@ -18,9 +18,9 @@ use Rattle.machine_core.specs.declared.reply.Body.TheVariants as body
 use Rattle.machine_core.specs.declared.turn.Motion.{Motion}
 use Rattle.machine_core.specs.declared.turn.Motion.TheVariants.{Idle, Running}
 use Rattle.machine_core.specs.Reading.{Reader, Reading, Condition, NoCondition}
-use Rattle.machine_core.specs.Matching.{Breakpoint}
+use Rattle.machine_core.specs.Matching.{Breakpoint, Watch}
 use Rattle.machine_core.specs.Arming.{instance_named}
-use Rattle.machine_core.specs.Machine.{Machine, Outcome, Refused, Accepted, accepted_unless, if_idle, if_running, armed_break, has_number, named_step, step, position_of, no_stop, if_stopped, at_stop, if_thread, at_thread, judged_value, eval, listener, drop_listener, delete, obey, asked_outcome, asked_id, answer_by, counted, answer_of}
+use Rattle.machine_core.specs.Machine.{Machine, Outcome, Refused, Accepted, accepted_unless, if_idle, if_running, armed_break, has_number, armed_watch, is_watch, unwatch, named_step, step, position_of, no_stop, if_stopped, at_stop, if_thread, at_thread, judged_value, eval, listener, drop_listener, delete, obey, asked_outcome, asked_id, answer_by, counted, answer_of}
 use Rattle.machine_core.specs.Journal.{is_bye}
 use Rattle.demo_run.specs.Answers.{granted_way}
 
@@ -65,6 +65,17 @@ disarmed m bp = Accepted (record m { breakpoints = filter (λ b. not (has_number
 delete_grants : (m : Machine) (bp : ℕ) → m.motion ≡ Idle → Grants (delete m bp)
 delete_grants m bp idle = by_test (list_any (has_number bp) m.breakpoints) (disarmed m bp) (Refused (body.NoBreakpoint bp)) (λ way want e. absurd (still m.motion way want idle e)) tt
 
+watch_grants : (m : Machine) (r : Result Watch Body) → m.motion ≡ Idle → Grants (accepted_unless r (armed_watch m))
+watch_grants m (Ok watch) idle = λ way want e. absurd (still m.motion way want idle e)
+watch_grants m (Err refusal) idle = tt
+
+-- what is left where a watch is disarmed
+abbrev unwatched : Machine → ℕ → Outcome
+unwatched m wp = Accepted (record m { watches = filter (λ watch. not (is_watch wp watch)) m.watches }) body.Unwatch
+
+unwatch_grants : (m : Machine) (wp : ℕ) → m.motion ≡ Idle → Grants (unwatch m wp)
+unwatch_grants m wp idle = by_test (list_any (is_watch wp) m.watches) (unwatched m wp) (Refused (body.NoWatch wp)) (λ way want e. absurd (still m.motion way want idle e)) tt
+
 named_grants : (m : Machine) (way : Way) (granted : Body) (path : Name) (i : Option ℕ) → Runs granted way → Grants (named_step m way granted path i)
 named_grants m way granted path None e = tt
 named_grants m way granted path (Some i) e = λ other want h. runs_so granted way other _ want e h
@@ -102,6 +113,8 @@ drop_grants m k (Some heard) idle = λ way want e. absurd (still m.motion way wa
 obey_grants : (read : Reader) (w : World) (m : Machine) (c : Cmd) → m.motion ≡ Idle → Grants (obey read w m c)
 obey_grants read w m (cmd.Break line path text) idle = break_grants m _ idle
 obey_grants read w m (cmd.Delete bp) idle = delete_grants m bp idle
+obey_grants read w m (cmd.Watch line path text) idle = watch_grants m _ idle
+obey_grants read w m (cmd.Unwatch wp) idle = unwatch_grants m wp idle
 obey_grants read w m cmd.Continue idle = idle_grants m.motion _ (λ way want h. runs_so body.Continue Forward way _ want (refl, refl) h)
 obey_grants read w m cmd.Reverse idle = idle_grants m.motion _ (λ way want h. runs_so body.Reverse Backward way _ want (refl, refl) h)
 obey_grants read w m (cmd.Step path) idle = idle_grants m.motion _ (step_grants w m _ _ path (refl, refl))

@@ -13,7 +13,7 @@ use Rattle.stim_text.specs.declared.StimFault.TheVariants as stim_faults
 use Rattle.design_judge.specs.declared.DesignFault.{DesignFault}
 use Rattle.design_judge.specs.declared.DesignFault.TheVariants.{CombLoop}
 use Rattle.design_judge.specs.Refusals.{is_no_memory, design_line, stimulus_line}
-use Rattle.design_judge.specs.Judgement.{IsAccepted, IsRefused, IsLooped, ArePortsOf}
+use Rattle.design_judge.specs.Judgement.{AreOfText, IsAccepted, IsRefused, IsLooped, ArePortsOf}
 use Rattle.world_core.specs.declared.mode.Mode.{Mode}
 use Rattle.world_core.specs.World.{World}
 use Rattle.world_core.specs.Seen.{seen}
@@ -40,7 +40,7 @@ Contents = List ℕ → Option (List ℕ)
 
 -- the source of the chain is this design
 abbrev pub IsChain : Given → Design → Type 0
-IsChain given d = IsAccepted (chain_top given.number) chain_source d
+IsChain given d = IsAccepted (chain_top given.number) (AreOfText chain_source) d
 
 -- its stimulus has these rows for these ports, or is refused for this
 abbrev pub HasRows : Ports → Result (List (List Bits)) StimFault → Type 0
@@ -56,7 +56,7 @@ HoldsRequests files given None = (text : List ℕ) × (files given.requests ≡ 
 -- the source is refused, with the line of its refusal
 pub record RefusesDesign (given : Given) (status : ℕ) (text : List ℕ) : Type 0 where
   pub fault : DesignFault
-  pub refused : IsRefused (chain_top given.number) chain_source fault
+  pub refused : IsRefused (chain_top given.number) (AreOfText chain_source) fault
   pub status_is : status ≡ 3
   pub text_is : text ≡ design_line fault
 
@@ -164,7 +164,7 @@ TakesSome heard files given old new = (new ≡ old) ⊎ TakesFront heard files g
 -- the source is refused for a loop of this design, with its line
 pub record RefusesLoop (given : Given) (d : Design) (text : List ℕ) : Type 0 where
   pub paths : List Name
-  pub loop : IsLooped (chain_top given.number) chain_source d paths
+  pub loop : IsLooped (chain_top given.number) (AreOfText chain_source) d paths
   pub text_is : text ≡ design_line (CombLoop paths)
 
 -- the text tells a loop of a design, and the whole text that tells a loop of the same design was taken

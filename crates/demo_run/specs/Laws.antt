@@ -13,7 +13,7 @@ use Rattle.demo_run.specs.Stops.{Reached, batch_stops, forward_count, backward_c
 
 -- the stop that a line tells, if it tells one
 abbrev pub stop_told : Notice → List StopNote
-stop_told (notice.Stopped note gens paths) = note ∷ []
+stop_told (notice.Stopped note gens paths watches) = note ∷ []
 stop_told notice.Ended = []
 stop_told notice.Start = []
 stop_told (notice.Rows k rows) = []

@@ -1,6 +1,7 @@
 mod PortsFit
 mod Stimuli
 mod SampleLines
-mod Modules
+pub mod Sources
+pub mod OneReading
 pub mod OneJudgement
 pub mod OnePorts

@@ -5,4 +5,4 @@ use Rattle.design_judge.specs.Laws.{LinesAreSo}
 
 pub lines : LinesAreSo
 unfolding digits
-lines = record { bare = refl; offset = refl; name = refl; what = refl; place = refl; widths = refl; paths = refl; column = refl }
+lines = record { bare = refl; offset = refl; bare_in = refl; offset_in = refl; line_there = refl; too_many = refl; name = refl; what = refl; place = refl; widths = refl; first = refl; paths = refl; column = refl }

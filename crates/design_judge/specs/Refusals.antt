@@ -1,5 +1,6 @@
 -- The refusals of a source and of a stimulus: the number, the name and the fields of each, and its line.
-use Rattle.std.specs.Prelude.{ℕ, Bool, true, false, not, List, [], ◌++◌, codes}
+use Rattle.std.specs.Prelude.{ℕ, ◌==◌, Bool, true, false, not, List, [], ◌++◌, codes, if◌then◌else◌}
+use Rattle.places.specs.Places.{file_of, line_in}
 use Rattle.std.specs.List.{flat_map}
 use Rattle.std.specs.Fmt.{decimal}
 use Rattle.gen_text.specs.declared.TextFault.{TextFault}
@@ -17,7 +18,7 @@ use Rattle.exec_core.specs.Block.{Name}
 use Rattle.stim_text.specs.declared.StimFault.{StimFault}
 use Rattle.stim_text.specs.declared.StimFault.TheVariants as stim_faults
 use Rattle.design_judge.specs.declared.design_fault.DesignFault.{DesignFault}
-use Rattle.design_judge.specs.declared.design_fault.DesignFault.TheVariants.{Text, Elaboration, Check, CombLoop}
+use Rattle.design_judge.specs.declared.design_fault.DesignFault.TheVariants.{Text, TooManyFiles, Elaboration, Check, CombLoop}
 use Rattle.design_judge.specs.Loops.{behind_blank}
 
 -- ---- the numbers and the names; want of memory, which refuses nothing, has 0 and no name
@@ -80,13 +81,15 @@ check_name check_faults.NoMemory = []
 
 -- those of a source
 abbrev pub design_number : DesignFault → ℕ
-design_number (Text fault) = text_number fault
+design_number (Text file fault) = text_number fault
+design_number (TooManyFiles line x) = 21
 design_number (Elaboration fault) = elab_number fault
 design_number (Check fault) = check_number fault
 design_number (CombLoop paths) = 20
 
 abbrev pub design_name : DesignFault → List ℕ
-design_name (Text fault) = text_name fault
+design_name (Text file fault) = text_name fault
+design_name (TooManyFiles line x) = codes "TooManyFiles"
 design_name (Elaboration fault) = elab_name fault
 design_name (Check fault) = check_name fault
 design_name (CombLoop paths) = codes "CombLoop"
@@ -108,11 +111,12 @@ stimulus_name stim_faults.NoMemory = []
 
 -- a fault of a source that is want of memory
 abbrev pub is_no_memory : DesignFault → Bool
-is_no_memory (Text text_faults.TooLong) = false
-is_no_memory (Text (text_faults.NotAscii offset)) = false
-is_no_memory (Text (text_faults.BadToken line)) = false
-is_no_memory (Text (text_faults.Syntax line)) = false
-is_no_memory (Text text_faults.NoMemory) = true
+is_no_memory (Text file text_faults.TooLong) = false
+is_no_memory (Text file (text_faults.NotAscii offset)) = false
+is_no_memory (Text file (text_faults.BadToken line)) = false
+is_no_memory (Text file (text_faults.Syntax line)) = false
+is_no_memory (Text file text_faults.NoMemory) = true
+is_no_memory (TooManyFiles line x) = false
 is_no_memory (Elaboration fault) = not (elab_results.is_fault fault)
 is_no_memory (Check fault) = not (check_results.is_fault fault)
 is_no_memory (CombLoop paths) = false
@@ -122,15 +126,24 @@ is_no_memory (CombLoop paths) = false
 abbrev pub field : List ℕ → List ℕ → List ℕ
 field name value = codes " " ++ name ++ codes " " ++ value
 
-abbrev pub line_and_name : ℕ → Name → List ℕ
-line_and_name line x = field (codes "line") (decimal line) ++ field (codes "name") x
+-- the number of a file, where it is not 0
+abbrev pub file_field : ℕ → List ℕ
+file_field file = if file == 0 then [] else field (codes "file") (decimal file)
 
-abbrev pub text_fields : TextFault → List ℕ
-text_fields text_faults.TooLong = []
-text_fields (text_faults.NotAscii offset) = field (codes "offset") (decimal offset)
-text_fields (text_faults.BadToken line) = field (codes "line") (decimal line)
-text_fields (text_faults.Syntax line) = field (codes "line") (decimal line)
-text_fields text_faults.NoMemory = []
+-- a place: its file, where that is not 0, and its line
+abbrev pub place_fields : ℕ → List ℕ
+place_fields at = file_field (file_of at) ++ field (codes "line") (decimal (line_in at))
+
+abbrev pub line_and_name : ℕ → Name → List ℕ
+line_and_name at x = place_fields at ++ field (codes "name") x
+
+-- of a text, in the file of this number
+abbrev pub text_fields : ℕ → TextFault → List ℕ
+text_fields file text_faults.TooLong = file_field file
+text_fields file (text_faults.NotAscii offset) = file_field file ++ field (codes "offset") (decimal offset)
+text_fields file (text_faults.BadToken line) = place_fields line
+text_fields file (text_faults.Syntax line) = place_fields line
+text_fields file text_faults.NoMemory = []
 
 -- what elaboration counts
 abbrev pub count_name : Count → List ℕ
@@ -144,16 +157,16 @@ count_name counts.Cells = codes "cells"
 abbrev pub elab_fields : ElabFault → List ℕ
 elab_fields (elab_faults.UnknownModule line x) = line_and_name line x
 elab_fields (elab_faults.UnknownParameter line x) = line_and_name line x
-elab_fields (elab_faults.ElabRange line) = field (codes "line") (decimal line)
+elab_fields (elab_faults.ElabRange line) = place_fields line
 elab_fields (elab_faults.TooDeep line x) = line_and_name line x
-elab_fields (elab_faults.TooLarge line what limit) = field (codes "line") (decimal line) ++ field (codes "what") (count_name what) ++ field (codes "limit") (decimal limit)
+elab_fields (elab_faults.TooLarge line what limit) = place_fields line ++ field (codes "what") (count_name what) ++ field (codes "limit") (decimal limit)
 elab_fields elab_faults.NoMemory = []
 
 -- a place in a design
 abbrev pub spot_fields : Spot → List ℕ
 spot_fields at = line_and_name at.line at.name ++ field (codes "instance") at.instance
 
--- with the width that stands there and the one that is needed, or with the line of the first driver
+-- with the width that stands there and the one that is needed, or with the line of the first driver, which stands in the same file
 abbrev pub check_fields : CheckFault → List ℕ
 check_fields (check_faults.UnknownName at) = spot_fields at
 check_fields (check_faults.DuplicateName at) = spot_fields at
@@ -161,7 +174,7 @@ check_fields (check_faults.BadWidth at) = spot_fields at
 check_fields (check_faults.WidthMismatch at have want) = spot_fields at ++ field (codes "have") (decimal have) ++ field (codes "want") (decimal want)
 check_fields (check_faults.UnknownPort at) = spot_fields at
 check_fields (check_faults.UnboundInput at) = spot_fields at
-check_fields (check_faults.TwoDrivers at first) = spot_fields at ++ field (codes "first") (decimal first)
+check_fields (check_faults.TwoDrivers at first) = spot_fields at ++ field (codes "first") (decimal (line_in first))
 check_fields (check_faults.Undriven at) = spot_fields at
 check_fields (check_faults.Latch at) = spot_fields at
 check_fields (check_faults.ReadBeforeWrite at) = spot_fields at
@@ -169,7 +182,8 @@ check_fields check_faults.NoMemory = []
 
 -- of a loop, the paths of its signals, which have no names of fields
 abbrev pub design_fields : DesignFault → List ℕ
-design_fields (Text fault) = text_fields fault
+design_fields (Text file fault) = text_fields file fault
+design_fields (TooManyFiles line x) = line_and_name line x ++ field (codes "limit") (decimal 64)
 design_fields (Elaboration fault) = elab_fields fault
 design_fields (Check fault) = check_fields fault
 design_fields (CombLoop paths) = flat_map behind_blank paths

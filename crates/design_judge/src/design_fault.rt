@@ -1,4 +1,4 @@
-//! Why a source is refused, with the number and the name that its line tells.
+//! Why the files of a design are refused, with the number and the name that its line tells.
 
 ghost use Rattle.std.specs.Prelude.{◌≡◌, ◌≤◌};
 ghost use Rattle.design_judge.specs.Refusals.{check_name as the_check_name, check_number as the_check_number, design_name, design_number, elab_name as the_elab_name, elab_number as the_elab_number, text_name as the_text_name, text_number as the_text_number};
@@ -8,12 +8,14 @@ use elab_core::ElabFault;
 use gen_text::TextFault;
 use text_core::{Listed, Text as Name};
 
-/// Why a source is refused. Want of memory, which each of the first three faults can tell, refuses no source.
+/// Why the files of a design are refused. Want of memory, which a fault of a text, of elaboration or of a check can tell, refuses none.
 #[derive(Drop)]
 pub enum DesignFault {
-    /// It is not read.
-    Text(TextFault),
-    /// It is read, and its top is not elaborated.
+    /// The text of the file of this number is not read.
+    Text { file: u32, fault: TextFault },
+    /// An import, at this place, names a file beyond the 64th.
+    TooManyFiles { line: u32, name: Name },
+    /// They are read, and the top is not elaborated.
     Elaboration(ElabFault),
     /// It is elaborated, and a check refuses the design.
     Check(CheckFault),
@@ -115,12 +117,13 @@ fn check_name(fault: &CheckFault) -> &'static str
 }
 
 impl DesignFault {
-    /// The number of the refusal, from 1 to 20; 0 for want of memory.
+    /// The number of the refusal, from 1 to 21; 0 for want of memory.
     pub fn number(&self) -> u8
         ensures { result ≡ design_number self.now }
     {
         match self {
-            DesignFault::Text(fault) => text_number(*fault),
+            DesignFault::Text { fault, .. } => text_number(*fault),
+            DesignFault::TooManyFiles { .. } => 21,
             DesignFault::Elaboration(fault) => elab_number(fault),
             DesignFault::Check(fault) => check_number(fault),
             DesignFault::CombLoop(_) => 20,
@@ -132,7 +135,8 @@ impl DesignFault {
         ensures { result.now ≡ design_name self.now }
     {
         match self {
-            DesignFault::Text(fault) => text_name(*fault),
+            DesignFault::Text { fault, .. } => text_name(*fault),
+            DesignFault::TooManyFiles { .. } => "TooManyFiles",
             DesignFault::Elaboration(fault) => elab_name(fault),
             DesignFault::Check(fault) => check_name(fault),
             DesignFault::CombLoop(_) => "CombLoop",

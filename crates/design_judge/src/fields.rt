@@ -3,13 +3,14 @@
 ghost use Rattle.std.specs.Prelude.{◌≡◌, ◌++◌, OnOk};
 ghost use Rattle.std.specs.Fmt.{decimal};
 ghost use Rattle.std.specs.List.{flat_map};
-ghost use Rattle.design_judge.specs.Refusals.{check_fields, count_name as the_count_name, design_fields, elab_fields, field, line_and_name, spot_fields, stimulus_fields, text_fields};
+ghost use Rattle.design_judge.specs.Refusals.{check_fields, count_name as the_count_name, design_fields, elab_fields, field, file_field, line_and_name, place_fields, spot_fields, stimulus_fields, text_fields};
 ghost use Rattle.design_judge.specs.Loops.{behind_blank};
 
 use crate::DesignFault;
 use check_core::{CheckFault, Spot};
 use elab_core::{Count, ElabFault};
 use gen_text::TextFault;
+use places::{FILES_MAX, file_of, line_in};
 use std::alloc::Global;
 use stim_text::StimFault;
 use text_core::{NoMemory, Text};
@@ -33,20 +34,46 @@ fn push_number(alloc: Global, line: &mut Vec<u8>, name: &str, number: u64) -> Re
     push_field(line, name, digits.as_bytes())
 }
 
-/// Adds the fields of a fault of a text. Want of memory has none.
-fn push_text_fields(alloc: Global, line: &mut Vec<u8>, fault: TextFault) -> Result<(), NoMemory>
-    ensures { OnOk result (line.new.items ≡ line.old.items ++ text_fields fault) }
+/// Adds the number of a file, where it is not 0.
+fn push_file(alloc: Global, line: &mut Vec<u8>, file: u32) -> Result<(), NoMemory>
+    ensures { OnOk result (line.new.items ≡ line.old.items ++ file_field file) }
+{
+    if file == 0 {
+        return Ok(());
+    }
+    push_number(alloc, line, "file", u64::from(file))
+}
+
+/// Adds a place: its file, where that is not 0, and its line.
+fn push_place(alloc: Global, line: &mut Vec<u8>, at: u32) -> Result<(), NoMemory>
+    ensures { OnOk result (line.new.items ≡ line.old.items ++ place_fields at) }
+{
+    push_file(alloc, line, file_of(at))?;
+    push_number(alloc, line, "line", u64::from(line_in(at)))
+}
+
+/// Adds the fields of a fault of the text of this file. Want of memory has none.
+fn push_text_fields(
+    alloc: Global,
+    line: &mut Vec<u8>,
+    file: u32,
+    fault: TextFault,
+) -> Result<(), NoMemory>
+    ensures { OnOk result (line.new.items ≡ line.old.items ++ text_fields file fault) }
 {
     match fault {
-        TextFault::TooLong => Ok(()),
-        TextFault::NotAscii { offset } => push_number(alloc, line, "offset", offset),
-        TextFault::BadToken { line: at } => push_number(alloc, line, "line", u64::from(at)),
-        TextFault::Syntax { line: at } => push_number(alloc, line, "line", u64::from(at)),
+        TextFault::TooLong => push_file(alloc, line, file),
+        TextFault::NotAscii { offset } => {
+            push_file(alloc, line, file)?;
+            push_number(alloc, line, "offset", offset)
+        }
+        TextFault::BadToken { line: at } => push_place(alloc, line, at),
+        TextFault::Syntax { line: at } => push_place(alloc, line, at),
         TextFault::NoMemory => Err(NoMemory),
     }
 }
 
-/// Adds the line of a refusal, and a name.
+/// Adds the place of a refusal, and a name.
 fn push_line_and_name(
     alloc: Global,
     line: &mut Vec<u8>,
@@ -55,7 +82,7 @@ fn push_line_and_name(
 ) -> Result<(), NoMemory>
     ensures { OnOk result (line.new.items ≡ line.old.items ++ line_and_name at name.now) }
 {
-    push_number(alloc, line, "line", u64::from(at))?;
+    push_place(alloc, line, at)?;
     push_field(line, "name", name.bytes())
 }
 
@@ -82,14 +109,14 @@ fn push_elab_fields(alloc: Global, line: &mut Vec<u8>, fault: &ElabFault) -> Res
         ElabFault::UnknownParameter { line: at, name } => {
             push_line_and_name(alloc, line, *at, name)
         }
-        ElabFault::ElabRange { line: at } => push_number(alloc, line, "line", u64::from(*at)),
+        ElabFault::ElabRange { line: at } => push_place(alloc, line, *at),
         ElabFault::TooDeep { line: at, name } => push_line_and_name(alloc, line, *at, name),
         ElabFault::TooLarge {
             line: at,
             what,
             limit,
         } => {
-            push_number(alloc, line, "line", u64::from(*at))?;
+            push_place(alloc, line, *at)?;
             push_field(line, "what", count_name(*what).as_bytes())?;
             push_number(alloc, line, "limit", *limit)
         }
@@ -97,7 +124,7 @@ fn push_elab_fields(alloc: Global, line: &mut Vec<u8>, fault: &ElabFault) -> Res
     }
 }
 
-/// Adds a place in a design: a line, a name, and the path of the instance.
+/// Adds a spot in a design: a place, a name, and the path of the instance.
 fn push_spot(alloc: Global, line: &mut Vec<u8>, at: &Spot) -> Result<(), NoMemory>
     ensures { OnOk result (line.new.items ≡ line.old.items ++ spot_fields at.now) }
 {
@@ -122,7 +149,7 @@ fn push_check_fields(alloc: Global, line: &mut Vec<u8>, fault: &CheckFault) -> R
         CheckFault::UnboundInput(at) => push_spot(alloc, line, at),
         CheckFault::TwoDrivers { at, first } => {
             push_spot(alloc, line, at)?;
-            push_number(alloc, line, "first", u64::from(*first))
+            push_number(alloc, line, "first", u64::from(line_in(*first)))
         }
         CheckFault::Undriven(at) => push_spot(alloc, line, at),
         CheckFault::Latch(at) => push_spot(alloc, line, at),
@@ -151,7 +178,11 @@ pub(crate) fn push_design_fields(
     ensures { OnOk result (line.new.items ≡ line.old.items ++ design_fields fault.now) }
 {
     match fault {
-        DesignFault::Text(fault) => push_text_fields(alloc, line, *fault),
+        DesignFault::Text { file, fault } => push_text_fields(alloc, line, *file, *fault),
+        DesignFault::TooManyFiles { line: at, name } => {
+            push_line_and_name(alloc, line, *at, name)?;
+            push_number(alloc, line, "limit", u64::from(FILES_MAX))
+        }
         DesignFault::Elaboration(fault) => push_elab_fields(alloc, line, fault),
         DesignFault::Check(fault) => push_check_fields(alloc, line, fault),
         DesignFault::CombLoop(paths) => push_paths(line, paths.items()),

@@ -4,22 +4,22 @@ ghost use Rattle.std.specs.Prelude.{◌≡◌, ◌<◌, ◌≤◌, [], ◌∷◌
 ghost use Rattle.io_edge.specs.Faults.{Rose};
 ghost use Rattle.io_edge.specs.Taken.{Appends, AppendsFront};
 ghost use Rattle.io_edge.specs.Unread.{StopsAt};
-ghost use Rattle.design_judge.specs.Judging.{IsFit, IsWhole, JudgesRows, JudgesSource, JudgesStimulus};
+ghost use Rattle.project_read.specs.Asking.{AsksFront, StopsInside};
+ghost use Rattle.design_judge.specs.Judging.{AsksFiles, IsFit, IsWhole, JudgesFiles, JudgesRows, JudgesStimulus};
 
-use crate::source::judge_text;
+use crate::source::judge_sources;
 use crate::{Accepted, DesignFault};
 use design_core::Ports;
 use gen_elab::Given;
-use gen_text::TextFault;
-use io_edge::{Files, MOST_BYTES, MOST_SOURCE, ReadEnd, read_file};
+use io_edge::{Files, MOST_BYTES, ReadEnd, read_file};
+use project_read::{ProjectEnd, read_project};
 use std::alloc::Global;
 use stim_text::{Stim, StimFault, read_stim};
 
-/// Reads the source of this name, and judges it from its top, a module's name, with the parameters that are given to it: the
-/// design that is accepted, or why it is refused. A file of more than 1 MiB is refused as too long. The name is asked for once,
-/// unless memory runs out before.
+/// Reads the files of the design whose source has this name, and judges them from their top, a module's name, with the parameters that
+/// are given to it: the design that is accepted, or why it is refused. A file of more than 1 MiB is refused as too long.
 ///
-/// Errors: `Failed`, where the file was not read; and `NoMemory`.
+/// Errors: `Failed`, where a file was not read; and `NoMemory`.
 pub fn judge_design<F: Files>(
     alloc: Global,
     files: &mut F,
@@ -27,18 +27,23 @@ pub fn judge_design<F: Files>(
     top: &[u8],
     given: &Given,
 ) -> Result<Result<Accepted, DesignFault>, ReadEnd>
-    ensures judged { IfOk result (λ found. IfSome (F.told files.old) (λ told. JudgesSource (told name.now) (record { name = top.now; given = given.now }) found)) }
+    ensures judged { IfOk result (λ found. IfSome (F.told files.old) (λ told. JudgesFiles told name.now (record { name = top.now; given = given.now }) found)) }
     ensures fit { IfOk result IsFit }
     ensures same { F.told files.new ≡ F.told files.old }
-    ensures asked { OnOk result (Appends (F.asked files.old) (F.asked files.new) (name.now ∷ [])) }
-    ensures front { AppendsFront (F.asked files.old) (F.asked files.new) (name.now ∷ []) }
+    ensures asked { IfOk result (AsksFiles (F.told files.old) name.now (F.asked files.old) (F.asked files.new)) }
+    ensures front { AsksFront (F.told files.old) name.now (F.asked files.old) (F.asked files.new) }
     ensures failed { IsErrOf result ReadEnd.Failed → Rose (F.fault_count files.old) (F.fault_count files.new) }
-    ensures unread { IsErrOf result ReadEnd.Failed → StopsAt F.asked F.fault_count files.old files.new (name.now ∷ []) }
+    ensures unread { IsErrOf result ReadEnd.Failed → StopsInside (F.told files.old) name.now F.asked F.fault_count files.old files.new }
     ensures later { F.fault_count files.old ≤ F.fault_count files.new }
 {
-    match read_file(alloc, files, name, MOST_SOURCE)? {
-        Some(source) => Ok(judge_text(alloc, &source, top, given)?),
-        None => Ok(Err(DesignFault::Text(TextFault::TooLong))),
+    match read_project(alloc, files, name) {
+        Ok(sources) => Ok(judge_sources(alloc, &sources, top, given)?),
+        Err(ProjectEnd::Text { file, fault }) => Ok(Err(DesignFault::Text { file, fault })),
+        Err(ProjectEnd::TooManyFiles { line, name, .. }) => {
+            Ok(Err(DesignFault::TooManyFiles { line, name }))
+        }
+        Err(ProjectEnd::ReadFault) => Err(ReadEnd::Failed),
+        Err(ProjectEnd::NoMemory) => Err(ReadEnd::NoMemory),
     }
 }
 

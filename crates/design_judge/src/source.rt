@@ -1,13 +1,13 @@
-//! Judges the text of a source: whether its design is accepted, or why it is refused.
+//! Judges sources that were read, and the text of a source: whether their design is accepted, or why it is refused.
 
 ghost use Rattle.std.specs.Prelude.{◌≡◌, false, option_map, Some, None, IfOk, IfSome};
-ghost use Rattle.gen_tree.specs.View.{source_of};
-ghost use Rattle.elab_laws.specs.Laws.{IsReadFromText};
+ghost use Rattle.gen_tree.specs.View.{sources_of};
+ghost use Rattle.elab_laws.specs.Laws.{AreReadFromTexts};
 ghost use Rattle.design_core.specs.DesignView.{design_of};
 ghost use Rattle.check_core.specs.Verdict.{verdict};
 ghost use Rattle.design_judge.specs.Refusals.{is_no_memory};
 ghost use Rattle.design_judge.specs.declared.design_fault.DesignFault.TheVariants.{Check};
-ghost use Rattle.design_judge.specs.Judging.{JudgesDesign, JudgesModules, JudgesText, IsFit};
+ghost use Rattle.design_judge.specs.Judging.{JudgesDesign, JudgesSources, JudgesText, TellsSources, IsFit};
 
 use crate::loops::signal_paths;
 use crate::{Accepted, DesignFault};
@@ -64,21 +64,38 @@ fn judge_elaborated(
     }
 }
 
-/// The design of modules that were read, if it is accepted, or why it is refused: elaboration goes before the checks.
-fn judge_modules(
+/// Judges sources that were read from their top, a module's name, with the parameters that are given to it: the design that is
+/// accepted, or why it is refused, where elaboration goes before the checks. The sources are those of 64 files at most, each in the
+/// file of its number. Fails only where memory runs out.
+pub fn judge_sources(
     alloc: Global,
-    source: &Source,
+    sources: &[Source],
     top: &[u8],
     given: &Given,
 ) -> Result<Result<Accepted, DesignFault>, NoMemory>
-    requires { IsReadFromText (source_of source.now) }
-    ensures judged { IfOk result (JudgesModules (record { name = top.now; given = given.now }) (source_of source.now)) }
+    requires { AreReadFromTexts (sources_of sources.now) }
+    ensures judged { IfOk result (JudgesSources (record { name = top.now; given = given.now }) (sources_of sources.now)) }
     ensures fit { IfOk result IsFit }
 {
-    match elaborate(alloc, source, top, given) {
+    match elaborate(alloc, sources, top, given) {
         Ok(design) => judge_elaborated(alloc, design),
         Err(ElabFault::NoMemory) => Err(NoMemory),
         Err(fault) => Ok(Err(DesignFault::Elaboration(fault))),
+    }
+}
+
+/// The sources that a text is, as the only file; or why it is not read. Fails only where memory runs out.
+fn read_sources(alloc: Global, source: &[u8]) -> Result<Result<Vec<Source>, TextFault>, NoMemory>
+    ensures { IfOk result (TellsSources source.now) }
+{
+    match read_source(alloc, 0, source) {
+        Ok(tree) => {
+            let mut sources = Vec::new(alloc);
+            sources.push(tree)?;
+            Ok(Ok(sources))
+        }
+        Err(TextFault::NoMemory) => Err(NoMemory),
+        Err(fault) => Ok(Err(fault)),
     }
 }
 
@@ -93,9 +110,8 @@ pub fn judge_text(
     ensures judged { IfOk result (JudgesText (record { name = top.now; given = given.now }) source.now) }
     ensures fit { IfOk result IsFit }
 {
-    match read_source(alloc, source) {
-        Ok(tree) => judge_modules(alloc, &tree, top, given),
-        Err(TextFault::NoMemory) => Err(NoMemory),
-        Err(fault) => Ok(Err(DesignFault::Text(fault))),
+    match read_sources(alloc, source)? {
+        Ok(sources) => judge_sources(alloc, &sources, top, given),
+        Err(fault) => Ok(Err(DesignFault::Text { file: 0, fault })),
     }
 }

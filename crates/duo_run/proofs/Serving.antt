@@ -66,7 +66,7 @@ module _ (read : Reader) (w : World) (m : Machine) where
       }
 
   pub did_go : (deeds : List Deed) (made : List (List ℕ)) (machine next : Machine) (left : Bool) (turned : Turned) (lines : List Line) → left ≡ false
-      → (let turn : Turn = record { after = next; turned = turned } in turn) ≡ turn_of w machine → lines ≡ notices_of w turned
+      → (let turn : Turn = record { after = next; turned = turned } in turn) ≡ turn_of w machine → lines ≡ notices_of w next turned
       → Did read w m deeds made machine left → Did read w m (deeds ++ Goes ∷ []) (made ++ texts_of lines) next left
   unfolding after_go
   did_go deeds made machine next left turned lines staying moved told was =
@@ -76,7 +76,7 @@ module _ (read : Reader) (w : World) (m : Machine) where
       record {
         machine_is = ap (λ (t : Turn). t.after) e ∙ sym (ap (λ (t : Stage). t.machine) after);
         left_is = was.left_is ∙ sym (ap (λ (t : Stage). t.left) after);
-        made_are = more_made deeds made (texts_of lines) Goes was.made_are (ap texts_of (told ∙ ap (λ (t : Turn). notices_of w t.turned) e));
+        made_are = more_made deeds made (texts_of lines) Goes was.made_are (ap texts_of (told ∙ ap (λ (t : Turn). notices_of w t.after t.turned) e));
         last = leave_snoc read w (at_start m) deeds Goes was.last (sym was.left_is ∙ staying);
       }
 
@@ -369,7 +369,7 @@ module _ {L : Type 0} (w : World) (m : Machine) (start : Meaning) where
 
   -- a turn was made
   pub gone : (now next : Meaning) (d e : Desk L) (machine after : Machine) (turned : Turned) (lines : List Line) → d.left ≡ false → d.outlet.over ≡ None → is_running machine.motion ≡ true
-      → (let turn : Turn = record { after = after; turned = turned } in turn) ≡ turn_of w machine → lines ≡ notices_of w turned → e.left ≡ d.left
+      → (let turn : Turn = record { after = after; turned = turned } in turn) ≡ turn_of w machine → lines ≡ notices_of w after turned → e.left ≡ d.left
       → ((polls : List Poll) (deeds : List Deed) (made : List (List ℕ)) → Held start now d polls deeds [] made → Held start next e polls (deeds ++ Goes ∷ []) [] (made ++ texts_of lines))
       → Middle w m start now d machine → Going w m start next e after
   gone now next d e machine after turned lines staying free running moved told left keeps (inr g) = absurd (g.1 free)
@@ -406,12 +406,12 @@ module _ {L : Type 0} (w : World) (m : Machine) (start : Meaning) where
   -- a turn and its notice
   pub noticed : (v u : World) (now next : Meaning) (d e : Desk L) (machine after last : Machine) (turned : Turned) → v ≡ w → u ≡ w → d.left ≡ false → d.outlet.over ≡ None → is_running machine.motion ≡ true
       → (let turn : Turn = record { after = after; turned = turned } in turn) ≡ turn_of v machine → last ≡ after → e.left ≡ d.left
-      → ((polls : List Poll) (deeds : List Deed) (made : List (List ℕ)) → Held start now d polls deeds [] made → Held start next e polls (deeds ++ Goes ∷ []) [] (made ++ texts_of (notices_of u turned)))
+      → ((polls : List Poll) (deeds : List Deed) (made : List (List ℕ)) → Held start now d polls deeds [] made → Held start next e polls (deeds ++ Goes ∷ []) [] (made ++ texts_of (notices_of u after turned)))
       → Middle w m start now d machine → Going w m start next e last
   noticed v u now next d e machine after last turned same too staying free running moved kept left keeps middle =
-      gone now next d e machine last turned (notices_of u turned) staying free running
+      gone now next d e machine last turned (notices_of u after turned) staying free running
       (ap (λ k. let turn : Turn = record { after = k; turned = turned } in turn) kept ∙ moved ∙ ap (λ t. turn_of t machine) same)
-      (ap (λ t. notices_of t turned) too) left keeps middle
+      (ap₂ (λ t k. notices_of t k turned) too (sym kept)) left keeps middle
 
 -- ---- the end
 

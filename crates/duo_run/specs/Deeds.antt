@@ -43,7 +43,7 @@ after_deeds read w s (d ∷ ds) = after_deeds read w (after_deed read w s d) ds
 
 abbrev pub told_of : Reader → World → Stage → Deed → List Line
 told_of read w s (Asks text) = Replied (answer_to read w s.machine text).reply ∷ []
-told_of read w s Goes = notices_of w (turn_of w s.machine).turned
+told_of read w s Goes = notices_of w (turn_of w s.machine).after (turn_of w s.machine).turned
 
 unfoldable pub lines_of : Reader → World → Stage → List Deed → List Line
 lines_of read w s [] = []

@@ -33,7 +33,7 @@ abbrev pub deeds : (b c y : List ℕ) → List Deed
 deeds b c y = Asks b ∷ Asks c ∷ Goes ∷ Asks y ∷ []
 
 abbrev pub lines : List Line
-lines = reply 1 (body.Break 1 (2 ∷ [])) ∷ reply 2 body.Continue ∷ stopped 0 2 10 1 (codes "A" ∷ []) ∷ reply 3 body.Bye ∷ []
+lines = reply 1 (body.Break 1 (2 ∷ [])) ∷ reply 2 body.Continue ∷ stopped 0 2 10 (codes "A" ∷ []) ∷ reply 3 body.Bye ∷ []
 
 pub record IsServed (b c y : List ℕ) : Type 0 where
   pub gives : given read_a world start (polls b c y) ≡ deeds b c y

@@ -3,7 +3,7 @@ use Rattle.std.specs.Prelude.{ℕ, ◌+◌, ◌*◌, Bool, ◌&&◌, ◌==◌, L
 use Rattle.std.specs.Cmp.Lexicographic.{pointwise}
 use Rattle.std.specs.List.{enumerate_from, position_or_len}
 use Rattle.std.specs.Ordering.{int_eq}
-use Rattle.gen_tree.specs.Tree.{Module}
+use Rattle.gen_tree.specs.Tree.{Module, Source, all_modules}
 use Rattle.elab_core.specs.declared.fault.Count.TheVariants.{Cells}
 use Rattle.elab_core.specs.Walk.{Fault, too_large, limit, Seen, none_seen, judge}
 use Rattle.exec_core.specs.Block.{Name}
@@ -148,3 +148,7 @@ design_from modules top (Err fault) = Err fault
 -- the elaborated design of a source from its top with these parameters, or the first fault
 abbrev pub elaborated : List Module → Name → Gens → Result design.Design Fault
 elaborated modules top rest = design_from modules top (elab modules top rest)
+
+-- the same of the sources of several files: of the modules of all of them, one file after the other
+abbrev pub elaborated_files : List Source → Name → Gens → Result design.Design Fault
+elaborated_files sources top rest = elaborated (all_modules sources) top rest

@@ -1,14 +1,15 @@
 -- Small sources, elaborated by hand.
-use Rattle.std.specs.Prelude.{◌≡◌, ℕ, true, false, ℤ, pos, List, [], ◌∷◌, map, Option, Some, None, Result, Ok, Err, codes}
+use Rattle.std.specs.Prelude.{◌≡◌, ℕ, Bool, true, false, ℤ, pos, List, [], ◌∷◌, map, Option, Some, None, Result, Ok, Err, codes}
 use Rattle.gen_tree.specs.declared.Op.TheVariants as op
 use Rattle.gen_tree.specs.declared.UnOp.TheVariants as un_op
-use Rattle.gen_tree.specs.Tree.{Int, num, var, Fam, plain, Expr, read, out, value, unary, binary, zext, Stmt, assign, bind, choose, repeat, Stmts, no_stmt, stmt, no_else, Conn, inst, comb, no_item, item, Module}
+use Rattle.gen_tree.specs.Tree.{Int, num, var, Fam, plain, Expr, read, out, value, unary, binary, zext, Stmt, assign, bind, choose, repeat, Stmts, no_stmt, stmt, no_else, Conn, inst, comb, no_item, item, Port, Module, Source}
 use Rattle.elab_core.specs.Walk.{Fault, UnknownModule, UnknownParameter, ElabRange, TooDeep}
 use Rattle.exec_core.specs.Block.{Name}
 use Rattle.design_core.specs.Design.{Gens, Design}
 use Rattle.elab_core.specs.Elaborated.{Instance}
 use Rattle.design_core.specs.Slots.{Head, variant_heads}
-use Rattle.elab_core.specs.Design.{variants_of, variant_of, cells, elab, elaborated}
+use Rattle.elab_core.specs.Design.{variants_of, variant_of, cells, elab, elaborated, elaborated_files}
+use Rattle.places.specs.Places.{place}
 
 abbrev plainly : Name → Fam
 plainly x = record { name = x; index = None }
@@ -128,3 +129,54 @@ family_is_elaborated =
     × (heads_in (elaborated (leaf ∷ family ∷ []) (codes "C") [])
     ≡ (head 6 9 [] ∷ []) ∷ (head 0 4 four_wide ∷ head 1 4 four_wide ∷ head 2 4 four_wide ∷ []) ∷ (head 3 4 eight_wide ∷ head 4 4 eight_wide ∷ head 5 4 eight_wide ∷ []) ∷ [])
     × (cells family_instances ≡ 23)
+
+-- a file that imports another, and that other:
+-- 1:  import leaf;
+-- 2:  module T { input a : 4; output z : 4; inst u : Leaf { a = a; } comb { z = u.y; } }
+-- and
+-- 1:  module Leaf { input a : 4; output y : 4;
+-- 2:    comb { y = ~(a); } }
+abbrev four_port : ℕ → Bool → Name → Port
+four_port line output x = record { line = line; output = output; name = x; width = num 4 }
+
+-- the first of them, as the source of a file
+abbrev upper : ℕ → Source
+upper file = record {
+  imports = record { line = place file 1; name = codes "leaf" } ∷ [];
+  modules =
+      record {
+        line = place file 2;
+        name = codes "T";
+        params = [];
+        ports = four_port (place file 2) false (codes "a") ∷ four_port (place file 2) true (codes "z") ∷ [];
+        items =
+            item (inst (place file 2) (plainly (codes "u")) (codes "Leaf") [] (joined (place file 2) (reads (codes "a")) ∷ []))
+            (item (comb (place file 2) (one_of (assign (place file 2) (plainly (codes "z")) None (out (plainly (codes "u")) (codes "y"))))) no_item);
+      } ∷ [];
+}
+
+-- the second
+abbrev lower : ℕ → Source
+lower file = record {
+  imports = [];
+  modules =
+      record {
+        line = place file 1;
+        name = codes "Leaf";
+        params = [];
+        ports = four_port (place file 1) false (codes "a") ∷ four_port (place file 1) true (codes "y") ∷ [];
+        items = item (comb (place file 2) (one_of (assign (place file 2) (plainly (codes "y")) None (unary un_op.Not (reads (codes "a")))))) no_item;
+      } ∷ [];
+}
+
+-- slots go by the number of the file: here the top is variant 0 both times
+abbrev pub files_are_elaborated : Type 0
+files_are_elaborated =
+    (heads_in (elaborated_files (upper 0 ∷ lower 1 ∷ []) (codes "T") []) ≡ (head 0 2 [] ∷ []) ∷ (head 1 16777218 [] ∷ []) ∷ [])
+    × (heads_in (elaborated_files (lower 0 ∷ upper 1 ∷ []) (codes "T") []) ≡ (head 1 16777218 [] ∷ []) ∷ (head 0 2 [] ∷ []) ∷ [])
+
+-- a module that no file has, and one that two files have, are told at the place of the instance
+abbrev pub files_are_refused : Type 0
+files_are_refused =
+    (elaborated_files (upper 0 ∷ []) (codes "T") [] ≡ Err (UnknownModule 2 (codes "Leaf")))
+    × (elaborated_files (lower 0 ∷ upper 1 ∷ lower 2 ∷ []) (codes "T") [] ≡ Err (UnknownModule 16777218 (codes "Leaf")))

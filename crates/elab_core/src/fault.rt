@@ -21,7 +21,7 @@ pub enum Count {
     Cells,
 }
 
-/// Why a source has no elaborated design, with the line of it, counted from 1; 0 stands for the top and its parameters.
+/// Why sources have no elaborated design, with the place of it in them; 0 stands for the top and its parameters.
 #[derive(Drop)]
 pub enum ElabFault {
     /// Not exactly one module has the name.

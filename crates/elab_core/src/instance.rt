@@ -2,7 +2,7 @@ use design_core::{Block, Conn, Signal};
 use gen_scope::Scope;
 use text_core::Text;
 
-/// An instance inside a module, as the walk meets it: its module by the place in the source, and its parameters.
+/// An instance inside a module, as the walk meets it: its module by its place among those of all sources, and its parameters.
 #[derive(Drop)]
 pub struct Child {
     pub line: u32,
@@ -20,8 +20,8 @@ pub struct Content {
     pub blocks: Vec<Block>,
 }
 
-/// An instance as the walk gives it: its path, the number of the instance that it stands in, its module by the place in
-/// the source, its parameters, and what its body gives.
+/// An instance as the walk gives it: its path, the number of the instance that it stands in, its module by its place among those
+/// of all sources, its parameters, and what its body gives.
 #[derive(Drop)]
 pub struct Instance {
     pub path: Text,

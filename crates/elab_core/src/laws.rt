@@ -3,7 +3,7 @@ ghost use Rattle.gen_tree.specs.Tree.{Module};
 ghost use Rattle.elab_core.specs.Laws.{IsFirstFault, IsSubstitution};
 ghost use Rattle.exec_core.specs.Block.{Name};
 ghost use Rattle.design_core.specs.Design.{Gens};
-ghost use Rattle.elab_core.specs.Samples.{loops_is_elaborated, loops_is_refused, endless_is_refused, family_is_elaborated};
+ghost use Rattle.elab_core.specs.Samples.{loops_is_elaborated, loops_is_refused, endless_is_refused, family_is_elaborated, files_are_elaborated, files_are_refused};
 
 /// A law: the fault of a walk is that of the first of its events that has one, with the counts of those before it.
 pub fn first_faulty_event()
@@ -17,10 +17,12 @@ pub fn by_substitution()
 {}
 
 /// Small sources, elaborated by hand: a loop with its slots and generator variables, and its refusals; an instance below itself;
-/// a family of instances with its variants and slots.
+/// a family of instances with its variants and slots; two files, whose slots go by the number of the file.
 pub fn elaborates_the_samples()
     ensures loops { loops_is_elaborated }
     ensures loops_refused { loops_is_refused }
     ensures endless { endless_is_refused }
     ensures family { family_is_elaborated }
+    ensures files { files_are_elaborated }
+    ensures files_refused { files_are_refused }
 {}

@@ -1,4 +1,4 @@
-//! What elaboration means: a walk over a source, whose events come in order, and the design that comes out of it.
+//! What elaboration means: a walk over the modules of all sources, whose events come in order, and the design that comes out of it.
 //!
 //! The definitions stand in `specs/`; the functions here are laws of them. Beside them stand the types in which the code
 //! that walks keeps what it meets.

@@ -6,7 +6,7 @@ use Rattle.std.proofs.lemmas.List.{length-map}
 use Rattle.std.proofs.lemmas.List.FromFn.{length-enumerate_from}
 use Rattle.std.proofs.lemmas.List.Sums.{prefix_len-le-length}
 use Rattle.std.proofs.lemmas.Option.{none-some, same_Some, slice_get-map, slice_get_within, get_or_from_slice_get}
-use Rattle.gen_tree.specs.Tree.{Module}
+use Rattle.gen_tree.specs.Tree.{Module, Source, all_modules}
 use Rattle.exec_core.specs.Block.{Name}
 use Rattle.list_core.specs.Lists.{EachOf, AreApart, from}
 use Rattle.design_core.specs.declared.Instance.{Instance as Placed}
@@ -24,16 +24,16 @@ use Rattle.elab_core.specs.Walk.{Fault, Seen, none_seen, judge, too_large}
 use Rattle.elab_core.specs.declared.Count.TheVariants.{Cells}
 use Rattle.elab_core.specs.Elaborated.{Child, Content, Instance}
 use Rattle.elab_core.specs.Elab.{output_as, child_outputs, top_walk}
-use Rattle.elab_core.specs.Design.{blocks_cells, first_slot, same_gens, is_of, variant_of, firsts, variants_of, name_at, child_in, numbered_variant, instance_in, designed, cells, unless_large, design_from, elaborated}
+use Rattle.elab_core.specs.Design.{blocks_cells, first_slot, same_gens, is_of, variant_of, firsts, variants_of, name_at, child_in, numbered_variant, instance_in, designed, cells, unless_large, design_from, elaborated_files}
 use Rattle.elab_laws.proofs.Variants.{number_in, Found, EachFound, each_found, all_grown, stays, is_its_own, search_last}
 use Rattle.elab_laws.proofs.Shapes.{IsTree, a_tree, AreTrees, no_trees, one_behind, IsGiven, EachGiven, TopOk}
 use Rattle.elab_laws.proofs.Preorder.{EachHas, all_children, given_firsts, given_at, passes, both_parts, gens_equal, same_content, numbered_at, the_variants, top_number, in_preorder, walked, OnDesign}
 use Rattle.elab_laws.proofs.Below.{EachFrom, HasChildren, tree_ok}
-use Rattle.gen_text.specs.Source.{Reads}
 use Rattle.elab_laws.proofs.Fine.{HeadFine, SignalFine, ModuleOf, most_params, ChildFine, InstanceFine, of_place, tree_fine, blocks_fine, block_lines}
 use Rattle.elab_laws.proofs.Renumbered.{same_size, same_parts, same_cells, few_in}
 use Rattle.elab_laws.proofs.Paths.{paths, names, NamesOk, all_apart, plain_member, as_member}
-use Rattle.elab_laws.proofs.Spelled.{read_named}
+use Rattle.elab_laws.specs.Laws.{AreReadFrom}
+use Rattle.elab_laws.proofs.Spelled.{files_named}
 use Rattle.gen_token.specs.Spelling.{IsName}
 use Rattle.elab_laws.specs.Sizes.{all_statements, all_signals, children_parts, all_parts, all_registers}
 use Rattle.elab_laws.proofs.Sums.{slot_within}
@@ -518,7 +518,8 @@ design_kept modules top (Ok p) h = by_test (nat_lt 4000000 (cells p.0)) refl (h 
     by_test false e j = is_design modules top p.0 j.ok j.small (ltb-false 4000000 (cells p.0) e) j.named
 design_kept modules top (Err fault) h = tt
 
-pub elaboration_keeps : (modules : List Module) (top : Name) (given : Gens) (d : Design) (text : List ℕ) → Reads text modules → AreInRange given → elaborated modules top given ≡ Ok d → IsDesign d
-elaboration_keeps modules top given d text read fine e =
-    let all = design_kept modules top (judge none_seen (top_walk modules top given)) (λ list seen g. record { ok = walked modules top given list seen fine g; small = walk_small modules top given list seen g; named = read_named text modules read }) in
+pub elaboration_keeps : (sources : List Source) (top : Name) (given : Gens) (d : Design) → AreReadFrom 0 sources → length sources ≤ 64 → AreInRange given → elaborated_files sources top given ≡ Ok d → IsDesign d
+elaboration_keeps sources top given d read few fine e =
+    let modules = all_modules sources in
+    let all = design_kept modules top (judge none_seen (top_walk modules top given)) (λ list seen g. record { ok = walked modules top given list seen fine g; small = walk_small modules top given list seen g; named = files_named 0 sources (omega (arith, few)) read }) in
     let P : Result Design Fault → Type 0 = OnDesign IsDesign in subst P e all

@@ -1,5 +1,5 @@
 -- Names of a source that was read are names, its lines are lines, and there are no more of its parts than it has tokens.
-use Rattle.std.proofs.Common.{◌≡◌, ℕ, ◌+◌, ◌<◌, ◌≤◌, ◌==◌, Bool, true, false, ◌&&◌, ◌||◌, if◌then◌else◌, List, [], ◌∷◌, length, length-append, append-nil, Option, Some, None, IsSomeAnd, true≢false, refl, sym, ap, ◌∙◌, subst, arith}
+use Rattle.std.proofs.Common.{◌≡◌, ℕ, ◌+◌, ◌^◌, ◌<◌, ◌≤◌, ◌==◌, Bool, true, false, ◌&&◌, ◌||◌, if◌then◌else◌, List, [], ◌∷◌, length, length-append, append-nil, Option, Some, None, IsSomeAnd, true≢false, refl, sym, ap, ◌∙◌, subst, arith}
 use Rattle.gen_token.specs.declared.Keyword.{Keyword}
 use Rattle.gen_token.specs.declared.Keyword.TheVariants as keyword
 use Rattle.gen_token.specs.declared.Mark.{Mark}
@@ -11,13 +11,15 @@ use Rattle.gen_token.specs.Spelling as spelling
 use Rattle.gen_token.specs.Tokens.{skip, token_at, TokensFrom}
 use Rattle.gen_token.proofs.Beginnings.{first_of, text_begins}
 use Rattle.gen_token.proofs.ReadToken.{exact}
+use Rattle.places.specs.Places.{place}
 use Rattle.gen_text.specs.Source.{Reads}
 use Rattle.gen_tree.specs.declared.Dialect.TheVariants as dialect
-use Rattle.gen_tree.specs.Grammar.{◌⨾◌, Single, StartsAt, Key, Sym, Each, Braces, int_op_mark, cmp_mark, SourceInt, SourceFam, SourceExpr, SpellsIndex, SpellsLit, un_op_word, op_mark, SpellsTwo, SpellsPrim, SpellsTurns, SpellsGiven, SpellsParam, SpellsParams, assign_mark, SpellsPart, SpellsTests, SpellsStmt, SpellsStmts, SpellsElse, SpellsDefault, SpellsArms, SpellsSomeArms, SpellsConn, SpellsItem, SpellsItems, SpellsElseItems, direction, SpellsPort, SpellsModule, Spells}
-use Rattle.gen_tree.specs.Tree.{Int, num, var, bin, Fam, Lit, plain, bits, Expr, read, out, value, unary, binary, mux, zext, slice, Stmt, assign, bind, choose, select, repeat, given, Stmts, no_stmt, stmt, Else, no_else, otherwise, Arms, no_arm, arm, Param, Conn, Item, wire, reg, inst, comb, ff, repeat_items, given_items, Items, no_item, item, ElseItems, no_else_items, otherwise_items, Port, Module}
+use Rattle.gen_tree.specs.Grammar.{◌⨾◌, Single, StartsAt, Key, Sym, Each, Braces, int_op_mark, cmp_mark, SourceInt, SourceFam, SourceExpr, SpellsIndex, SpellsLit, un_op_word, op_mark, SpellsTwo, SpellsPrim, SpellsTurns, SpellsGiven, SpellsParam, SpellsParams, assign_mark, SpellsPart, SpellsTests, SpellsStmt, SpellsStmts, SpellsElse, SpellsDefault, SpellsArms, SpellsSomeArms, SpellsConn, SpellsItem, SpellsItems, SpellsElseItems, direction, SpellsPort, SpellsModule, SpellsModules, SpellsImport}
+use Rattle.gen_tree.specs.Tree.{Int, num, var, bin, Fam, Lit, plain, bits, Expr, read, out, value, unary, binary, mux, zext, slice, Stmt, assign, bind, choose, select, repeat, given, Stmts, no_stmt, stmt, Else, no_else, otherwise, Arms, no_arm, arm, Param, Conn, Item, wire, reg, inst, comb, ff, repeat_items, given_items, Items, no_item, item, ElseItems, no_else_items, otherwise_items, Port, Module, Import, Source, all_modules}
 use Rattle.list_core.specs.Lists.{EachOf}
 use Rattle.design_core.specs.WellFormed.{IsLine}
-use Rattle.elab_laws.proofs.Fine.{Stands, StmtOf, StmtsOf, ElseOf, ArmsOf, most_params, ItemOf, ItemsOf, ElseItemsOf, PortOf, ModuleOf}
+use Rattle.elab_laws.proofs.Fine.{Stands, StmtOf, StmtsOf, ElseOf, ArmsOf, most_params, ItemOf, ItemsOf, ElseItemsOf, PortOf, ModuleOf, both_each}
+use Rattle.elab_laws.specs.Laws.{AreReadFrom}
 
 -- what holds of tokens, and then of those behind the first of them
 pub record Falls : Type 1 where
@@ -414,9 +416,12 @@ modules_of : (ms : List Module) (ts rest : List Tok) → Each SpellsModule ms ts
 modules_of [] ts rest s h = tt
 modules_of (m ∷ ms) ts rest s h = (module_of m ts s.0 s.1 h, modules_of ms s.0 rest s.2 ((one_module (sound most_params) m).on ts s.0 s.1 h))
 
-spelled : (ms : List Module) (ts : List Tok) → Spells ms ts → AreSound most_params ts → EachOf (ModuleOf IsName) ms
+spelled : (ms : List Module) (ts : List Tok) → SpellsModules ms ts → AreSound most_params ts → EachOf (ModuleOf IsName) ms
 spelled [] ts s h = absurd s
 spelled (m ∷ ms) ts s h = modules_of (m ∷ ms) ts [] s h
+
+one_import : (P : Falls) (i : Import) → Keeps P (SpellsImport i)
+one_import P i = record { on = λ ts rest s h. (key P keyword.Import ▷ one P (Name i.name) ▷ mark_of P mark.Semicolon).on ts rest s.1 h }
 
 -- ---- the tokens of a text
 
@@ -464,12 +469,12 @@ skipped comment line (byte ∷ bytes) =
     by_test false x y h g = g
 
 -- tokens from a place on: their lines are lines, and there are no more of them than bytes
-tokens_fine : (at : ℕ × List ℕ) (toks : List Tok) (end : Option ℕ) → at.0 + length at.1 ≤ 1048577 → TokensFrom at toks end → EachOf TokFine toks × (length toks ≤ length at.1)
+tokens_fine : (at : ℕ × List ℕ) (toks : List Tok) (end : Option ℕ) → at.0 + length at.1 < 2 ^ 30 → TokensFrom at toks end → EachOf TokFine toks × (length toks ≤ length at.1)
 tokens_fine at [] end l h = (tt, omega arith)
 tokens_fine at (t ∷ toks) end l h = by_token (token_at at.1) refl h.1 (λ rest m g. tokens_fine (skip false at.0 rest) toks end m g)
   where
     by_token : (o : Option (Word × List ℕ)) → token_at at.1 ≡ o → IsSomeAnd o (λ found. (found.0 ≡ t.word) × TokensFrom (skip false at.0 found.1) toks end)
-        → ((rest : List ℕ) → (skip false at.0 rest).0 + length (skip false at.0 rest).1 ≤ 1048577 → TokensFrom (skip false at.0 rest) toks end → EachOf TokFine toks × (length toks ≤ length (skip false at.0 rest).1))
+        → ((rest : List ℕ) → (skip false at.0 rest).0 + length (skip false at.0 rest).1 < 2 ^ 30 → TokensFrom (skip false at.0 rest) toks end → EachOf TokFine toks × (length toks ≤ length (skip false at.0 rest).1))
         → EachOf TokFine (t ∷ toks) × (length (t ∷ toks) ≤ length at.1)
     by_token None e p more = absurd p
     by_token (Some found) e p more =
@@ -478,9 +483,17 @@ tokens_fine at (t ∷ toks) end l h = by_token (token_at at.1) refl h.1 (λ rest
         let rest = more found.1 (omega (arith, next.0, this.shorter, l)) p.1 in
         (((omega (arith, h.0, l), λ x is. this.named x (p.0 ∙ is)), rest.0), omega (arith, rest.1, next.1, this.shorter))
 
--- the modules of a text that was read
-pub read_named : (text : List ℕ) (modules : List Module) → Reads text modules → EachOf (ModuleOf IsName) modules
-read_named text modules r =
-    let start = skipped false 1 text in
-    let fine = tokens_fine (skip false 1 text) r.tokens None (omega (arith, start.0, r.source.fits)) r.are in
-    spelled modules r.tokens r.spelled (record { each = fine.0; few = omega (arith, fine.1, start.1, r.source.fits) })
+-- the modules of a text that was read in a file
+pub read_named : (file : ℕ) (text : List ℕ) (source : Source) → file < 64 → Reads file text source → EachOf (ModuleOf IsName) source.modules
+read_named file text source low r =
+    let start = skipped false (place file 1) text in
+    let fine = tokens_fine (skip false (place file 1) text) r.tokens None (omega (arith, low, start.0, r.is_text.fits)) r.are in
+    let are_sound : AreSound most_params r.tokens = record { each = fine.0; few = omega (arith, fine.1, start.1, r.is_text.fits) } in
+    let s = r.spelled in
+    spelled source.modules s.0 s.2 ((each (sound most_params) SpellsImport (one_import (sound most_params)) source.imports).on r.tokens s.0 s.1 are_sound)
+
+-- the modules of files from a number on
+pub files_named : (file : ℕ) (sources : List Source) → file + length sources ≤ 64 → AreReadFrom file sources → EachOf (ModuleOf IsName) (all_modules sources)
+files_named file [] few texts = tt
+files_named file (s ∷ sources) few texts =
+    both_each (ModuleOf IsName) s.modules (all_modules sources) (read_named file texts.0.0 s (omega (arith, few)) texts.0.1) (files_named (file + 1) sources (omega (arith, few)) texts.1)

@@ -1,12 +1,13 @@
 -- Modules and their places.
 use Rattle.std.proofs.Common.{◌≡◌, ℕ, suc, ◌+◌, ◌<◌, Bool, true, false, cond, if◌then◌else◌, List, [], ◌∷◌, ◌++◌, length, take, get_or, Option, Some, None, Vec, Global, bytes_eq, refl, sym, ap, ◌∙◌, arith}
+use Rattle.std.specs.Borrow.{Bor}
 use Rattle.std.specs.Map.{lookup}
 use Rattle.std.proofs.lemmas.Slice.Eq.{bytes_eq-Decides}
 use Rattle.std.proofs.lemmas.List.{take_more, map-append, length-map, length-take}
 use Rattle.indexmap.specs.IndexMap.{insert_entry}
 use Rattle.gen_tree.specs.Tree.{Module}
 use Rattle.gen_tree.specs.declared.Module as source_module
-use Rattle.gen_tree.specs.View.{module_of, modules_of}
+use Rattle.gen_tree.specs.View.{module_of, lent_of}
 use Rattle.exec_core.specs.Block.{Name}
 use Rattle.elab_core.specs.Walk.{Gives, Faulty, UnknownModule}
 use Rattle.elab_core.specs.Elab.{places, only, module_named}
@@ -97,16 +98,16 @@ leads_more entries new ms m k v known named found put x =
     by false e = known x ∙ sym (ap (λ b. sole (places x 0 ms ++ (if b then (0 + length ms, m) ∷ [] else []))) (same_name m.name x ∙ e) ∙ none_more (places x 0 ms))
 
 -- the first of the places of a name is that of a module
-places_at : (x : Name) (at : ℕ) (all : List source_module.Module) (d : source_module.Module) (f : ℕ × Module) (rest : List (ℕ × Module)) → places x at (modules_of all) ≡ f ∷ rest →
-    (k : ℕ) × (f.0 ≡ at + k) × (k < length all) × (f.1 ≡ module_of (get_or all k d))
+places_at : (x : Name) (at : ℕ) (all : List (Bor source_module.Module)) (d : Bor source_module.Module) (f : ℕ × Module) (rest : List (ℕ × Module)) → places x at (lent_of all) ≡ f ∷ rest →
+    (k : ℕ) × (f.0 ≡ at + k) × (k < length all) × (f.1 ≡ module_of (get_or all k d).now)
 places_at x at [] d f rest e = absurd cc
-places_at x at (n ∷ all) d f rest e = by (bytes_eq n.name x) e (places_at x (at + 1) all d f rest)
+places_at x at (n ∷ all) d f rest e = by (bytes_eq n.now.name x) e (places_at x (at + 1) all d f rest)
   where
-    by : (b : Bool) → (if b then (at, module_of n) ∷ places x (at + 1) (modules_of all) else places x (at + 1) (modules_of all)) ≡ f ∷ rest →
-        (places x (at + 1) (modules_of all) ≡ f ∷ rest → (k : ℕ) × (f.0 ≡ (at + 1) + k) × (k < length all) × (f.1 ≡ module_of (get_or all k d))) →
-        (k : ℕ) × (f.0 ≡ at + k) × (k < length (n ∷ all)) × (f.1 ≡ module_of (get_or (n ∷ all) k d))
+    by : (b : Bool) → (if b then (at, module_of n.now) ∷ places x (at + 1) (lent_of all) else places x (at + 1) (lent_of all)) ≡ f ∷ rest →
+        (places x (at + 1) (lent_of all) ≡ f ∷ rest → (k : ℕ) × (f.0 ≡ (at + 1) + k) × (k < length all) × (f.1 ≡ module_of (get_or all k d).now)) →
+        (k : ℕ) × (f.0 ≡ at + k) × (k < length (n ∷ all)) × (f.1 ≡ module_of (get_or (n ∷ all) k d).now)
     by true e ih =
-        let first : (at, module_of n) ≡ f = cc in
+        let first : (at, module_of n.now) ≡ f = cc in
         let moved : at + 0 ≡ at = omega arith in
         (0, sym (ap (λ g. g.0) first) ∙ sym moved, omega arith, sym (ap (λ g. g.1) first))
     by false e ih =
@@ -115,30 +116,30 @@ places_at x at (n ∷ all) d f rest e = by (bytes_eq n.name x) e (places_at x (a
         (suc found.0, found.1 ∙ moved, omega (arith, found.2), found.3)
 
 -- the place that a name leads to is that of the one module of this name
-pub named_at : (line : ℕ) (x : Name) (all : List source_module.Module) (d : source_module.Module) (place : ℕ) → sole (places x 0 (modules_of all)) ≡ Some (Some place) →
-    (place < length all) × (module_named (modules_of all) line x ≡ Gives (place, module_of (get_or all place d)))
-named_at line x all d place e = by (places x 0 (modules_of all)) refl e
+pub named_at : (line : ℕ) (x : Name) (all : List (Bor source_module.Module)) (d : Bor source_module.Module) (place : ℕ) → sole (places x 0 (lent_of all)) ≡ Some (Some place) →
+    (place < length all) × (module_named (lent_of all) line x ≡ Gives (place, module_of (get_or all place d).now))
+named_at line x all d place e = by (places x 0 (lent_of all)) refl e
   where
-    by : (found : List (ℕ × Module)) → places x 0 (modules_of all) ≡ found → sole found ≡ Some (Some place) →
-        (place < length all) × (module_named (modules_of all) line x ≡ Gives (place, module_of (get_or all place d)))
+    by : (found : List (ℕ × Module)) → places x 0 (lent_of all) ≡ found → sole found ≡ Some (Some place) →
+        (place < length all) × (module_named (lent_of all) line x ≡ Gives (place, module_of (get_or all place d).now))
     by [] p e = absurd cc
     by (f ∷ []) p e =
         let at = places_at x 0 all d f [] p in
         let here : f.0 ≡ place = cc in
         let same : at.0 ≡ place = omega (arith, at.1, here) in
-        (omega (arith, at.2, same), ap (only line x) p ∙ (λ i. Gives (here i, at.3 i)) ∙ ap (λ (k : ℕ). Gives (place, module_of (get_or all k d))) same)
+        (omega (arith, at.2, same), ap (only line x) p ∙ (λ i. Gives (here i, at.3 i)) ∙ ap (λ (k : ℕ). Gives (place, module_of (get_or all k d).now)) same)
     by (f ∷ (g ∷ more)) p e = absurd cc
 
-pub named_within : (x : Name) (all : List source_module.Module) (place : ℕ) → sole (places x 0 (modules_of all)) ≡ Some (Some place) → place < length all
+pub named_within : (x : Name) (all : List (Bor source_module.Module)) (place : ℕ) → sole (places x 0 (lent_of all)) ≡ Some (Some place) → place < length all
 named_within x [] place e = absurd cc
 named_within x (n ∷ all) place e = (named_at 0 x (n ∷ all) n place e).0
 
 -- the modules up to one, and this one
-pub modules_taken : (all : List source_module.Module) (i : ℕ) (m : source_module.Module) → i < length all → m ≡ get_or all i m → modules_of (take (i + 1) all) ≡ modules_of (take i all) ++ module_of m ∷ []
-modules_taken all i m h e = ap modules_of (take_more all i m h) ∙ map-append module_of (take i all) (get_or all i m ∷ []) ∙ ap (λ (n : source_module.Module). modules_of (take i all) ++ module_of n ∷ []) (sym e)
+pub modules_taken : (all : List (Bor source_module.Module)) (i : ℕ) (m : Bor source_module.Module) → i < length all → m ≡ get_or all i m → lent_of (take (i + 1) all) ≡ lent_of (take i all) ++ module_of m.now ∷ []
+modules_taken all i m h e = ap lent_of (take_more all i m h) ∙ map-append (λ (m : Bor source_module.Module). module_of m.now) (take i all) (get_or all i m ∷ []) ∙ ap (λ (n : Bor source_module.Module). lent_of (take i all) ++ module_of n.now ∷ []) (sym e)
 
-pub modules_count : (all : List source_module.Module) (i : ℕ) → i < length all → i ≡ length (modules_of (take i all))
-modules_count all i h = sym (length-map (take i all) module_of ∙ (omega (arith, length-take i all)))
+pub modules_count : (all : List (Bor source_module.Module)) (i : ℕ) → i < length all → i ≡ length (lent_of (take i all))
+modules_count all i h = sym (length-map (take i all) (λ (m : Bor source_module.Module). module_of m.now) ∙ (omega (arith, length-take i all)))
 
 -- a name that leads to no place is not that of one module
 pub not_named : (line : ℕ) (x : Name) (ms : List Module) (r : Option (Option ℕ)) → r ≡ sole (places x 0 ms) → ((place : ℕ) → r ≡ Some (Some place) → ⊥) → module_named ms line x ≡ Faulty (UnknownModule line x)

@@ -2,7 +2,7 @@
 use Rattle.std.specs.Prelude.{ℕ, ◌+◌, ℤ, Bool, true, false, List, [], ◌∷◌, ◌++◌, length, map, Result, Ok, Err}
 use Rattle.gen_tree.specs.Tree.{Int, Fam, Lit, Items, no_item, ElseItems, no_else_items, otherwise_items, wire, reg, inst, comb, ff, repeat_items, given_items, Port, Module}
 use Rattle.gen_tree.specs.Tree as tree
-use Rattle.gen_tree.specs.View.{modules_of}
+use Rattle.gen_tree.specs.View.{lent_of}
 use Rattle.elab_core.specs.declared.Count.TheVariants.{Instances, Signals, Turns}
 use Rattle.elab_core.specs.declared.Instance as code_instance
 use Rattle.elab_core.specs.Walk.{Walk, Gives, ◌>>=◌, counts, Fault, Seen}
@@ -30,7 +30,7 @@ here_of here = record { path = here.path; number = here.number }
 
 -- the modules that a walker finds, and how it enters an instance
 abbrev pub modules_in : code_walker.Walker → List Module
-modules_in walker = modules_of walker.modules.now.all.now
+modules_in walker = lent_of walker.modules.now.all.now
 
 abbrev pub enter_in : code_walker.Walker → Enter
 enter_in walker = instance (modules_in walker) walker.room

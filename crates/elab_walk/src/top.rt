@@ -1,7 +1,7 @@
-//! The walk from the top of a source.
+//! The walk from the top.
 
 ghost use Rattle.std.specs.Prelude.{◌≡◌, map};
-ghost use Rattle.gen_tree.specs.View.{modules_of, source_of};
+ghost use Rattle.gen_tree.specs.View.{lent_of};
 ghost use Rattle.elab_core.specs.Results.{Answers, Judged};
 ghost use Rattle.elab_core.specs.View.{instance_of};
 ghost use Rattle.elab_core.specs.Walk.{judge, none_seen};
@@ -17,7 +17,7 @@ use crate::values::top_values;
 use crate::walker::Walker;
 use elab_base::Met;
 use elab_core::{Count, ElabFault, Instance};
-use gen_tree::Source;
+use gen_tree::Module;
 use std::alloc::Global;
 use text_core::Text;
 
@@ -31,7 +31,7 @@ fn instances(
     given: &[(Text, i64)],
 ) -> Result<Vec<Instance>, ElabFault>
     requires { met.old.instances ≡ 0 }
-    ensures { Judged (λ all. placed_of all.items) result (met_of met.new) (judge (met_of met.old) (top_walk (modules_of modules.now.all.now) top.now given.now)) }
+    ensures { Judged (λ all. placed_of all.items) result (met_of met.new) (judge (met_of met.old) (top_walk (lent_of modules.now.all.now) top.now given.now)) }
 {
     let (place, found) = modules.named(alloc, 0, top)?;
     let params = top_values(alloc, found, given)?;
@@ -50,7 +50,7 @@ fn instances(
     Ok(all)
 }
 
-/// The instances of a source from its top, whose parameters are given these numbers, in preorder: a parent, then what is
+/// The instances of these modules from a top, whose parameters are given these numbers, in preorder: a parent, then what is
 /// below its children, one child after the other. The number of an instance is its place.
 ///
 /// Errors: `UnknownModule`, `UnknownParameter`, `ElabRange`, `TooDeep` and `TooLarge`, as the first faulty event of the walk
@@ -58,13 +58,13 @@ fn instances(
 #[tactic(auto, unfolding(crate::specs::Walked::placed_of))]
 pub fn walk(
     alloc: Global,
-    source: &Source,
+    modules: &[&Module],
     top: &[u8],
     given: &[(Text, i64)],
 ) -> Result<Vec<Instance>, ElabFault>
-    ensures { Answers (λ all. map instance_of all.items) result (uncounted (judge none_seen (top_walk (source_of source.now) top.now given.now))) }
+    ensures { Answers (λ all. map instance_of all.items) result (uncounted (judge none_seen (top_walk (lent_of modules.now) top.now given.now))) }
 {
-    let modules = Modules::of(alloc, &source.modules)?;
+    let modules = Modules::of(alloc, modules)?;
     let mut met = Met::new();
     let all = instances(alloc, &mut met, &modules, top, given)?;
     Ok(all)

@@ -1,21 +1,21 @@
 -- What the walk and its end give is the elaborated design.
-use Rattle.std.proofs.Common.{◌≡◌, ◌≤◌, true, false, Bool, List, Result, Ok, Err, if◌then◌else◌, nat_lt, refl, sym, ap, ◌∙◌, subst}
-use Rattle.gen_tree.specs.Tree.{Module}
+use Rattle.std.proofs.Common.{◌≡◌, ◌≤◌, true, false, Bool, List, Result, Ok, Err, if◌then◌else◌, nat_lt, refl, sym, ap, ◌∙◌, subst, arith}
+use Rattle.gen_tree.specs.Tree.{Module, Source, all_modules}
 use Rattle.exec_core.specs.Block.{Name}
 use Rattle.design_core.specs.Design.{Gens, AreInRange, Design}
 use Rattle.elab_core.specs.declared.Count.TheVariants.{Cells}
 use Rattle.elab_core.specs.Walk.{Fault, too_large, Seen, none_seen, judge}
 use Rattle.elab_core.specs.Elaborated.{Instance}
 use Rattle.elab_core.specs.Elab.{top_walk}
-use Rattle.elab_core.specs.Design.{cells, designed, unless_large, design_from, elaborated}
+use Rattle.elab_core.specs.Design.{cells, designed, unless_large, design_from, elaborated, elaborated_files}
 use Rattle.elab_walk.specs.Walked.{uncounted}
 use Rattle.gen_elab.specs.Finished.{finished}
 use Rattle.design_core.specs.WellFormed.{IsDesign}
 use Rattle.elab_laws.proofs.Preorder.{walked}
 use Rattle.std.proofs.Math.Logic.{∥∥₁_elim}
 use Rattle.design_core.specs.Single.{design_prop}
-use Rattle.elab_laws.specs.Laws.{IsReadFromText}
-use Rattle.elab_laws.proofs.Spelled.{read_named}
+use Rattle.elab_laws.specs.Laws.{AreReadFromTexts}
+use Rattle.elab_laws.proofs.Spelled.{files_named}
 use Rattle.elab_laws.proofs.Kept.{is_design}
 use Rattle.elab_laws.proofs.ItemCounts.{Small, walk_small}
 
@@ -39,12 +39,13 @@ pub small_walk : (modules : List Module) (top : Name) (given : Gens) (list : Lis
 small_walk modules top given list e = let found = ok_equal list (judge none_seen (top_walk modules top given)) e in walk_small modules top given list found.0 found.1
 
 -- and makes a design that is well formed
-pub kept_walk : (modules : List Module) (top : Name) (given : Gens) (list : List Instance) → IsReadFromText modules → AreInRange given → uncounted (judge none_seen (top_walk modules top given)) ≡ Ok list → cells list ≤ 4000000
-    → IsDesign (designed modules top list)
-kept_walk modules top given list read fine e fit =
+pub kept_walk : (sources : List Source) (modules : List Module) (top : Name) (given : Gens) (list : List Instance) → modules ≡ all_modules sources → AreReadFromTexts sources → AreInRange given
+    → uncounted (judge none_seen (top_walk modules top given)) ≡ Ok list → cells list ≤ 4000000 → IsDesign (designed modules top list)
+kept_walk sources modules top given list same read fine e fit =
     let found = ok_equal list (judge none_seen (top_walk modules top given)) e in
-    ∥∥₁_elim read (design_prop (designed modules top list)) (λ r.
-    is_design modules top list (walked modules top given list found.0 fine found.1) (walk_small modules top given list found.0 found.1) fit (read_named r.0 modules r.1))
+    ∥∥₁_elim read.0 (design_prop (designed modules top list)) (λ r.
+    is_design modules top list (walked modules top given list found.0 fine found.1) (walk_small modules top given list found.0 found.1) fit
+    (rw same (files_named 0 sources (omega (arith, read.1)) r)))
 
 ended : (modules : List Module) (top : Name) (r : Counted) (list : List Instance) → uncounted r ≡ Ok list → design_from modules top (unless_large r) ≡ finished modules top list
 unfolding finished
@@ -60,6 +61,12 @@ ended modules top r list e =
 pub at_the_end : (modules : List Module) (top : Name) (given so : Gens) (list : List Instance) → so ≡ given → uncounted (judge none_seen (top_walk modules top so)) ≡ Ok list → elaborated modules top given ≡ finished modules top list
 at_the_end modules top given so list same e =
     ap (elaborated modules top) (sym same) ∙ ended modules top (judge none_seen (top_walk modules top so)) list e
+
+-- the end of the walk over modules that are lent is the end of the elaboration of files
+pub then_files : (sources : List Source) (modules : List Module) (top : Name) (given so : Gens) (list : List Instance) → modules ≡ all_modules sources → so ≡ given → uncounted (judge none_seen (top_walk modules top so)) ≡ Ok list
+    → elaborated_files sources top given ≡ finished modules top list
+then_files sources modules top given so list lent same e =
+    ap (λ (ms : List Module). elaborated ms top given) (sym lent) ∙ at_the_end modules top given so list same e
 
 pub then_design : (modules : List Module) (top : Name) (given : Gens) (list : List Instance) (result : Result Design Fault) → uncounted (judge none_seen (top_walk modules top given)) ≡ Ok list
     → finished modules top list ≡ result → elaborated modules top given ≡ result
@@ -77,4 +84,9 @@ refused modules top (Err f) fault e = ap (λ (o : Result (List Instance) Fault).
 pub walk_fault : (modules : List Module) (top : Name) (given : Gens) (fault : Fault) → uncounted (judge none_seen (top_walk modules top given)) ≡ Err fault → elaborated modules top given ≡ Err fault
 walk_fault modules top given fault e = refused modules top (judge none_seen (top_walk modules top given)) fault e
 
-pub ruleset elaborate_steps = (then_design, walk_fault)
+-- and a fault of it is the fault
+pub files_fault : (sources : List Source) (modules : List Module) (top : Name) (given : Gens) (fault : Fault) → modules ≡ all_modules sources → uncounted (judge none_seen (top_walk modules top given)) ≡ Err fault
+    → elaborated_files sources top given ≡ Err fault
+files_fault sources modules top given fault lent e = ap (λ (ms : List Module). elaborated ms top given) (sym lent) ∙ walk_fault modules top given fault e
+
+pub ruleset elaborate_steps = (then_design, walk_fault, files_fault)

@@ -6,7 +6,7 @@ ghost use Rattle.gen_elab.specs.Keys.{key_child, key_of, key_variant};
 ghost use Rattle.gen_elab.specs.Offsets.{all_statements, places_below, AreSlots};
 ghost use Rattle.design_core.specs.DesignView.{design_of};
 ghost use Rattle.design_core.specs.WellFormed.{IsDesign};
-ghost use Rattle.gen_tree.specs.View.{modules_of};
+ghost use Rattle.gen_tree.specs.View.{lent_of};
 ghost use Rattle.std.specs.List.{enumerate_from};
 
 use crate::finish::{design_instances, first_instances, variant_numbers};
@@ -134,8 +134,8 @@ fn variant(
 }
 
 /// The name of the module at this place.
-fn module_name(alloc: Global, modules: &[Module], place: usize) -> Result<Text, NoMemory>
-    ensures { IfOk result (λ name. name ≡ name_at place (modules_of modules.now)) }
+fn module_name(alloc: Global, modules: &[&Module], place: usize) -> Result<Text, NoMemory>
+    ensures { IfOk result (λ name. name ≡ name_at place (lent_of modules.now)) }
 {
     match modules.get(place) {
         Some(module) => Text::new(alloc, module.name.bytes()),
@@ -148,7 +148,7 @@ fn module_name(alloc: Global, modules: &[Module], place: usize) -> Result<Text, 
 fn all_variants(
     alloc: Global,
     variants: &Variants,
-    modules: &[Module],
+    modules: &[&Module],
     firsts: Vec<Instance>,
     slots: &[u32],
 ) -> Result<Vec<Variant>, NoMemory>
@@ -156,7 +156,7 @@ fn all_variants(
     requires few { length firsts.items < 2 ^ 32 - 1 }
     requires small { all_statements (map instance_of firsts.items) < 2 ^ 32 }
     requires slots { AreSlots (map instance_of firsts.items) (length firsts.items) slots.now }
-    ensures { IfOk result (λ made. map variant_of made.items ≡ map (numbered_variant (modules_of modules.now) (map instance_of firsts.items)) (enumerate_from 0 (map instance_of firsts.items))) }
+    ensures { IfOk result (λ made. map variant_of made.items ≡ map (numbered_variant (lent_of modules.now) (map instance_of firsts.items)) (enumerate_from 0 (map instance_of firsts.items))) }
 {
     let mut made = Vec::with_capacity(alloc, firsts.len())?;
     let mut index = 0;
@@ -172,15 +172,15 @@ fn all_variants(
 /// The design of these instances, with this module at its top.
 pub(crate) fn designed(
     alloc: Global,
-    modules: &[Module],
+    modules: &[&Module],
     top: &[u8],
     instances: Vec<Instance>,
 ) -> Result<Design, NoMemory>
     requires few { length instances.items ≤ 4096 }
     requires small { all_statements (map instance_of instances.items) ≤ 200000 }
     requires places { places_below (length modules.now) (map instance_of instances.items) ≡ true }
-    requires kept { IsDesign (the_design (modules_of modules.now) top.now (map instance_of instances.items)) }
-    ensures { IfOk result (λ design. design_of design ≡ the_design (modules_of modules.now) top.now (map instance_of instances.items)) }
+    requires kept { IsDesign (the_design (lent_of modules.now) top.now (map instance_of instances.items)) }
+    ensures { IfOk result (λ design. design_of design ≡ the_design (lent_of modules.now) top.now (map instance_of instances.items)) }
 {
     let (keys, numbers) = variant_numbers(alloc, &instances)?;
     let made = design_instances(alloc, &instances, &numbers)?;

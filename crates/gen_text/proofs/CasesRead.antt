@@ -1,13 +1,13 @@
 -- The arms of a `case` are read as they are spelled.
-use Rattle.std.proofs.Common.{◌≡◌, ◌<◌, ℕ, zero, suc, Bool, true, false, List, [], ◌∷◌, ◌++◌, length, Option, Some, None, Result, Ok, Err, refl, arith, append-nil, append_assoc, inl, inr}
+use Rattle.std.proofs.Common.{◌≡◌, ◌<◌, ℕ, suc, Bool, true, false, List, [], ◌∷◌, ◌++◌, length, Option, Some, None, Ok, Err, refl, arith, append-nil, append_assoc, inl, inr}
 use Rattle.gen_token.specs.declared.Keyword.TheVariants as keyword
 use Rattle.gen_token.specs.declared.Mark.TheVariants as mark
-use Rattle.gen_token.specs.Words.{Word, Reserved, Sign, Tok}
+use Rattle.gen_token.specs.Words.{Word, Sign, Tok}
 use Rattle.gen_tree.specs.declared.Dialect.TheVariants as dialect
 use Rattle.gen_tree.specs.Tree.{Lit, Stmts, Else, no_else, otherwise, Arms, arms}
 use Rattle.gen_tree.specs.Grammar.{Span, ◌⨾◌, Single, Sym, Each, Braces, SpellsLit, SpellsTests, SpellsStmts, SpellsDefault, SpellsArms, SpellsSomeArms}
 use Rattle.gen_text.specs.Forms.{is_mark, is_keyword, LitForm, a_plain, a_bits, no_lit, is_lit, lit_form}
-use Rattle.gen_text.specs.Reading.{Read, ◌>>=◌, seen, mark_at, body_by, each_at, lit_at, more_test_at, begins_test, tests_at, arm_at, begins_arm, arm_list_at, default_at, arms_step}
+use Rattle.gen_text.specs.Reading.{Read, ◌>>=◌, seen, mark_at, body_by, each_at, lit_at, more_test_at, begins_test, arm_at, begins_arm, default_at, arms_step}
 use Rattle.gen_text.proofs.Machine.{sign, Symbol, need, a_literal, another_test, tests_end, stmts_end, an_arm, arms_end, a_default, lead, lit_lead, arm_symbols, case_symbols, body_symbols, last_step, settle, settle_by, run, at_end}
 use Rattle.gen_text.proofs.Moves.{Comes, Reads, after, then_read, then_front, then_word, maps, measured, done, begins as takes_first, refuses, refuses_end}
 use Rattle.gen_text.proofs.WordsRead.{test, is_mark_is, word_reads}

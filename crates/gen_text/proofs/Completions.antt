@@ -9,7 +9,7 @@ use Rattle.gen_token.specs.Words.{Word, Name, Number, Literal, Reserved, Sign, T
 use Rattle.gen_tree.specs.declared.Dialect.{Dialect}
 use Rattle.gen_tree.specs.Brackets.{Side, opens, closes, neither, side, room_by, room_after, room_left, Within}
 use Rattle.gen_tree.specs.Grammar.{assign_mark}
-use Rattle.gen_text.proofs.Machine.{Fixed, fixed_word, Symbol, need, need_name, an_int, an_int_op, a_cmp, an_index, a_literal, a_dot, an_op, a_prim, an_expr, a_slice, a_stmt, stmts_end, an_else, another_test, tests_end, an_arm, arms_end, a_default, a_param, another_param, params_end, params, a_conn, conns_end, an_item, items_end, else_items, a_port, ports_end, a_module, may_end, settle, run, run_by, at_end, accepted, stopped}
+use Rattle.gen_text.proofs.Machine.{Fixed, fixed_word, Symbol, need, need_name, an_int, an_int_op, a_cmp, an_index, a_literal, a_dot, an_op, a_prim, an_expr, a_slice, a_stmt, stmts_end, an_else, another_test, tests_end, an_arm, arms_end, a_default, a_param, another_param, params_end, params, a_conn, conns_end, an_item, items_end, else_items, a_port, ports_end, a_module, an_import, imports_end, may_end, settle, run, run_by, at_end, accepted, stopped}
 use Rattle.gen_text.proofs.WordsRead.{test, is_itself}
 use Rattle.gen_text.proofs.Moves.{shifted}
 
@@ -72,6 +72,8 @@ finish else_items = kw keyword.Else ∷ braces
 finish a_port = kw keyword.Input ∷ a_name ∷ mk mark.Colon ∷ nought ∷ mk mark.Semicolon ∷ []
 finish ports_end = mk mark.RightBrace ∷ []
 finish a_module = kw keyword.Module ∷ a_name ∷ mk mark.LeftParen ∷ a_name ∷ mk mark.Equals ∷ nought ∷ mk mark.RightParen ∷ braces
+finish an_import = kw keyword.Import ∷ a_name ∷ mk mark.Semicolon ∷ []
+finish imports_end = kw keyword.Module ∷ a_name ∷ mk mark.LeftParen ∷ a_name ∷ mk mark.Equals ∷ nought ∷ mk mark.RightParen ∷ braces
 
 abbrev pub finish_all : List Symbol → List Tok
 finish_all [] = []
@@ -109,6 +111,8 @@ finishes an_item m room stack ts = record { room2 = suc room; enough = omega ari
 finishes else_items m room stack ts = record { room2 = suc room; enough = omega arith; runs = refl }
 finishes a_port m room stack ts = record { room2 = suc room; enough = omega arith; runs = refl }
 finishes a_module m room stack ts = record { room2 = suc room; enough = omega arith; runs = refl }
+finishes an_import m room stack ts = record { room2 = suc room; enough = omega arith; runs = refl }
+finishes imports_end m room stack ts = record { room2 = suc room; enough = omega arith; runs = refl }
 finishes params_end m room stack ts = record { room2 = suc (suc room); enough = omega arith; runs = refl }
 finishes conns_end m room stack ts = record { room2 = suc (suc room); enough = omega arith; runs = refl }
 finishes items_end m room stack ts = record { room2 = suc (suc room); enough = omega arith; runs = refl }

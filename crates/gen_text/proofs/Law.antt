@@ -6,37 +6,47 @@ use Rattle.gen_token.specs.Words.{Tok}
 use Rattle.gen_tree.specs.declared.Dialect.{Dialect}
 use Rattle.gen_tree.specs.declared.Dialect.TheVariants as dialect
 use Rattle.gen_tree.specs.Brackets.{opens, side, room_after, room_left, Within}
-use Rattle.gen_tree.specs.Tree.{Module}
-use Rattle.gen_tree.specs.Grammar.{SpellsModule, Spells}
+use Rattle.gen_tree.specs.Tree.{Import, Module, Source}
+use Rattle.gen_tree.specs.Grammar.{Each, SpellsModule, SpellsModules, SpellsImport, Spells}
 use Rattle.gen_tree.specs.Places.{IsSource, IsBad, FaultAt}
 use Rattle.gen_text.specs.Forms.{is_keyword}
-use Rattle.gen_text.specs.Reading.{Read, ◌>>=◌, none_left, module_at, source_by, source_at}
-use Rattle.gen_text.proofs.Machine.{Symbol, a_module, settle, run, run_by, at_end, accepted, stopped}
+use Rattle.gen_text.specs.Reading.{Read, ◌>>=◌, none_left, module_at, modules_by, modules_at, begins_import, imports_at, with_imports, source_at}
+use Rattle.gen_text.proofs.Machine.{Symbol, a_module, imports_end, settle, run, run_by, at_end, accepted, stopped}
 use Rattle.gen_text.proofs.Moves.{Reads}
 use Rattle.gen_text.proofs.WordsRead.{test}
 use Rattle.gen_text.proofs.ModulesRead.{module_reads}
 use Rattle.gen_text.proofs.Depth.{each_depth, module_depth}
-use Rattle.gen_text.proofs.OnlyModules.{source_only}
+use Rattle.gen_text.proofs.OnlyModules.{modules_only}
+use Rattle.gen_text.proofs.Lists.{EachReads}
+use Rattle.gen_text.proofs.ImportsRead.{imports_read, imports_only, after_imports}
 use Rattle.gen_text.proofs.Completions.{Halt, halts, Why}
 
-pub spelled_read : (b : List Module) (room : ℕ) (ts : List Tok) → each_depth module_depth b ≤ room → Spells b ts → source_at room ts ≡ Ok b
-spelled_read [] room ts le h = absurd h
-spelled_read (m ∷ ms) room ts le h = source_only m ms (suc (length ts)) room ts le (omega arith) h
+modules_read : (b : List Module) (room : ℕ) (ts : List Tok) → each_depth module_depth b ≤ room → SpellsModules b ts → modules_at room ts ≡ Ok b
+modules_read [] room ts le h = absurd h
+modules_read (m ∷ ms) room ts le h = modules_only m ms (suc (length ts)) room ts le (omega arith) h
 
-abbrev source_or : List Module → Result (List Module) ℕ → List Module
+-- how many brackets a source opens at once
+abbrev pub source_depth : Source → ℕ
+source_depth s = each_depth module_depth s.modules
+
+pub spelled_read : (s : Source) (room : ℕ) (ts : List Tok) → source_depth s ≤ room → Spells s ts → source_at room ts ≡ Ok s
+spelled_read s room ts le (mid, is, ms) =
+    rw (imports_only s.imports s.modules ts mid is ms, modules_read s.modules room mid le ms) refl
+
+abbrev source_or : Source → Result Source ℕ → Source
 source_or d (Ok b) = b
 source_or d (Err left) = d
 
-pub one_tree : (a b : List Module) (ts : List Tok) → Spells a ts → Spells b ts → a ≡ b
+pub one_tree : (a b : Source) (ts : List Tok) → Spells a ts → Spells b ts → a ≡ b
 one_tree a b ts ha hb =
-    let room : ℕ = each_depth module_depth a + each_depth module_depth b in
+    let room : ℕ = source_depth a + source_depth b in
     let ea : source_at room ts ≡ Ok a = spelled_read a room ts (omega arith) ha in
     let eb : source_at room ts ≡ Ok b = spelled_read b room ts (omega arith) hb in
     ap (source_or a) (sym ea ∙ eb)
 
--- what the reader answers, and what the machine does
+-- what the reader of modules answers, and what the machine does
 abbrev Answer : ℕ → List Tok → Result (List Module) ℕ → Type 0
-Answer room ts (Ok b) = Spells b ts × (run dialect.Source room (a_module ∷ []) ts ≡ accepted)
+Answer room ts (Ok b) = SpellsModules b ts × (run dialect.Source room (a_module ∷ []) ts ≡ accepted)
 Answer room ts (Err left) = run dialect.Source room (a_module ∷ []) ts ≡ stopped left
 
 at_bottom : (room : ℕ) → run dialect.Source room [] [] ≡ accepted
@@ -51,8 +61,8 @@ bottom room t ts = elim (test (is_keyword keyword.Module t.word)) [ inl e ↦ rw
 abbrev ReadsModule : ℕ → List Tok → Read Module → Type 0
 ReadsModule room ts o = Reads dialect.Source room (a_module ∷ []) ts room (λ m rest. SpellsModule m ts rest × (length rest < length ts)) o
 
-answers : (n room : ℕ) (ts : List Tok) → length ts < n → Answer room ts (source_by n room ts)
-unfolding source_by
+answers : (n room : ℕ) (ts : List Tok) → length ts < n → Answer room ts (modules_by n room ts)
+unfolding modules_by
 answers zero room ts lt = absurd (omega arith)
 answers (suc n) room ts lt = by (λ t1 l. answers n room t1 l) (module_at room ts) (module_reads room ts)
   where
@@ -61,31 +71,49 @@ answers (suc n) room ts lt = by (λ t1 l. answers n room t1 l) (module_at room t
     put m t t1 c s (Ok (m2 ∷ more)) g = ((t ∷ t1, s, g.0), c ∙ g.1)
     put m t t1 c s (Err left) g = c ∙ g
 
-    by : ((t1 : List Tok) → length t1 < n → Answer room t1 (source_by n room t1)) → (o : Read Module) → ReadsModule room ts o
-        → Answer room ts (o >>= λ m. cond (none_left m.1) (Ok (m.0 ∷ [])) (source_by n room m.1 >>= λ more. Ok (m.0 ∷ more)))
+    by : ((t1 : List Tok) → length t1 < n → Answer room t1 (modules_by n room t1)) → (o : Read Module) → ReadsModule room ts o
+        → Answer room ts (o >>= λ m. cond (none_left m.1) (Ok (m.0 ∷ [])) (modules_by n room m.1 >>= λ more. Ok (m.0 ∷ more)))
     by next (Err left) g = g.reads.stops []
     by next (Ok (m, [])) g = (([], g.reads.1.0, refl), g.reads.0.comes [] ∙ at_bottom room)
-    by next (Ok (m, t ∷ t1)) g = put m t t1 (g.reads.0.comes [] ∙ bottom room t t1) g.reads.1.0 (source_by n room (t ∷ t1)) (next (t ∷ t1) (omega (arith, g.reads.1.1)))
+    by next (Ok (m, t ∷ t1)) g = put m t t1 (g.reads.0.comes [] ∙ bottom room t t1) g.reads.1.0 (modules_by n room (t ∷ t1)) (next (t ∷ t1) (omega (arith, g.reads.1.1)))
+
+-- the same of a source
+abbrev Whole : ℕ → List Tok → Result Source ℕ → Type 0
+Whole room ts (Ok s) = Spells s ts × (run dialect.Source room (imports_end ∷ []) ts ≡ accepted)
+Whole room ts (Err left) = run dialect.Source room (imports_end ∷ []) ts ≡ stopped left
+
+whole : (room : ℕ) (ts : List Tok) → Whole room ts (source_at room ts)
+whole room ts = by (imports_at ts) (imports_read room ts)
+  where
+    put : (is : List Import) (mid : List Tok) → (run dialect.Source room (imports_end ∷ []) ts ≡ run dialect.Source room (a_module ∷ []) mid) → Each SpellsImport is ts mid → (o : Result (List Module) ℕ) → Answer room mid o
+        → Whole room ts (o >>= λ modules. Ok (with_imports is modules))
+    put is mid c s (Ok ms) g = ((mid, s, g.0), c ∙ g.1)
+    put is mid c s (Err left) g = c ∙ g
+
+    by : (o : Read (List Import)) → EachReads dialect.Source room imports_end begins_import SpellsImport ts o
+        → Whole room ts (o >>= λ found. modules_at room found.1 >>= λ modules. Ok (with_imports found.0 modules))
+    by (Ok p) g = put p.0 p.1 (g.reads.0.comes [] ∙ (after_imports room p.1 g.reads.3).comes []) g.reads.1 (modules_at room p.1) (answers (suc (length p.1)) room p.1 (omega arith))
+    by (Err left) g = g.reads.stops []
 
 record Told (room : ℕ) (ts : List Tok) : Type 0 where
-  ok : (b : List Module) → source_at room ts ≡ Ok b → Spells b ts × (run dialect.Source room (a_module ∷ []) ts ≡ accepted)
-  err : (left : ℕ) → source_at room ts ≡ Err left → run dialect.Source room (a_module ∷ []) ts ≡ stopped left
+  ok : (b : Source) → source_at room ts ≡ Ok b → Spells b ts × (run dialect.Source room (imports_end ∷ []) ts ≡ accepted)
+  err : (left : ℕ) → source_at room ts ≡ Err left → run dialect.Source room (imports_end ∷ []) ts ≡ stopped left
 
 answer : (room : ℕ) (ts : List Tok) → Told room ts
 answer room ts =
-    let all : Answer room ts (source_at room ts) = answers (suc (length ts)) room ts (omega arith) in
-    record { ok = λ b e. subst (λ (o : Result (List Module) ℕ). Answer room ts o) e all; err = λ left e. subst (λ (o : Result (List Module) ℕ). Answer room ts o) e all }
+    let all : Whole room ts (source_at room ts) = whole room ts in
+    record { ok = λ b e. subst (λ (o : Result Source ℕ). Whole room ts o) e all; err = λ left e. subst (λ (o : Result Source ℕ). Whole room ts o) e all }
 
 -- a list that the machine accepts is the spelling of a tree
-accepted_spelled : (room : ℕ) (ts : List Tok) → run dialect.Source room (a_module ∷ []) ts ≡ accepted → IsSource ts
+accepted_spelled : (room : ℕ) (ts : List Tok) → run dialect.Source room (imports_end ∷ []) ts ≡ accepted → IsSource ts
 accepted_spelled room ts e = by (source_at room ts) refl
   where
-    by : (o : Result (List Module) ℕ) → source_at room ts ≡ o → IsSource ts
+    by : (o : Result Source ℕ) → source_at room ts ≡ o → IsSource ts
     by (Ok b) eo = (b, ((answer room ts).ok b eo).0)
     by (Err left) eo = let h : stopped left ≡ accepted = sym ((answer room ts).err left eo) ∙ e in absurd cc
 
-spelled_accepted : (b : List Module) (ts : List Tok) → Spells b ts → run dialect.Source (each_depth module_depth b) (a_module ∷ []) ts ≡ accepted
-spelled_accepted b ts h = ((answer (each_depth module_depth b) ts).ok b (spelled_read b (each_depth module_depth b) ts (omega arith) h)).1
+spelled_accepted : (b : Source) (ts : List Tok) → Spells b ts → run dialect.Source (source_depth b) (imports_end ∷ []) ts ≡ accepted
+spelled_accepted b ts h = ((answer (source_depth b) ts).ok b (spelled_read b (source_depth b) ts (omega arith) h)).1
 
 -- ---- the room
 
@@ -112,31 +140,31 @@ accepted_if_within m (t ∷ ts) big room stack e w = by (λ r r2 s. accepted_if_
 
 -- ---- the theorem
 
-pub read_found : (room : ℕ) (ts : List Tok) (b : List Module) → source_at room ts ≡ Ok b → Spells b ts × Within room ts
-read_found room ts b e = let a = (answer room ts).ok b e in (a.0, accepted_within dialect.Source ts room (a_module ∷ []) a.1)
+pub read_found : (room : ℕ) (ts : List Tok) (b : Source) → source_at room ts ≡ Ok b → Spells b ts × Within room ts
+read_found room ts b e = let a = (answer room ts).ok b e in (a.0, accepted_within dialect.Source ts room (imports_end ∷ []) a.1)
 
-pub read_only : (room : ℕ) (ts : List Tok) (b : List Module) → Spells b ts → Within room ts → source_at room ts ≡ Ok b
+pub read_only : (room : ℕ) (ts : List Tok) (b : Source) → Spells b ts → Within room ts → source_at room ts ≡ Ok b
 read_only room ts b h w = by (source_at room ts) refl
   where
-    by : (o : Result (List Module) ℕ) → source_at room ts ≡ o → o ≡ Ok b
+    by : (o : Result Source ℕ) → source_at room ts ≡ o → o ≡ Ok b
     by (Ok c) eo = ap Ok (one_tree c b ts ((answer room ts).ok c eo).0 h)
     by (Err left) eo =
-        let acc : run dialect.Source room (a_module ∷ []) ts ≡ accepted = accepted_if_within dialect.Source ts (each_depth module_depth b) room (a_module ∷ []) (spelled_accepted b ts h) w in
+        let acc : run dialect.Source room (imports_end ∷ []) ts ≡ accepted = accepted_if_within dialect.Source ts (source_depth b) room (imports_end ∷ []) (spelled_accepted b ts h) w in
         let bad : stopped left ≡ accepted = sym ((answer room ts).err left eo) ∙ acc in absurd cc
 
-bad_is : (room : ℕ) (ts good bad : List Tok) (left : ℕ) → source_at room ts ≡ Err left → ts ≡ good ++ bad → Within room good → Why dialect.Source room (a_module ∷ []) good bad → IsBad IsSource room good bad
+bad_is : (room : ℕ) (ts good bad : List Tok) (left : ℕ) → source_at room ts ≡ Err left → ts ≡ good ++ bad → Within room good → Why dialect.Source room (imports_end ∷ []) good bad → IsBad IsSource room good bad
 bad_is room ts good [] left e parts w why = λ whole.
     let all : ts ≡ good = parts ∙ append-nil good in
     let is : source_at room good ≡ Ok whole.0 = read_only room good whole.0 whole.1 w in
     let bad : source_at room good ≡ Err left = ap (source_at room) (sym all) ∙ e in
     let wrong : Ok whole.0 ≡ Err left = sym is ∙ bad in
     absurd cc
-bad_is room ts good (t ∷ rest) left e parts w (inl none) = inl (λ more whole. none more (each_depth module_depth whole.0) (spelled_accepted whole.0 (good ++ t ∷ more) whole.1))
+bad_is room ts good (t ∷ rest) left e parts w (inl none) = inl (λ more whole. none more (source_depth whole.0) (spelled_accepted whole.0 (good ++ t ∷ more) whole.1))
 bad_is room ts good (t ∷ rest) left e parts w (inr deep) = inr deep
 
 pub read_fault : (room : ℕ) (ts : List Tok) (left : ℕ) → source_at room ts ≡ Err left → FaultAt IsSource room ts left
 read_fault room ts left e =
-    let h : Halt dialect.Source room (a_module ∷ []) ts left = halts dialect.Source ts room left (a_module ∷ []) ((answer room ts).err left e) in
+    let h : Halt dialect.Source room (imports_end ∷ []) ts left = halts dialect.Source ts room left (imports_end ∷ []) ((answer room ts).err left e) in
     record { good = h.good; bad = h.bad; parts = h.parts; count = h.count; completion = h.completion; begins = accepted_spelled (room + h.extra) (h.good ++ h.completion) h.begins; within = h.within; is_bad = bad_is room ts h.good h.bad left e h.parts h.within h.why }
 
 -- a bracket for which there is no room
@@ -157,8 +185,8 @@ none_in_whole S room ts left s w f = by f.bad f.parts f.is_bad
     by (t ∷ rest) parts (inl none) = none rest (subst (λ (x : List Tok). S x) parts s)
     by (t ∷ rest) parts (inr deep) = too_many f.good room t rest deep.0 deep.1 (subst (λ (x : List Tok). Within room x) parts w)
 
-pub not_whole : (room : ℕ) (ts : List Tok) (modules : List Module) (left : ℕ) → Spells modules ts → Within room ts → FaultAt IsSource room ts left → ⊥
-not_whole room ts modules left s w f = none_in_whole IsSource room ts left (modules, s) w f
+pub not_whole : (room : ℕ) (ts : List Tok) (source : Source) (left : ℕ) → Spells source ts → Within room ts → FaultAt IsSource room ts left → ⊥
+not_whole room ts source left s w f = none_in_whole IsSource room ts left (source, s) w f
 
 -- ---- the place is one
 

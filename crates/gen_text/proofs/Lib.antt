@@ -3,12 +3,14 @@ pub mod CasesRead
 pub mod Completions
 pub mod Depth
 pub mod ExprsRead
+pub mod ImportsRead
 pub mod IntsRead
 pub mod ItemsRead
 pub mod Law
 pub mod Lists
 pub mod Loops
 pub mod Machine
+pub mod ModuleLoop
 pub mod ModulesRead
 pub mod Moves
 pub mod OnlyCases
@@ -18,6 +20,5 @@ pub mod OnlyModules
 pub mod OnlyStmts
 pub mod Piles
 pub mod Sample
-pub mod SourceLoop
 pub mod StmtsRead
 pub mod WordsRead

@@ -57,6 +57,8 @@ pub data Symbol : Type 0 where
   a_port : Symbol
   ports_end : Symbol
   a_module : Symbol
+  an_import : Symbol
+  imports_end : Symbol
 
 pub data Move : Type 0 where
   shift : List Symbol → Move
@@ -149,6 +151,9 @@ port_symbols = need_name ∷ need (sign mark.Colon) ∷ an_int ∷ need (sign ma
 abbrev pub module_symbols : List Symbol
 module_symbols = need_name ∷ params ∷ need (sign mark.LeftBrace) ∷ ports_end ∷ []
 
+abbrev pub import_symbols : List Symbol
+import_symbols = need_name ∷ need (sign mark.Semicolon) ∷ []
+
 -- ---- the machine
 
 abbrev pub until_step : Word → Option (List Symbol) → Symbol → Move
@@ -193,6 +198,9 @@ step m else_items w = cond (is_keyword keyword.Else w) (shift (need (sign mark.L
 step m a_port w = lead (if_some port_symbols (port_form w)) []
 step m ports_end w = lead_or (if_some port_symbols (port_form w)) (ports_end ∷ []) (until_step w (item_lead (item_form w)) items_end)
 step m a_module w = cond (is_keyword keyword.Module w) (shift module_symbols) stuck
+step m an_import w = cond (is_keyword keyword.Import w) (shift import_symbols) stuck
+step m imports_end w =
+    cond (is_keyword keyword.Import w) (shift (import_symbols ++ imports_end ∷ [])) (cond (is_keyword keyword.Module w) (shift module_symbols) stuck)
 
 -- whether a symbol may stand for nothing, at the end
 abbrev pub may_end : Symbol → Bool

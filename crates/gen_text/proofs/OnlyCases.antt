@@ -1,13 +1,12 @@
 -- What a tree spells is read as that tree: the part of an assignment, the literals of an arm, and an arm by what it holds.
-use Rattle.std.proofs.Common.{◌≡◌, ◌≤◌, ◌<◌, ℕ, zero, suc, max, Bool, true, false, List, [], ◌∷◌, length, Option, Some, None, Ok, refl, ap, ◌∙◌, arith}
-use Rattle.gen_token.specs.declared.Keyword.TheVariants as keyword
+use Rattle.std.proofs.Common.{◌≡◌, ◌≤◌, ◌<◌, ℕ, zero, suc, max, true, false, List, [], ◌∷◌, length, Option, Some, None, Ok, refl, ap, arith}
 use Rattle.gen_token.specs.declared.Mark.TheVariants as mark
-use Rattle.gen_token.specs.Words.{Word, Name, Literal, Reserved, Sign, Tok}
+use Rattle.gen_token.specs.Words.{Word, Sign, Tok}
 use Rattle.gen_tree.specs.declared.Dialect.TheVariants as dialect
 use Rattle.gen_tree.specs.Tree.{Int, Lit, plain, bits, Stmts, Arms, no_arm, arm, arms}
-use Rattle.gen_tree.specs.Grammar.{Span, ◌⨾◌, Sym, Each, SpellsLit, SpellsPart, SpellsTests, SpellsArms, SpellsSomeArms}
-use Rattle.gen_text.specs.Forms.{is_mark, is_lit, lit_form}
-use Rattle.gen_text.specs.Reading.{Read, begins, each_at, lit_at, range_at, part_at, more_test_at, begins_test, tests_at, arm_at, begins_arm}
+use Rattle.gen_tree.specs.Grammar.{Each, SpellsLit, SpellsPart, SpellsTests}
+use Rattle.gen_text.specs.Forms.{is_mark}
+use Rattle.gen_text.specs.Reading.{begins, each_at, range_at, part_at, more_test_at, begins_test, tests_at, begins_arm}
 use Rattle.gen_text.proofs.Machine.{sign}
 use Rattle.gen_text.proofs.Lists.{each_only, takes}
 use Rattle.gen_text.proofs.CasesRead.{MoreTest, more_test_reads}

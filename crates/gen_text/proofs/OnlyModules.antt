@@ -6,7 +6,7 @@ use Rattle.gen_tree.specs.declared.Dialect.TheVariants as dialect
 use Rattle.gen_tree.specs.Tree.{Items, no_item, item, Port, Module}
 use Rattle.gen_tree.specs.Grammar.{Sym, Key, Each, SpellsItems, SpellsPort, SpellsModule, direction}
 use Rattle.gen_text.specs.Forms.{is_mark, port_form}
-use Rattle.gen_text.specs.Reading.{port_at, begins_port, module_at, none_left, source_by}
+use Rattle.gen_text.specs.Reading.{port_at, begins_port, module_at, none_left, modules_by}
 use Rattle.gen_text.proofs.Lists.{each_only, takes}
 use Rattle.gen_text.proofs.ModulesRead.{port_reads, module_reads, module_flat}
 use Rattle.gen_text.proofs.Depth.{each_depth, port_depth, module_depth}
@@ -58,14 +58,14 @@ module_only m (suc room) (t ∷ ts) rest le (ln, (t1, w, (t2, x, (t3, ps, (t4, o
 pub module_shorter : (m : Module) (room : ℕ) (ts rest : List Tok) → module_at room ts ≡ Ok (m, rest) → length rest < length ts
 module_shorter m room ts rest e = takes dialect.Source room _ SpellsModule ts m rest _ (module_reads room ts) e
 
-pub source_only : (m : Module) (ms : List Module) (n room : ℕ) (ts : List Tok) → each_depth module_depth (m ∷ ms) ≤ room → length ts < n → Each SpellsModule (m ∷ ms) ts [] → source_by n room ts ≡ Ok (m ∷ ms)
-unfolding source_by
-source_only m ms zero room ts le lt h = absurd (omega arith)
-source_only m [] (suc n) room ts le lt (t1, s, more) = rw (module_only m room ts t1 (omega arith) s, more) refl
-source_only m (m2 ∷ ms) (suc n) room ts le lt (t1, s, more) =
+pub modules_only : (m : Module) (ms : List Module) (n room : ℕ) (ts : List Tok) → each_depth module_depth (m ∷ ms) ≤ room → length ts < n → Each SpellsModule (m ∷ ms) ts [] → modules_by n room ts ≡ Ok (m ∷ ms)
+unfolding modules_by
+modules_only m ms zero room ts le lt h = absurd (omega arith)
+modules_only m [] (suc n) room ts le lt (t1, s, more) = rw (module_only m room ts t1 (omega arith) s, more) refl
+modules_only m (m2 ∷ ms) (suc n) room ts le lt (t1, s, more) =
     let e : module_at room ts ≡ Ok (m, t1) = module_only m room ts t1 (omega arith) s in
     let l : length t1 < length ts = module_shorter m room ts t1 e in
-    rw (e, some_left t1 more, source_only m2 ms n room t1 (omega arith) (omega arith) more) refl
+    rw (e, some_left t1 more, modules_only m2 ms n room t1 (omega arith) (omega arith) more) refl
   where
     some_left : (t1 : List Tok) → Each SpellsModule (m2 ∷ ms) t1 [] → none_left t1 ≡ false
     some_left [] h = absurd h.1.0

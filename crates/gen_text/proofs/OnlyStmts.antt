@@ -6,9 +6,9 @@ use Rattle.gen_token.specs.Words.{Word, Name, Reserved, Sign, Tok}
 use Rattle.gen_tree.specs.declared.Cmp.{Cmp}
 use Rattle.gen_tree.specs.declared.Dialect.TheVariants as dialect
 use Rattle.gen_tree.specs.Tree.{Int, Fam, Lit, Expr, Stmt, assign, bind, choose, select, repeat, given, Stmts, no_stmt, stmt, stmts, Else, no_else, otherwise, Arms, no_arm, arm}
-use Rattle.gen_tree.specs.Grammar.{Sym, Each, Braces, SpellsTurns, SpellsGiven, SpellsPart, SpellsTests, SpellsStmt, SpellsStmts, SpellsElse, SpellsDefault, SpellsArms, SpellsSomeArms}
+use Rattle.gen_tree.specs.Grammar.{Sym, Each, Braces, SpellsTurns, SpellsGiven, SpellsTests, SpellsStmt, SpellsStmts, SpellsElse, SpellsDefault, SpellsArms, SpellsSomeArms}
 use Rattle.gen_text.specs.Forms.{is_mark, is_keyword, is_lit, lit_form}
-use Rattle.gen_text.specs.Reading.{Read, source_expr_at, open_at, case_at, begins, until_at, each_at, turns_at, given_at, body_by, else_at, default_at, begins_test, begins_arm, arm_at, arms_step, stmt_step, stmt_at, arms_at, inner_stmts, inner_arms}
+use Rattle.gen_text.specs.Reading.{Read, source_expr_at, open_at, case_at, begins, until_at, each_at, turns_at, given_at, body_by, else_at, default_at, begins_arm, arm_at, arms_step, stmt_step, stmt_at, arms_at, inner_stmts, inner_arms}
 use Rattle.gen_text.specs.declared.fault.ReadFault.{ReadFault}
 use Rattle.gen_text.specs.declared.fault.ReadFault.TheVariants as faults
 use Rattle.gen_text.specs.Faults.{Fails}

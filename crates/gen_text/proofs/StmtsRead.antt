@@ -15,7 +15,7 @@ use Rattle.gen_text.proofs.WordsRead.{word_reads, then_open, name_reads}
 use Rattle.gen_text.proofs.IntsRead.{int_reads, inner_reads, cmp_reads, fam_rest_reads, fam_reads}
 use Rattle.gen_text.proofs.ExprsRead.{range_reads, opens_slice, expr_reads}
 use Rattle.gen_text.proofs.CasesRead.{StmtsInside, SpellsCases, cases_read}
-use Rattle.gen_text.proofs.Lists.{UntilOf, until_reads, opens_until, InsideBody, body_reads, ElseOf, else_reads}
+use Rattle.gen_text.proofs.Lists.{UntilOf, until_reads, opens_until, body_reads, ElseOf, else_reads}
 
 -- ---- heads of loops and of `gen if`
 

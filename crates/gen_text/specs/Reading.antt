@@ -14,7 +14,7 @@ use Rattle.gen_tree.specs.declared.Op.TheVariants as op
 use Rattle.gen_tree.specs.declared.Dialect.{Dialect}
 use Rattle.gen_tree.specs.declared.Dialect.TheVariants as dialect
 use Rattle.gen_tree.specs.Grammar.{assign_mark}
-use Rattle.gen_tree.specs.Tree.{Int, num, var, bin, Fam, Lit, plain, bits, Expr, read, out, value, unary, binary, mux, zext, slice, Stmt, assign, bind, choose, select, repeat, given, Stmts, stmts, Else, no_else, otherwise, Arms, arms, Param, Conn, Item, wire, reg, inst, comb, ff, repeat_items, given_items, Items, items, ElseItems, no_else_items, otherwise_items, Port, Module}
+use Rattle.gen_tree.specs.Tree.{Int, num, var, bin, Fam, Lit, plain, bits, Expr, read, out, value, unary, binary, mux, zext, slice, Stmt, assign, bind, choose, select, repeat, given, Stmts, stmts, Else, no_else, otherwise, Arms, arms, Param, Conn, Item, wire, reg, inst, comb, ff, repeat_items, given_items, Items, items, ElseItems, no_else_items, otherwise_items, Port, Module, Import, Source}
 use Rattle.gen_text.specs.Forms.{is_mark, is_keyword, name_form, IntForm, a_number, a_variable, a_group, no_int, int_form, int_op_form, cmp_form, LitForm, a_plain, a_bits, no_lit, lit_form, is_lit, op_form, PrimForm, a_name, a_lit, a_bracket, a_unary, a_cat, a_mux, a_zext, prim_form, StmtForm, an_assign, a_let, an_if, a_case, a_for, a_gen, no_stmt_form, stmt_form, ItemForm, a_wire, a_reg, an_inst, a_block, a_for_item, a_gen_item, no_item_form, item_form, port_form}
 
 abbrev pub Read : Type 0 → Type 0
@@ -620,10 +620,36 @@ none_left [] = true
 none_left (t ∷ ts) = false
 
 -- modules up to the end, one at least; the number bounds the turns
-unfoldable pub source_by : ℕ → ℕ → List Tok → Result (List Module) ℕ
-source_by zero room ts = Err 0
-source_by (suc n) room ts =
-    module_at room ts >>= λ m. cond (none_left m.1) (Ok (m.0 ∷ [])) (source_by n room m.1 >>= λ more. Ok (m.0 ∷ more))
+unfoldable pub modules_by : ℕ → ℕ → List Tok → Result (List Module) ℕ
+modules_by zero room ts = Err 0
+modules_by (suc n) room ts =
+    module_at room ts >>= λ m. cond (none_left m.1) (Ok (m.0 ∷ [])) (modules_by n room m.1 >>= λ more. Ok (m.0 ∷ more))
 
-abbrev pub source_at : ℕ → List Tok → Result (List Module) ℕ
-source_at room ts = source_by (suc (length ts)) room ts
+abbrev pub modules_at : ℕ → List Tok → Result (List Module) ℕ
+modules_at room ts = modules_by (suc (length ts)) room ts
+
+-- ---- imports
+
+-- behind `import`
+abbrev pub import_rest_at : ℕ → List Tok → Read Import
+import_rest_at line ts = do
+  x ← name_at ts
+  rest ← mark_at mark.Semicolon x.1
+  Ok (record { line = line; name = x.0 }, rest)
+
+unfoldable pub import_at : List Tok → Read Import
+import_at [] = Err 0
+import_at (t ∷ ts) = cond (is_keyword keyword.Import t.word) (import_rest_at t.line ts) (Err (suc (length ts)))
+
+abbrev pub begins_import : List Tok → Bool
+begins_import ts = begins (is_keyword keyword.Import) ts
+
+abbrev pub imports_at : List Tok → Read (List Import)
+imports_at ts = each_at begins_import import_at ts
+
+abbrev pub with_imports : List Import → List Module → Source
+with_imports imports modules = record { imports = imports; modules = modules }
+
+-- imports, and then modules up to the end
+abbrev pub source_at : ℕ → List Tok → Result Source ℕ
+source_at room ts = imports_at ts >>= λ found. modules_at room found.1 >>= λ modules. Ok (with_imports found.0 modules)

@@ -1,4 +1,4 @@
-//! Why a text is not read: its size, a byte, or the line of the first token with which no source goes on.
+//! Why a text is not read: its size, a byte, or the place of the first token with which no source goes on.
 
 ghost use Rattle.std.specs.Prelude.{◌≡◌};
 ghost use Rattle.gen_text.specs.Faults.{text_fault_of};
@@ -16,9 +16,9 @@ pub enum TextFault {
     /// The first byte that no source holds stands at this offset, counted from 0. A source holds the bytes 9, 10, 13
     /// and 32 to 126 alone.
     NotAscii { offset: u64 },
-    /// No token begins at some place. This is the line of the first such place; lines count from 1.
+    /// Somewhere no token begins. This is the place of the first line with such a spot.
     BadToken { line: u32 },
-    /// The tokens are no source, or more than 64 brackets are open at once. This is the line of the first token with
+    /// The tokens are no source, or more than 64 brackets are open at once. This is the place of the first token with
     /// which no source goes on, of the 65th open bracket, or of the end of the text.
     Syntax { line: u32 },
     /// Want of memory.

@@ -4,6 +4,7 @@
 mod build;
 mod exprs;
 mod fault;
+mod imports;
 mod ints;
 mod items;
 mod laws;

@@ -161,8 +161,8 @@ fn module<'t, 'a>(
 }
 
 /// The modules that the tokens are, to the last of them; one at least.
-pub(crate) fn source(alloc: Global, tokens: &[Placed<'_>]) -> Result<Vec<Module>, ReadFault>
-    ensures { Gives (λ all. modules_of all.items) result (list.source_at 64 (placed tokens.now)) }
+pub(crate) fn module_list(alloc: Global, tokens: &[Placed<'_>]) -> Result<Vec<Module>, ReadFault>
+    ensures { Gives (λ all. modules_of all.items) result (list.modules_at 64 (placed tokens.now)) }
 {
     let mut all = Vec::new(alloc);
     let (first, mut rest) = module(alloc, ROOM, tokens)?;

@@ -1,5 +1,6 @@
 pub mod Beginnings
 pub mod Fronts
+pub mod InFile
 pub mod OneList
 pub mod ReadMark
 pub mod ReadName

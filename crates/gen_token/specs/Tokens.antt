@@ -2,6 +2,7 @@
 use Rattle.std.specs.Prelude.{◌≡◌, ◌<◌, ℕ, ◌+◌, ◌-◌, ◌^◌, Bool, true, false, List, [], ◌∷◌, length, take, drop, Option, Some, None, IsSomeAnd, option_and_then, nat_le, ◌&&◌, ◌||◌, ◌==◌, if◌then◌else◌}
 use Rattle.std.specs.List.{prefix_len}
 use Rattle.std.specs.Option.{option_map}
+use Rattle.places.specs.Places.{place}
 use Rattle.text_core.specs.Digits.{is_digit, is_digit_of, number_of}
 use Rattle.gen_token.specs.declared.fault.TokenFault.{TokenFault}
 use Rattle.gen_token.specs.declared.fault.TokenFault.TheVariants as faults
@@ -86,11 +87,15 @@ TokensFrom at (tok ∷ toks) end =
 abbrev pub AreTokens : List ℕ → List Tok → Type 0
 AreTokens text toks = TokensFrom (skip false 1 text) toks None
 
--- this is the line of the first place where no token begins
-abbrev pub IsBadAt : List ℕ → ℕ → Type 0
-IsBadAt text line = (toks : List Tok) × TokensFrom (skip false 1 text) toks (Some line)
+-- the same in a file, where tokens have places: the first line is the file's first place. In file 0 they are the text's tokens
+abbrev pub AreTokensIn : ℕ → List ℕ → List Tok → Type 0
+AreTokensIn file text toks = TokensFrom (skip false (place file 1) text) toks None
 
--- the text is the cause of this fault; want of memory has no cause
-abbrev pub IsCause : List ℕ → TokenFault → Type 0
-IsCause text (faults.BadToken line) = IsBadAt text line
-IsCause text faults.NoMemory = Unit {0}
+-- this is the place, in this file, of the first line on which somewhere no token begins
+abbrev pub IsBadIn : ℕ → List ℕ → ℕ → Type 0
+IsBadIn file text line = (toks : List Tok) × TokensFrom (skip false (place file 1) text) toks (Some line)
+
+-- the text of a file is the cause of this fault; want of memory has no cause
+abbrev pub IsCause : ℕ → List ℕ → TokenFault → Type 0
+IsCause file text (faults.BadToken line) = IsBadIn file text line
+IsCause file text faults.NoMemory = Unit {0}

@@ -7,7 +7,7 @@ use text_core::NoMemory;
 /// Why a text gave no tokens.
 #[derive(Clone, Copy, PartialEq, Eq)]
 pub enum TokenFault {
-    /// No token begins at some place of the text. This is the line of the first such place; lines count from 1.
+    /// Somewhere in the text no token begins. This is the place of the first line with such a spot.
     BadToken { line: u32 },
     /// Want of memory.
     NoMemory,

@@ -1,7 +1,7 @@
 //! A text as tokens. Each is as long as it can be; blanks and comments separate them.
 
 ghost use Rattle.std.specs.Prelude.{◌≡◌, ◌≤◌, ◌<◌, ◌+◌, ◌^◌, false, Some, IfOk, IfErr, IfSome, length};
-ghost use Rattle.gen_token.specs.Tokens.{word_or, name_at, mark_at, token_at, skip, AreTokens, IsCause};
+ghost use Rattle.gen_token.specs.Tokens.{word_or, name_at, mark_at, token_at, skip, AreTokensIn, IsCause};
 ghost use Rattle.gen_token.specs.Words.{word_of, placed, found_as};
 ghost use Rattle.gen_token.specs.Bytes.{is_name_byte};
 ghost use Rattle.gen_token.specs.Keywords.{keyword_of};
@@ -12,22 +12,24 @@ use crate::keyword::keyword_of;
 use crate::mark::mark_of;
 use crate::number::number_at;
 use crate::{Placed, Token, TokenFault};
+use places::place;
 use std::alloc::Global;
 use text_core::is_digit;
 
-/// The tokens of a text of less than 2^30 bytes, with their lines, which count from 1. Blanks and comments only
-/// separate them.
+/// The tokens of the text of a file, which has less than 2^30 bytes, with their places: the lines of file 0 count from 1.
+/// Blanks and comments only separate tokens.
 ///
 /// # Errors
 ///
-/// `BadToken` with the line of the first place where no token begins, and `NoMemory`.
-pub fn tokens_of(alloc: Global, text: &[u8]) -> Result<Vec<Placed<'_>>, TokenFault>
-    requires { length text.now < 2 ^ 30 }
-    ensures found { IfOk result (λ tokens. AreTokens text.now (placed tokens.items)) }
-    ensures refused { IfErr result (IsCause text.now) }
+/// `BadToken` with the place of the first line on which somewhere no token begins, and `NoMemory`.
+pub fn tokens_of(alloc: Global, file: u32, text: &[u8]) -> Result<Vec<Placed<'_>>, TokenFault>
+    requires file { file < 64 }
+    requires fits { length text.now < 2 ^ 30 }
+    ensures found { IfOk result (λ tokens. AreTokensIn file text.now (placed tokens.items)) }
+    ensures refused { IfErr result (IsCause file text.now) }
 {
     let mut tokens = Vec::new(alloc);
-    let (mut line, mut rest) = skip(text, 1);
+    let (mut line, mut rest) = skip(text, place(file, 1));
     while !rest.is_empty() {
         let Some((token, after)) = token_at(rest) else {
             return Err(TokenFault::BadToken { line });

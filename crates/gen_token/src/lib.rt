@@ -14,7 +14,7 @@ mod token;
 pub use bytes::first_other_byte;
 pub use fault::TokenFault;
 pub use keyword::Keyword;
-pub use laws::{longest, one_list};
+pub use laws::{longest, one_list, placed_tokens};
 pub use lexer::{skip, token_at, tokens_of};
 pub use mark::Mark;
 pub use name::is_name;

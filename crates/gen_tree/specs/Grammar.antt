@@ -15,7 +15,7 @@ use Rattle.gen_tree.specs.declared.expr.Op.{Op}
 use Rattle.gen_tree.specs.declared.expr.Op.TheVariants as op
 use Rattle.gen_tree.specs.declared.dialect.Dialect.{Dialect}
 use Rattle.gen_tree.specs.declared.dialect.Dialect.TheVariants as dialect
-use Rattle.gen_tree.specs.Tree.{Int, num, var, bin, Fam, Lit, plain, bits, Expr, read, out, value, unary, binary, mux, zext, slice, Stmt, assign, bind, choose, select, repeat, given, Stmts, no_stmt, stmt, Else, no_else, otherwise, Arms, no_arm, arm, Param, Conn, Item, wire, reg, inst, comb, ff, repeat_items, given_items, Items, no_item, item, ElseItems, no_else_items, otherwise_items, Port, Module}
+use Rattle.gen_tree.specs.Tree.{Int, num, var, bin, Fam, Lit, plain, bits, Expr, read, out, value, unary, binary, mux, zext, slice, Stmt, assign, bind, choose, select, repeat, given, Stmts, no_stmt, stmt, Else, no_else, otherwise, Arms, no_arm, arm, Param, Conn, Item, wire, reg, inst, comb, ff, repeat_items, given_items, Items, no_item, item, ElseItems, no_else_items, otherwise_items, Port, Module, Import, Source}
 
 -- tokens from here on, and what is left of them there: what lies between is the span
 abbrev pub Span : Type 1
@@ -316,7 +316,15 @@ SpellsModule m ts rest =
     × (Key keyword.Module ⨾ Single (Name m.name) ⨾ SpellsParams m.params
     ⨾ Sym mark.LeftBrace ⨾ Each SpellsPort m.ports ⨾ SpellsItems m.items ⨾ Sym mark.RightBrace) ts rest
 
--- source = module { module }, and nothing behind it
-abbrev pub Spells : List Module → List Tok → Type 0
-Spells [] ts = ⊥
-Spells (m ∷ ms) ts = Each SpellsModule (m ∷ ms) ts []
+-- module { module }, and nothing behind it
+abbrev pub SpellsModules : List Module → List Tok → Type 0
+SpellsModules [] ts = ⊥
+SpellsModules (m ∷ ms) ts = Each SpellsModule (m ∷ ms) ts []
+
+-- "import" NAME ";"
+abbrev pub SpellsImport : Import → Span
+SpellsImport i ts rest = StartsAt i.line ts × (Key keyword.Import ⨾ Single (Name i.name) ⨾ Sym mark.Semicolon) ts rest
+
+-- source = { "import" NAME ";" } module { module }, and nothing behind it
+abbrev pub Spells : Source → List Tok → Type 0
+Spells s ts = (mid : List Tok) × Each SpellsImport s.imports ts mid × SpellsModules s.modules mid

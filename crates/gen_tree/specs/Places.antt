@@ -3,11 +3,11 @@ use Rattle.std.specs.Prelude.{◌≡◌, ℕ, List, [], ◌∷◌, ◌++◌, len
 use Rattle.gen_token.specs.Words.{Tok}
 use Rattle.gen_tree.specs.Brackets.{room_left, Within, side, opens}
 use Rattle.gen_tree.specs.Grammar.{Spells}
-use Rattle.gen_tree.specs.Tree.{Module}
+use Rattle.gen_tree.specs.Tree.{Source}
 
 -- some source is spelled so
 abbrev pub IsSource : List Tok → Type 0
-IsSource ts = (modules : List Module) × Spells modules ts
+IsSource ts = (source : Source) × Spells source ts
 
 -- Why the good tokens do not go on with the bad ones, where S says which lists are whole: they end before they are whole;
 -- or nothing whole begins with them and the next token, however many brackets are open in it; or that token is a bracket

@@ -1,5 +1,5 @@
 -- The trees of a source, without where they lie in memory. A name is the list of its bytes.
-use Rattle.std.specs.Prelude.{ℕ, List, [], ◌∷◌, Option, Bool}
+use Rattle.std.specs.Prelude.{ℕ, List, [], ◌∷◌, ◌++◌, Option, Bool}
 use Rattle.gen_tree.specs.declared.expr.IntOp.{IntOp}
 use Rattle.gen_tree.specs.declared.expr.Cmp.{Cmp}
 use Rattle.gen_tree.specs.declared.expr.UnOp.{UnOp}
@@ -93,6 +93,21 @@ pub record Module : Type 0 where
   pub params : List Param
   pub ports : List Port
   pub items : Items
+
+-- an import of the file that has this name
+pub record Import : Type 0 where
+  pub line : ℕ
+  pub name : List ℕ
+
+-- a source: its imports, and its modules
+pub record Source : Type 0 where
+  pub imports : List Import
+  pub modules : List Module
+
+-- the modules of sources, those of one file after those of the other
+abbrev pub all_modules : List Source → List Module
+all_modules [] = []
+all_modules (s ∷ sources) = s.modules ++ all_modules sources
 
 -- statements of a list
 abbrev pub stmts : List Stmt → Stmts

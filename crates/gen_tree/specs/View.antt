@@ -1,5 +1,6 @@
 -- The trees of the code, as trees of the grammar.
 use Rattle.std.specs.Prelude.{List, Option, Some, None, option_map, Vec, Box, map}
+use Rattle.std.specs.Borrow.{Bor}
 use Rattle.gen_tree.specs.declared.expr.Int as code_int
 use Rattle.gen_tree.specs.declared.expr.Int.TheVariants as ints
 use Rattle.gen_tree.specs.declared.expr.Fam as code_fam
@@ -16,8 +17,9 @@ use Rattle.gen_tree.specs.declared.item.Item as code_item
 use Rattle.gen_tree.specs.declared.item.Item.TheVariants as code_items
 use Rattle.gen_tree.specs.declared.source.Port as code_port
 use Rattle.gen_tree.specs.declared.source.Module as code_module
+use Rattle.gen_tree.specs.declared.source.Import as code_import
 use Rattle.gen_tree.specs.declared.source.Source as code_source
-use Rattle.gen_tree.specs.Tree.{Int, num, var, bin, Fam, Lit, plain, bits, Expr, read, out, value, unary, binary, mux, zext, slice, Stmt, assign, bind, choose, select, repeat, given, Stmts, no_stmt, stmt, stmts, Else, no_else, otherwise, Arms, no_arm, arm, arms, Param, Conn, Item, wire, reg, inst, comb, ff, repeat_items, given_items, Items, no_item, item, items, ElseItems, no_else_items, otherwise_items, Port, Module}
+use Rattle.gen_tree.specs.Tree.{Int, num, var, bin, Fam, Lit, plain, bits, Expr, read, out, value, unary, binary, mux, zext, slice, Stmt, assign, bind, choose, select, repeat, given, Stmts, no_stmt, stmt, stmts, Else, no_else, otherwise, Arms, no_arm, arm, arms, Param, Conn, Item, wire, reg, inst, comb, ff, repeat_items, given_items, Items, no_item, item, items, ElseItems, no_else_items, otherwise_items, Port, Module, Import, Source}
 
 abbrev pub int_of : code_int.Int → Int
 int_of (ints.Num n) = num n
@@ -127,6 +129,15 @@ module_of m = record {
 abbrev pub modules_of : List code_module.Module → List Module
 modules_of ms = map module_of ms
 
--- the modules of a source
-abbrev pub source_of : code_source.Source → List Module
-source_of s = modules_of s.modules.items
+abbrev pub import_of : code_import.Import → Import
+import_of i = record { line = i.line; name = i.name }
+
+abbrev pub source_of : code_source.Source → Source
+source_of s = record { imports = map import_of s.imports.items; modules = modules_of s.modules.items }
+
+abbrev pub sources_of : List code_source.Source → List Source
+sources_of ss = map source_of ss
+
+-- the modules that are lent
+abbrev pub lent_of : List (Bor code_module.Module) → List Module
+lent_of ms = map (λ m. module_of m.now) ms

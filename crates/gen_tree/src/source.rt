@@ -1,10 +1,18 @@
 use crate::{Int, Item, Param};
 use text_core::Text;
 
-/// A source: its modules in order, one at least.
+/// A source: its imports and then its modules, in order; one module at least.
 #[derive(Drop)]
 pub struct Source {
+    pub imports: Vec<Import>,
     pub modules: Vec<Module>,
+}
+
+/// `import name;`
+#[derive(Drop)]
+pub struct Import {
+    pub line: u32,
+    pub name: Text,
 }
 
 /// `module name(params) { ports items }`; without parameters no brackets stand there

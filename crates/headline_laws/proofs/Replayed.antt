@@ -3,7 +3,9 @@ use Rattle.std.proofs.Common.{◌≡◌, ℕ, ◌<◌, ◌≤◌, ◌^◌, List,
 use Rattle.bv_core.specs.Value.{Bits}
 use Rattle.exec_core.specs.Whole.{Place}
 use Rattle.design_core.specs.Design.{Design}
+use Rattle.elab_laws.specs.Laws.{AreReadFrom}
 use Rattle.elab_laws.proofs.Kept.{elaboration_keeps}
+use Rattle.design_judge.proofs.Sources.{files_so}
 use Rattle.net_core.specs.Nets.{NetParts}
 use Rattle.symtab.specs.declared.parts.TableParts.{TableParts}
 use Rattle.symtab_json.specs.declared.fault.TableFault.{TableFault}
@@ -114,16 +116,19 @@ module _ (heard : List Heard) (files : Contents) (names : Names) (parts : TableP
 few_nodes : (parts : TableParts) → length (symbols_line parts) ≤ 2 ^ 26 → length parts.nodes < 2 ^ 64
 few_nodes parts short = omega (arith, nodes_few parts, short, length-append (symbols_text parts) (10 ∷ []))
 
-module _ (kept_law : CompiledWavesAreKept) (law : WavesReplay) (top : Top) (source : List ℕ) (d : Design) (pairs : List Pair) (mode : Mode) (net : NetParts) (parts : TableParts) (stim : Stimulus) (run : List (Place → Bits)) (h : IsDebugged top source d pairs stim run)
+module _ (kept_law : CompiledWavesAreKept) (law : WavesReplay) (top : Top) (told : Contents) (src : List ℕ) (d : Design) (pairs : List Pair) (mode : Mode) (net : NetParts) (parts : TableParts) (stim : Stimulus) (run : List (Place → Bits)) (h : IsDebugged top told src d pairs stim run)
     (trimmed : IsTrimmed d (length pairs) mode net parts) (files : Contents) (names : Names) (requests : List ℕ) (hold : HoldPrinted files names d (length pairs) mode stim requests) where
   abbrev n : ℕ
   n = length pairs
 
+  read : AreReadFrom 0 h.describes.sources × (length h.describes.sources ≤ 64)
+  read = files_so told src h.describes.sources h.describes.are
+
   sound : IsSound d
-  sound = record { kept = elaboration_keeps h.describes.modules top.name top.given d source h.describes.reads h.in_range h.describes.elaborates; accepted = h.clean }
+  sound = record { kept = elaboration_keeps h.describes.sources top.name top.given d read.0 read.1 h.in_range h.describes.elaborates; accepted = h.clean }
 
   texts : HasTexts d
-  texts = names_are_texts h.describes.modules top.name top.given d source h.describes.reads h.in_range h.describes.elaborates
+  texts = names_are_texts h.describes.sources top.name top.given d read.0 h.in_range h.describes.elaborates
 
   -- the table
   table_is : parts ≡ kept_table d n mode
@@ -175,5 +180,5 @@ module _ (kept_law : CompiledWavesAreKept) (law : WavesReplay) (top : Top) (sour
       (source_world d n mode run) alike
 
 pub replays_debugged : CompiledWavesAreKept → WavesReplay → ReplaysAreDebugged
-replays_debugged kept_law law d pairs mode net parts stim trimmed top source run h heard files names requests hold reader reads =
-    asked_for kept_law law top source d pairs mode net parts stim run h trimmed files names requests hold heard reader reads
+replays_debugged kept_law law d pairs mode net parts stim trimmed top told src run h heard files names requests hold reader reads =
+    asked_for kept_law law top told src d pairs mode net parts stim run h trimmed files names requests hold heard reader reads

@@ -8,6 +8,7 @@ use Rattle.symtab.specs.declared.parts.TableParts.{TableParts}
 use Rattle.stim_text.specs.Stimulus.{Stimulus, IsStimulus}
 use Rattle.check_core.specs.Verdict.{verdict}
 use Rattle.place_core.specs.Orders.{Pair, TellsOrder}
+use Rattle.project_read.specs.Projects.{IsProject}
 use Rattle.design_judge.specs.Judgement.{Top, Describes, ArePortsOf}
 use Rattle.world_core.specs.declared.mode.Mode.{Mode}
 use Rattle.world_core.specs.Source.{source_world}
@@ -22,10 +23,10 @@ use Rattle.machine_core.specs.Reading.{Reader, IsReader}
 use Rattle.batch_run.specs.Texts.{batch_text, most_requests}
 use Rattle.replay_run.specs.Asked.{Names, Contents, AsksReplay}
 
--- a source that is accepted as this design, from a top whose parameters are given numbers from -2^62 to 2^62; an order of its driven
+-- files that are accepted as this design, of the source of this name and what it imports, from a top whose parameters are given numbers from -2^62 to 2^62; an order of its driven
 -- signals; a stimulus for the ports of its top; and a run of the design over the rows of the stimulus
-pub record IsDebugged (top : Top) (source : List ℕ) (d : Design) (pairs : List Pair) (stim : Stimulus) (run : List (Place → Bits)) : Type 0 where
-  pub describes : Describes top source d
+pub record IsDebugged (top : Top) (told : Contents) (src : List ℕ) (d : Design) (pairs : List Pair) (stim : Stimulus) (run : List (Place → Bits)) : Type 0 where
+  pub describes : Describes top (IsProject told src) d
   pub in_range : AreInRange top.given
   pub clean : verdict d ≡ None
   pub order : TellsOrder d pairs
@@ -49,10 +50,10 @@ pub record AsksFor (heard : List Heard) (files : Contents) (names : Names) (text
   pub asks : AsksReplay heard files names 0 text
   pub only : (status : ℕ) (other : List ℕ) → AsksReplay heard files names status other → (status ≡ 0) × (other ≡ text)
 
--- so it is with the text of a session over the world of the source, of every source that is accepted as this design and every run of it
+-- so it is with the text of a session over the world of the source, of all files that are accepted as this design and every run of it
 abbrev pub AreReplayed : Design → List Pair → Mode → Stimulus → Type 0
 AreReplayed d pairs mode stim =
-    (top : Top) (source : List ℕ) (run : List (Place → Bits)) → IsDebugged top source d pairs stim run →
+    (top : Top) (told : Contents) (src : List ℕ) (run : List (Place → Bits)) → IsDebugged top told src d pairs stim run →
     (heard : List Heard) (files : Contents) (names : Names) (requests : List ℕ) → HoldPrinted files names d (length pairs) mode stim requests →
     (reader : Reader) → IsReader reader → AsksFor heard files names (batch_text reader (source_world d (length pairs) mode run) heard requests)
 

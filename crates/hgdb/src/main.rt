@@ -55,7 +55,7 @@ Usage:
 
   MODE    keep, where every name is kept, or opt, where a name that neither
           the outputs nor the conditions need is removed
-  SRC     a source file
+  SRC     a source file; the files that it imports stand beside it
   STIM    a stimulus file
   REQ     a file with a request of the debugger in each line
   TOP     the module to run
@@ -122,10 +122,10 @@ fn run_over<R: Files + Print + Eprint + AllocGlobal>(
     let mut listeners: Vec<Box<dyn Listener>> = Vec::new(alloc);
     listeners.push(Box::new(alloc, LineHits::new(alloc)?)?)?;
     listeners.push(Box::new(alloc, CycleHits::new(alloc)?)?)?;
-    let mut files = NotedFiles::new(StdFiles::new(rt));
+    let mut files = NotedFiles::new(rt.alloc(), StdFiles::new(rt));
     let mut out = KeptSink::new(StdSink::new(rt));
     let status = run(alloc, words, &mut files, &mut out, listeners).status;
-    explain(rt, words, status, files.missed(), out.front());
+    explain(rt, words, status, &files, out.front());
     Ok(status)
 }
 
@@ -148,10 +148,10 @@ where
         sets.push(set)?;
     }
     let mut door = TcpDoor::new(rt, alloc, address)?;
-    let mut files = NotedFiles::new(StdFiles::new(rt));
+    let mut files = NotedFiles::new(rt.alloc(), StdFiles::new(rt));
     let mut out = KeptSink::new(StdSink::new(rt));
     let status = serve(rt, alloc, words, &mut files, &mut out, &mut door, sets).status;
-    explain(rt, words, status, files.missed(), out.front());
+    explain(rt, words, status, &files, out.front());
     explain_address(rt, address, door.refused());
     Ok(status)
 }

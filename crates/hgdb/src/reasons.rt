@@ -4,6 +4,7 @@
 //! here, as a file that is not read again or memory that is short, is passed over, and less is said. A file is looked at again only if it is a
 //! regular one: a pipe would be waited for.
 
+use crate::noted::NotedFiles;
 use advice::{
     Advice, Assigned, Declared, Fault, advice_on, assigns, declared_as, declared_line, fault_of,
     line_at, line_of_offset, sentence_on, signs_of,
@@ -141,12 +142,17 @@ fn say_assigned<R: Eprint + AllocGlobal>(rt: &R, text: &[u8], line: u64, name: &
     };
 }
 
-/// Says the fields of a refusal but for the line, which is shown.
-fn say_fields(rt: &impl Eprint, fields: &str) {
-    let rest = match fields.strip_prefix("line ") {
+/// The fields behind this one, where they begin with it.
+fn behind<'a>(fields: &'a str, name: &str) -> &'a str {
+    match fields.strip_prefix(name) {
         Some(rest) => rest.split_once(' ').map_or("", |(_, rest)| rest),
         None => fields,
-    };
+    }
+}
+
+/// Says the fields of a refusal but for the file and the line, which are shown.
+fn say_fields(rt: &impl Eprint, fields: &str) {
+    let rest = behind(behind(fields, "file "), "line ");
     if !rest.is_empty() {
         let _ = eprintln!(rt; "  = {rest}");
     }
@@ -211,15 +217,29 @@ fn show_stimulus<R: Files + Eprint + AllocGlobal>(rt: &R, name: &str, fault: &Fa
     say_fields(rt, fault.fields);
 }
 
-/// Shows where the file that is refused is so, which the words name.
-fn show_refused<R: Files + Eprint + AllocGlobal>(rt: &R, words: &Words, fault: &Fault<'_>) {
-    let is_design = fault.kind == "design";
-    let Some(name) = word(words, if is_design { 2 } else { 3 }) else {
-        return;
-    };
-    if is_design {
-        show_design(rt, name, fault);
-    } else {
+/// The name of the file of a design that a refusal stands in: the source, or the one of this number, of those that were imported.
+fn file_of<'a>(words: &'a Words, imported: &'a [String], fault: &Fault<'_>) -> Option<&'a str> {
+    match fault.number_in("file") {
+        Some(file) => {
+            let name = imported.get((file as usize).checked_sub(1)?)?;
+            Some(name.as_str())
+        }
+        None => word(words, 2),
+    }
+}
+
+/// Shows where the file that is refused is so.
+fn show_refused<R: Files + Eprint + AllocGlobal>(
+    rt: &R,
+    words: &Words,
+    imported: &[String],
+    fault: &Fault<'_>,
+) {
+    if fault.kind == "design" {
+        if let Some(name) = file_of(words, imported, fault) {
+            show_design(rt, name, fault);
+        }
+    } else if let Some(name) = word(words, 3) {
         show_stimulus(rt, name, fault);
     }
 }
@@ -238,18 +258,28 @@ fn say_todo(rt: &impl Eprint, advice: &Advice) {
 }
 
 /// Explains a refusal of which something is known.
-fn explain_fault<R: Files + Eprint + AllocGlobal>(rt: &R, words: &Words, fault: &Fault<'_>) {
+fn explain_fault<R: Files + Eprint + AllocGlobal>(
+    rt: &R,
+    words: &Words,
+    imported: &[String],
+    fault: &Fault<'_>,
+) {
     if let Some(advice) = advice_on(fault.kind, fault.number) {
         say_refusal(rt, fault, &advice);
-        show_refused(rt, words, fault);
+        show_refused(rt, words, imported, fault);
         say_todo(rt, &advice);
     }
 }
 
 /// Explains the refusal of a source or a stimulus, whose line is the first of what was printed.
-fn explain_refusal<R: Files + Eprint + AllocGlobal>(rt: &R, words: &Words, front: &[u8]) {
+fn explain_refusal<R: Files + Eprint + AllocGlobal>(
+    rt: &R,
+    words: &Words,
+    imported: &[String],
+    front: &[u8],
+) {
     if let Some(fault) = first_line(front).and_then(|line| fault_of(line)) {
-        explain_fault(rt, words, &fault);
+        explain_fault(rt, words, imported, &fault);
     }
 }
 
@@ -277,16 +307,16 @@ pub fn explain_status(rt: &impl Eprint, status: u8) {
 
 /// Says on standard error why a run with these words ended with this status: of a file that was not read the name, of a refusal the front of
 /// what was printed.
-pub fn explain<R: Files + Eprint + AllocGlobal>(
+pub fn explain<R: Files + Eprint + AllocGlobal, F: Read>(
     rt: &R,
     words: &Words,
     status: u8,
-    missed: Option<&str>,
+    files: &NotedFiles<F>,
     front: &[u8],
 ) {
     if status == 3 || status == 4 {
-        explain_refusal(rt, words, front);
-    } else if let (7, Some(name)) = (status, missed) {
+        explain_refusal(rt, words, files.imported(), front);
+    } else if let (7, Some(name)) = (status, files.missed()) {
         explain_file(rt, name);
     } else {
         explain_status(rt, status);

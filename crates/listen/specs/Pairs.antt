@@ -25,6 +25,15 @@ one_more key (pair ∷ pairs) = if key == pair.0 then (pair.0, min (pair.1 + 1) 
 abbrev pub counted : ℕ → List (ℕ × ℕ) → List (ℕ × ℕ)
 counted key pairs = if list_any (λ pair. key == pair.0) pairs then one_more key pairs else (if nat_lt (length pairs) most_keys then pairs ++ (key, 1) ∷ [] else pairs)
 
--- what a stop makes of a listener: kind 1 counts by line, kind 2 by cycle, and for any other the pairs stay
+-- the pairs after a stop that counts where a watch matches alone
+abbrev pub counted_toggle : StopNote → List (ℕ × ℕ) → List (ℕ × ℕ)
+counted_toggle note pairs = if note.watches == 0 then pairs else counted note.slot pairs
+
+-- the pairs after a stop, by the kind: 1 counts by line, 2 by cycle, 3 by slot where a watch matches, and for any other the pairs stay
+abbrev pub counted_by : ℕ → StopNote → List (ℕ × ℕ) → List (ℕ × ℕ)
+counted_by kind note pairs =
+    if kind == 1 then counted note.line pairs else if kind == 2 then counted note.cycle pairs else if kind == 3 then counted_toggle note pairs else pairs
+
+-- what a stop makes of a listener
 abbrev pub after : StopNote → Heard → Heard
-after note heard = record { kind = heard.kind; pairs = if heard.kind == 1 then counted note.line heard.pairs else (if heard.kind == 2 then counted note.cycle heard.pairs else heard.pairs) }
+after note heard = record { kind = heard.kind; pairs = counted_by heard.kind note heard.pairs }

@@ -95,3 +95,50 @@ impl Listener for CycleHits {
         self.cycles.pair(i)
     }
 }
+
+/// Counts the stops of each slot at which a watch matches, of at most 1,024 slots. Of kind 3.
+#[derive(Drop)]
+pub struct ToggleHits {
+    slots: Tally,
+}
+
+impl Model for ToggleHits {
+    ghost use Rattle.std.specs.Prelude.{List, ℕ};
+
+    ghost Value = { List (ℕ × ℕ) };
+
+    ghost view = { λ hits. hits.slots };
+}
+
+impl ToggleHits {
+    /// No pairs. Takes the room for all of them.
+    pub fn new(alloc: Global) -> Result<ToggleHits, NoMemory>
+        ensures { IfOk result (λ hits. hits ≡ []) }
+    {
+        Ok(ToggleHits {
+            slots: Tally::new(alloc)?,
+        })
+    }
+}
+
+impl Listener for ToggleHits {
+    ghost heard = { λ hits. record { kind = 3; pairs = hits } };
+
+    fn kind(&self) -> u32 {
+        3
+    }
+
+    fn stopped(&mut self, note: &StopNote) {
+        if note.watches != 0 {
+            self.slots.count(u64::from(note.slot));
+        }
+    }
+
+    fn rows(&self) -> usize {
+        self.slots.len()
+    }
+
+    fn row(&self, i: usize) -> (u64, u64) {
+        self.slots.pair(i)
+    }
+}

@@ -8,7 +8,8 @@ pub trait Listener: Drop {
     /// Its kind and its pairs.
     ghost heard: { Self → Heard };
 
-    /// What it counts by: 1 the line, 2 the cycle. With any other kind the pairs stay.
+    /// What it counts by: 1 the line, 2 the cycle, 3 the slot, of the stops where a watch matches. With any other kind the pairs
+    /// stay.
     fn kind(&self) -> u32
         ensures { result ≡ (heard self.now).kind };
 

@@ -16,9 +16,9 @@ use Rattle.machine_core.specs.declared.reply.Body.TheVariants as body
 use Rattle.machine_core.specs.declared.turn.Motion.{Motion}
 use Rattle.machine_core.specs.declared.turn.Motion.TheVariants.{Idle, Running}
 use Rattle.machine_core.specs.Reading.{Reader, Reading, Condition, NoCondition}
-use Rattle.machine_core.specs.Matching.{Breakpoint}
+use Rattle.machine_core.specs.Matching.{Breakpoint, Watch}
 use Rattle.machine_core.specs.Arming.{instance_named}
-use Rattle.machine_core.specs.Machine.{Machine, Outcome, Refused, Accepted, accepted_unless, if_idle, if_running, armed_break, has_number, named_step, step, position_of, no_stop, if_stopped, at_stop, if_thread, at_thread, judged_value, eval, listener, drop_listener, obey, asked_outcome, asked_id, answer_by, counted, answer_of}
+use Rattle.machine_core.specs.Machine.{Machine, Outcome, Refused, Accepted, accepted_unless, if_idle, if_running, armed_break, has_number, armed_watch, is_watch, named_step, step, position_of, no_stop, if_stopped, at_stop, if_thread, at_thread, judged_value, eval, listener, drop_listener, obey, asked_outcome, asked_id, answer_by, counted, answer_of}
 use Rattle.machine_core.specs.Laws.{RefusedChangeNothing, MovesByTurnsAlone}
 
 -- what is left stands at the same place
@@ -45,6 +45,14 @@ delete_by place false o p h g = g
 -- what is left where a breakpoint is disarmed
 abbrev disarmed : Machine → ℕ → Outcome
 disarmed m bp = Accepted (record m { breakpoints = filter (λ b. not (has_number bp b)) m.breakpoints }) body.Delete
+
+watch_stands : (m : Machine) (r : Result Watch Body) → Stands m.place (accepted_unless r (armed_watch m))
+watch_stands m (Ok watch) = refl
+watch_stands m (Err refusal) = tt
+
+-- and where a watch is
+abbrev unwatched : Machine → ℕ → Outcome
+unwatched m wp = Accepted (record m { watches = filter (λ watch. not (is_watch wp watch)) m.watches }) body.Unwatch
 
 named_stands : (m : Machine) (way : Way) (granted : Body) (path : Name) (i : Option ℕ) → Stands m.place (named_step m way granted path i)
 named_stands m way granted path None = tt
@@ -83,6 +91,8 @@ drop_stands m k (Some heard) = refl
 obey_stands : (read : Reader) (w : World) (m : Machine) (c : Cmd) → Stands m.place (obey read w m c)
 obey_stands read w m (cmd.Break line path text) = break_stands m _
 obey_stands read w m (cmd.Delete bp) = delete_by m.place (list_any (has_number bp) m.breakpoints) (disarmed m bp) (Refused (body.NoBreakpoint bp)) refl tt
+obey_stands read w m (cmd.Watch line path text) = watch_stands m _
+obey_stands read w m (cmd.Unwatch wp) = delete_by m.place (list_any (is_watch wp) m.watches) (unwatched m wp) (Refused (body.NoWatch wp)) refl tt
 obey_stands read w m cmd.Continue = idle_stands m.place m.motion _ refl
 obey_stands read w m cmd.Reverse = idle_stands m.place m.motion _ refl
 obey_stands read w m (cmd.Step path) = idle_stands m.place m.motion _ (step_stands w m _ _ path)

@@ -1,5 +1,5 @@
--- When a breakpoint is armed, and why it is refused: 5, 6, then 7 to 9, then 13.
-use Rattle.std.specs.Prelude.{ℕ, ◌-◌, ◌^◌, ◌==◌, Bool, List, [], ◌∷◌, map, filter, Option, Some, None, Result, Ok, Err, slice_get, position, bytes_eq, nat_eq, nat_le, if◌then◌else◌}
+-- When a breakpoint is armed, and why it is refused: 5, 6, then 7 to 9, then 13. And when a watch is: 5, 6, then 7 to 9, then 16.
+use Rattle.std.specs.Prelude.{◌≡◌, ℕ, ◌-◌, ◌^◌, ◌==◌, Bool, true, false, List, [], ◌∷◌, map, filter, Option, Some, None, Result, Ok, Err, slice_get, position, bytes_eq, nat_eq, nat_le, if◌then◌else◌}
 use Rattle.std.specs.List.{list_any, enumerate_from, flat_map}
 use Rattle.exec_core.specs.Block.{Name}
 use Rattle.gen_tree.specs.Tree.{Expr}
@@ -10,7 +10,7 @@ use Rattle.cond_lang.specs.Judged.{Status, shown, unset, removed, Scope, Refusal
 use Rattle.machine_core.specs.declared.reply.Body.{Body}
 use Rattle.machine_core.specs.declared.reply.Body.TheVariants as body
 use Rattle.machine_core.specs.Reading.{Reader, Reading, Condition, NoCondition}
-use Rattle.machine_core.specs.Matching.{Breakpoint, is_wanted}
+use Rattle.machine_core.specs.Matching.{Breakpoint, Watch, is_wanted}
 
 -- ---- slots and instances
 
@@ -131,3 +131,86 @@ breakpoint_on read w armed next line path text = do
   named ← instance_on w all path
   condition ← condition_of read w (wanted_spots w named (slots_for w all named)) text
   unless_refused (limit_refusal armed next) (record { number = next; slots = slots_for w all named; instance = named; condition = condition })
+
+-- ---- watches
+
+-- the instance of a path, if it has one of these slots
+abbrev pub watched_instance : World → List ℕ → Name → Option ℕ → Result ℕ Body
+watched_instance w slots path None = Err (body.NoInstance path)
+watched_instance w slots path (Some i) = if has_one w slots i then Ok i else Err (body.NoInstance path)
+
+-- why an expression has no value there; it may have any width
+abbrev pub value_refusal : ℕ → Result ℕ Refusal → Option Body
+value_refusal k (Ok width) = None
+value_refusal k (Err refusal) = Some (refusal_at k refusal)
+
+abbrev pub watch_refusal : World → Expr → List ℕ → ℕ × ℕ → Option Body
+watch_refusal w e offsets spot = value_refusal spot.0 (judged (scope_at w spot.0 spot.1) e offsets)
+
+-- a text as the expression of a watch: one that has a value at each of these spots
+abbrev pub expression_at : World → List (ℕ × ℕ) → Reading → Result Expr Body
+expression_at w spots (NoCondition offset) = Err (body.BadCondAt offset)
+expression_at w spots (Condition e offsets) = unless_refused (first_of (map (watch_refusal w e offsets) spots)) e
+
+-- so many are armed at most
+abbrev pub most_watched : ℕ
+most_watched = 256
+
+-- no watch more: so many are armed, or the last number was given
+abbrev pub watch_limit : (armed next : ℕ) → Option Body
+watch_limit armed next =
+    if nat_le most_watched armed then Some (body.TooManyWatches most_watched) else if nat_le next last_number then None else Some (body.TooManyWatches most_watched)
+
+-- the watch that is armed on a line under the next number, where so many are armed; or why it is refused
+abbrev pub watch_on : Reader → World → (armed next line : ℕ) → Name → List ℕ → Result Watch Body
+watch_on read w armed next line path text = do
+  all ← some_slots line (slots_on w line)
+  i ← watched_instance w all path (instance_named w path)
+  e ← expression_at w (wanted_spots w (Some i) (slots_with w all i)) (read text)
+  unless_refused (watch_limit armed next) (record { number = next; slots = slots_with w all i; instance = i; expr = e })
+
+-- ---- what both have in common
+
+-- why an expression does not fit at a slot: it is no bit where one is wanted, as of a condition, or it has no value
+abbrev pub fit_refusal : (bit : Bool) → ℕ → Result ℕ Refusal → Option Body
+fit_refusal true k r = bit_refusal k r
+fit_refusal false k r = value_refusal k r
+
+abbrev pub fit_spot : World → (bit : Bool) → Expr → List ℕ → ℕ × ℕ → Option Body
+fit_spot w bit e offsets spot = fit_refusal bit spot.0 (judged (scope_at w spot.0 spot.1) e offsets)
+
+-- a text, if one was given, as an expression that fits at each of these spots
+abbrev pub fitting_at : World → (bit : Bool) → List (ℕ × ℕ) → Reading → Result (Option Expr) Body
+fitting_at w bit spots (NoCondition offset) = Err (body.BadCondAt offset)
+fitting_at w bit spots (Condition e offsets) = unless_refused (first_of (map (fit_spot w bit e offsets) spots)) (Some e)
+
+abbrev pub fitting_of : Reader → World → (bit : Bool) → List (ℕ × ℕ) → Option (List ℕ) → Result (Option Expr) Body
+fitting_of read w bit spots None = Ok None
+fitting_of read w bit spots (Some text) = fitting_at w bit spots (read text)
+
+-- what a line, a path and a text stand for, if these were given: slots, an instance and an expression
+pub record Sited : Type 0 where
+  pub slots : List ℕ
+  pub instance : Option ℕ
+  pub expr : Option Expr
+
+-- or why not, but for the limit
+abbrev pub sited_on : Reader → World → (bit : Bool) → (line : ℕ) → Option Name → Option (List ℕ) → Result Sited Body
+sited_on read w bit line path text = do
+  all ← some_slots line (slots_on w line)
+  named ← instance_on w all path
+  e ← fitting_of read w bit (wanted_spots w named (slots_for w all named)) text
+  Ok (record { slots = slots_for w all named; instance = named; expr = e })
+
+-- a breakpoint is armed there, under this number, where so many are armed
+abbrev pub breakpoint_at : (armed next : ℕ) → Sited → Result Breakpoint Body
+breakpoint_at armed next at = unless_refused (limit_refusal armed next) (record { number = next; slots = at.slots; instance = at.instance; condition = at.expr })
+
+-- and a watch, of this instance and this expression
+abbrev pub watch_at : (armed next : ℕ) → List ℕ → (instance : ℕ) → Expr → Result Watch Body
+watch_at armed next slots i e = unless_refused (watch_limit armed next) (record { number = next; slots = slots; instance = i; expr = e })
+
+-- what is armed as a watch where this was found; or why it is not
+pub data ArmsWatch (armed next : ℕ) (made : Result Watch Body) : Result Sited Body → Type 0 where
+  finds : (slots : List ℕ) (i : ℕ) (e : Expr) → made ≡ watch_at armed next slots i e → ArmsWatch armed next made (Ok (record { slots = slots; instance = Some i; expr = Some e }))
+  refuses : (refusal : Body) → made ≡ Err refusal → ArmsWatch armed next made (Err refusal)

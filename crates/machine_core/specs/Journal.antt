@@ -14,6 +14,7 @@ use Rattle.machine_core.specs.declared.turn.Turned.{Turned}
 use Rattle.machine_core.specs.declared.turn.Turned.TheVariants as turned
 use Rattle.machine_core.specs.Positions.{position_count}
 use Rattle.machine_core.specs.Reading.{Reader}
+use Rattle.machine_core.specs.Matching.{Watch, watches_at}
 use Rattle.machine_core.specs.Machine.{Machine, opening, turn_of, Answer, answer_of, gens_at}
 
 -- a line of the output: a reply, or a notice
@@ -21,13 +22,18 @@ pub data Line : Type 0 where
   Replied : Reply → Line
   Noticed : Notice → Line
 
--- what is told of a turn; nothing of one that only moved, or did nothing
-abbrev pub notices_of : World → Turned → List Line
-notices_of w turned.Idle = []
-notices_of w turned.Moved = []
-notices_of w (turned.Stopped note) = Noticed (notice.Stopped note (gens_at w note.slot) (map (path_in w) (w.threads note.cycle note.slot))) ∷ []
-notices_of w turned.AtEnd = Noticed notice.Ended ∷ []
-notices_of w turned.AtStart = Noticed notice.Start ∷ []
+-- the numbers of the watches of a machine that match at a slot in a cycle
+abbrev pub watch_numbers : World → Machine → (cycle slot : ℕ) → List ℕ
+watch_numbers w m t k = map (λ (watch : Watch). watch.number) (watches_at w t k m.watches)
+
+-- what is told of a turn of a machine; nothing of one that only moved, or did nothing
+abbrev pub notices_of : World → Machine → Turned → List Line
+notices_of w m turned.Idle = []
+notices_of w m turned.Moved = []
+notices_of w m (turned.Stopped note) =
+    Noticed (notice.Stopped note (gens_at w note.slot) (map (path_in w) (w.threads note.cycle note.slot)) (watch_numbers w m note.cycle note.slot)) ∷ []
+notices_of w m turned.AtEnd = Noticed notice.Ended ∷ []
+notices_of w m turned.AtStart = Noticed notice.Start ∷ []
 
 -- what is told, if there is something
 abbrev pub told_lines : Option Notice → List Line
@@ -59,7 +65,7 @@ behind lines ran = record { after = ran.after; lines = lines ++ ran.lines }
 -- so many turns
 abbrev pub turns_from : World → ℕ → Machine → Ran
 turns_from w zero m = record { after = m; lines = [] }
-turns_from w (suc n) m = behind (notices_of w (turn_of w m).turned) (turns_from w n (turn_of w m).after)
+turns_from w (suc n) m = behind (notices_of w (turn_of w m).after (turn_of w m).turned) (turns_from w n (turn_of w m).after)
 
 -- what is done with a session: it is asked, or makes so many turns
 pub data Entry : Type 0 where

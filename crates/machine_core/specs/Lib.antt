@@ -1,6 +1,7 @@
 pub mod Positions
 pub mod Reading
 pub mod Matching
+pub mod Search
 pub mod Arming
 pub mod Machine
 pub mod Journal
@@ -8,3 +9,4 @@ pub mod Numbers
 pub mod Sample
 pub mod Laws
 pub mod SampleBatch
+pub mod SampleWatch

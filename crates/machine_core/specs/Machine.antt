@@ -1,5 +1,5 @@
 -- The machine of a debugger over a world: its state, its turns, and its answers to requests.
-use Rattle.std.specs.Prelude.{ℕ, zero, suc, ◌+◌, ◌-◌, ◌^◌, ◌==◌, not, min, Bool, true, false, List, [], ◌∷◌, ◌++◌, length, map, filter, Option, Some, None, Result, Ok, Err, find, take, option_map, is_some, slice_get, slice_index_or, set, nat_eq, nat_lt, unwrap_or, if◌then◌else◌}
+use Rattle.std.specs.Prelude.{ℕ, zero, suc, ◌+◌, ◌-◌, ◌^◌, ◌==◌, not, min, Bool, true, false, List, [], ◌∷◌, ◌++◌, length, map, filter, Option, Some, None, Result, Ok, Err, option_map, is_some, slice_get, slice_index_or, set, nat_eq, nat_lt, unwrap_or, if◌then◌else◌}
 use Rattle.std.specs.List.{list_any, enumerate_from}
 use Rattle.bv_core.specs.Value.{Bits}
 use Rattle.bv_core.specs.declared.reference.Sample.{Sample}
@@ -33,22 +33,30 @@ use Rattle.machine_core.specs.declared.turn.Turned.{Turned}
 use Rattle.machine_core.specs.declared.turn.Turned.TheVariants as turned
 use Rattle.machine_core.specs.Positions.{position_count, cycle_at, slot_at, end_place, at_place, ahead, reach}
 use Rattle.machine_core.specs.Reading.{Reader, Reading, Condition, NoCondition}
-use Rattle.machine_core.specs.Matching.{Breakpoint, value_there, matches}
-use Rattle.machine_core.specs.Arming.{instance_named, breakpoint_on, scope_at, refusal_at}
+use Rattle.machine_core.specs.Matching.{Breakpoint, Watch, Awaited, value_there, matches, watches_at}
+use Rattle.machine_core.specs.Search.{nearest_that}
+use Rattle.machine_core.specs.Arming.{instance_named, breakpoint_on, watch_on, scope_at, refusal_at}
 
--- the state: the place where it stands, whether it runs, the breakpoints that are armed, the next number of a breakpoint, how many
--- requests there were, and what its listeners mean; one that was dropped means nothing
+-- the state: the place where it stands, whether it runs, the breakpoints that are armed, the next number of a breakpoint, the watches
+-- that are armed, the next number of a watch, how many requests there were, and what its listeners mean; one that was dropped means
+-- nothing
 pub record Machine : Type 0 where
   pub place : ℕ
   pub motion : Motion
   pub breakpoints : List Breakpoint
   pub next : ℕ
+  pub watches : List Watch
+  pub next_watch : ℕ
   pub ordinal : ℕ
   pub heard : List (Option Heard)
 
--- at the start, idle, with no breakpoint and these listeners
+-- at the start, idle, with no breakpoint, no watch and these listeners
 abbrev pub opening : List Heard → Machine
-opening heard = record { place = 0; motion = Idle; breakpoints = []; next = 1; ordinal = 0; heard = map (λ h. Some h) heard }
+opening heard = record { place = 0; motion = Idle; breakpoints = []; next = 1; watches = []; next_watch = 1; ordinal = 0; heard = map (λ h. Some h) heard }
+
+-- what it stops for where it runs
+abbrev pub awaited_by : Machine → Awaited
+awaited_by m = record { breakpoints = m.breakpoints; watches = m.watches }
 
 -- ---- turns
 
@@ -63,14 +71,20 @@ line_at w k = unwrap_or (option_map (λ (s : Shows). s.line) (slice_get w.slots 
 abbrev pub threads_at : World → ℕ → List ℕ
 threads_at w p = w.threads (cycle_at w p) (slot_at w p)
 
-abbrev pub note_at : World → ℕ → StopNote
-note_at w p = record { cycle = cycle_at w p; slot = slot_at w p; line = line_at w (slot_at w p); threads = length (threads_at w p) }
+abbrev pub note_at : World → List Watch → ℕ → StopNote
+note_at w watches p = record {
+  cycle = cycle_at w p;
+  slot = slot_at w p;
+  line = line_at w (slot_at w p);
+  threads = length (threads_at w p);
+  watches = length (watches_at w (cycle_at w p) (slot_at w p) watches);
+}
 
 -- a stop tells every listener that was not dropped
 abbrev pub stopped_at : World → Machine → ℕ → Turn
 stopped_at w m p = record {
-  after = record m { place = p + 1; motion = Idle; heard = map (option_map (after (note_at w p))) m.heard };
-  turned = turned.Stopped (note_at w p);
+  after = record m { place = p + 1; motion = Idle; heard = map (option_map (after (note_at w m.watches p))) m.heard };
+  turned = turned.Stopped (note_at w m.watches p);
 }
 
 -- the end or the start
@@ -90,7 +104,7 @@ turn_to w way m positions None = if nat_lt (length positions) reach then edge_tu
 
 abbrev pub running_turn : World → Machine → Way → Want → Turn
 running_turn w m way want =
-    turn_to w way m (ahead (position_count w) way m.place) (find (matches w m.breakpoints want) (take reach (ahead (position_count w) way m.place)))
+    turn_to w way m (ahead (position_count w) way m.place) (nearest_that (matches w (awaited_by m) want) (position_count w) way m.place)
 
 -- one turn: none of an idle machine
 abbrev pub turn_by : World → Machine → Motion → Turn
@@ -147,6 +161,19 @@ abbrev pub delete : Machine → ℕ → Outcome
 delete m bp =
     if list_any (has_number bp) m.breakpoints then Accepted (record m { breakpoints = filter (λ b. not (has_number bp b)) m.breakpoints }) body.Delete
     else Refused (body.NoBreakpoint bp)
+
+-- ---- watches
+
+abbrev pub armed_watch : Machine → Watch → Outcome
+armed_watch m watch = Accepted (record m { watches = m.watches ++ watch ∷ []; next_watch = m.next_watch + 1 }) (body.Watch watch.slots watch.number)
+
+abbrev pub is_watch : ℕ → Watch → Bool
+is_watch wp watch = watch.number == wp
+
+abbrev pub unwatch : Machine → ℕ → Outcome
+unwatch m wp =
+    if list_any (is_watch wp) m.watches then Accepted (record m { watches = filter (λ watch. not (is_watch wp watch)) m.watches }) body.Unwatch
+    else Refused (body.NoWatch wp)
 
 -- ---- steps
 
@@ -250,6 +277,8 @@ remaining heard = map (λ h. h.0) (filter (λ h. is_some h.1) (enumerate_from 0 
 abbrev pub obey : Reader → World → Machine → Cmd → Outcome
 obey read w m (cmd.Break line path text) = accepted_unless (breakpoint_on read w (length m.breakpoints) m.next line path text) (armed_break m)
 obey read w m (cmd.Delete bp) = delete m bp
+obey read w m (cmd.Watch line path text) = accepted_unless (watch_on read w (length m.watches) m.next_watch line path text) (armed_watch m)
+obey read w m (cmd.Unwatch wp) = unwatch m wp
 obey read w m cmd.Continue = if_idle m.motion (Accepted (record m { motion = Running Forward Breakpoints }) body.Continue)
 obey read w m cmd.Reverse = if_idle m.motion (Accepted (record m { motion = Running Backward Breakpoints }) body.Reverse)
 obey read w m (cmd.Step path) = if_idle m.motion (step w m Forward body.Step path)

@@ -1,7 +1,7 @@
 -- A world of three instances, two slots and three cycles, and a session over it, worked by hand. The top `T` has slot 1 in every
 -- cycle. Its children `T.a` and `T.b` have slot 0: the one in every cycle, the other in cycle 1 alone. The name `x` shows 7, then
 -- what is not known, then 9.
-use Rattle.std.specs.Prelude.{◌≡◌, ℕ, List, [], ◌∷◌, ◌==◌, Some, None, codes, if◌then◌else◌}
+use Rattle.std.specs.Prelude.{◌≡◌, ℕ, List, [], ◌∷◌, ◌==◌, length, Some, None, codes, if◌then◌else◌}
 use Rattle.gen_tree.specs.declared.Op.TheVariants as op
 use Rattle.gen_tree.specs.Tree.{Expr, plain, read, value, binary}
 use Rattle.listen.specs.Pairs.{Heard}
@@ -56,9 +56,13 @@ asks cmd = Ask (Good (record { id = None; cmd = cmd }))
 abbrev pub reply : ℕ → Body → Line
 reply seq body = Replied (record { seq = seq; id = None; body = body })
 
-abbrev pub stopped : (cycle slot line threads : ℕ) → List (List ℕ) → Line
-stopped cycle slot line threads paths =
-    Noticed (notice.Stopped (record { cycle = cycle; slot = slot; line = line; threads = threads }) [] paths)
+-- a stop where these watches match
+abbrev pub changed : (cycle slot line : ℕ) → List (List ℕ) → List ℕ → Line
+changed cycle slot line paths watches =
+    Noticed (notice.Stopped (record { cycle = cycle; slot = slot; line = line; threads = length paths; watches = length watches }) [] paths watches)
+
+abbrev pub stopped : (cycle slot line : ℕ) → List (List ℕ) → Line
+stopped cycle slot line paths = changed cycle slot line paths []
 
 -- the stops of lines, counted by a listener of kind 1
 abbrev pub listeners_f : List Heard
@@ -81,17 +85,17 @@ abbrev pub output_f : List Line
 output_f =
     reply 1 (body.Break 1 (0 ∷ []))
     ∷ reply 2 body.Continue
-    ∷ stopped 2 0 4 1 (codes "T.a" ∷ [])
+    ∷ stopped 2 0 4 (codes "T.a" ∷ [])
     ∷ reply 3 body.Reverse
     ∷ Noticed notice.Start
     ∷ reply 4 body.Step
-    ∷ stopped 1 0 4 2 (codes "T.a" ∷ codes "T.b" ∷ [])
+    ∷ stopped 1 0 4 (codes "T.a" ∷ codes "T.b" ∷ [])
     ∷ reply 5 (body.Values ((codes "x", shown.Unknown) ∷ []))
     ∷ reply 6 (body.NoInstance (codes "T"))
     ∷ reply 7 (body.BadCondName (codes "x"))
     ∷ reply 8 (body.Break 2 (1 ∷ []))
     ∷ reply 9 body.Reverse
-    ∷ stopped 0 1 9 1 (codes "T" ∷ [])
+    ∷ stopped 0 1 9 (codes "T" ∷ [])
     ∷ Noticed (notice.Rows 0 ((4, 2) ∷ (9, 1) ∷ []))
     ∷ []
 

@@ -93,7 +93,7 @@ batch_a =
     ∷ []
 
 abbrev in_a : (cycle slot line : ℕ) → Line
-in_a cycle slot line = stopped cycle slot line 1 (codes "A" ∷ [])
+in_a cycle slot line = stopped cycle slot line (codes "A" ∷ [])
 
 abbrev of_width : ℕ → ℕ → Shown
 of_width width value = shown.Value (record { width = width; value = value })

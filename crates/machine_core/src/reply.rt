@@ -41,7 +41,7 @@ pub struct Reply {
     pub body: Body,
 }
 
-/// What is answered: the first thirteen to what was accepted, the others to what was refused.
+/// What is answered: the first fifteen to what was accepted, the others to what was refused.
 #[derive(Drop)]
 pub enum Body {
     /// A breakpoint is armed under this number, at these slots, rising.
@@ -50,6 +50,12 @@ pub enum Body {
         slots: Listed<u32>,
     },
     Delete,
+    /// A watch is armed under this number, at these slots, rising.
+    Watch {
+        slots: Listed<u32>,
+        wp: u64,
+    },
+    Unwatch,
     Continue,
     Reverse,
     Step,
@@ -141,5 +147,13 @@ pub enum Body {
     /// 15: no listener has this number, or it was dropped.
     NoListener {
         k: u64,
+    },
+    /// 16: so many watches are armed already, or the last number was given.
+    TooManyWatches {
+        limit: u64,
+    },
+    /// 17: no armed watch has this number.
+    NoWatch {
+        wp: u64,
     },
 }

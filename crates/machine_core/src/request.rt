@@ -23,7 +23,18 @@ pub enum Cmd {
     Delete {
         bp: u64,
     },
-    /// Runs forwards to a position where a breakpoint matches.
+    /// Arms a watch on a line of the source, from 1, in an instance of this path: it matches where the value of an expression
+    /// differs from that in the cycle before.
+    Watch {
+        line: u64,
+        instance: Utf8,
+        expr: Utf8,
+    },
+    /// Disarms the watch of this number.
+    Unwatch {
+        wp: u64,
+    },
+    /// Runs forwards to a position where a breakpoint or a watch matches.
     Continue,
     /// Runs backwards to one.
     Reverse,

@@ -29,11 +29,12 @@ pub enum Turned {
 /// What is told to a client without being asked.
 #[derive(Drop)]
 pub enum Notice {
-    /// A stop, with the generator variables at its statement and the paths of its threads.
+    /// A stop, with the generator variables at its statement, the paths of its threads, and the numbers of the watches that match there.
     Stopped {
         note: StopNote,
         gens: Listed<(Text, i64)>,
         paths: Listed<Text>,
+        watches: Listed<u64>,
     },
     /// It stands at the end.
     Ended,

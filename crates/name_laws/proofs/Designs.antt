@@ -2,7 +2,7 @@
 use Rattle.std.proofs.Common.{◌≡◌, ℕ, zero, suc, ◌+◌, true, false, List, [], ◌∷◌, ◌++◌, map, length, Result, Ok, Err, IsUtf8, if◌then◌else◌, nat_lt, refl, sym, ap₂, subst}
 use Rattle.std.specs.List.{enumerate_from, flat_map}
 use Rattle.std.proofs.lemmas.Str.{IsUtf8-nil}
-use Rattle.gen_tree.specs.Tree.{Module}
+use Rattle.gen_tree.specs.Tree.{Module, all_modules}
 use Rattle.exec_core.specs.Block.{Name}
 use Rattle.list_core.specs.Lists.{EachOf}
 use Rattle.design_core.specs.declared.Instance.{Instance as Placed}
@@ -17,7 +17,7 @@ use Rattle.elab_core.specs.Design.{size, stmt_size, numbered, numbered_stmt, num
 use Rattle.elab_laws.proofs.Fine.{both_each}
 use Rattle.name_laws.specs.Texts.{VariantHasTexts, HasTexts, NamesAreTexts}
 use Rattle.name_laws.proofs.Source.{ModuleNamed}
-use Rattle.name_laws.proofs.Spelled.{read_named}
+use Rattle.name_laws.proofs.Spelled.{files_named}
 use Rattle.name_laws.proofs.Bodies.{HeadNamed}
 use Rattle.name_laws.proofs.Walks.{SignalNamed, BlockNamed, InstanceNamed, OnResult, top_named, judged}
 
@@ -143,6 +143,7 @@ given_named modules top (Ok p) all h =
 given_named modules top (Err fault) all h = tt
 
 pub names_are_texts : NamesAreTexts
-names_are_texts modules top rest d text read fine e =
-    let all = read_named text modules read in
+names_are_texts sources top rest d read fine e =
+    let modules = all_modules sources in
+    let all = files_named 0 sources read in
     subst OnDesign e (given_named modules top (judge none_seen (top_walk modules top rest)) all (judged (EachOf InstanceNamed) none_seen (top_walk modules top rest) (top_named modules top rest all fine)))

@@ -1,5 +1,5 @@
 -- The names of a source that was read from a text are texts: a name of a text has letters, digits and _ alone.
-use Rattle.std.proofs.Common.{◌≡◌, ℕ, zero, suc, ◌<◌, ◌&&◌, Bool, true, false, List, [], ◌∷◌, Option, Some, None, IsSomeAnd, IsUtf8, refl, subst, arith}
+use Rattle.std.proofs.Common.{◌≡◌, ℕ, zero, suc, ◌+◌, ◌<◌, ◌&&◌, Bool, true, false, List, [], ◌∷◌, Option, Some, None, IsSomeAnd, IsUtf8, refl, subst, arith}
 use Rattle.std.specs.List.{list_all}
 use Rattle.std.specs.Str.{IsAscii}
 use Rattle.std.proofs.lemmas.Bool.Decides.{nat_tests}
@@ -15,10 +15,13 @@ use Rattle.gen_token.specs.Spelling as spelling
 use Rattle.gen_token.specs.Tokens.{skip, token_at, TokensFrom}
 use Rattle.gen_token.specs.Words.{Word, Name, Number, Literal, Reserved, Sign, Tok}
 use Rattle.gen_token.proofs.ReadToken.{exact}
+use Rattle.places.specs.Places.{place}
 use Rattle.gen_text.specs.Source.{Reads}
+use Rattle.elab_laws.specs.Laws.{AreReadFrom}
+use Rattle.elab_laws.proofs.Fine.{both_each}
 use Rattle.gen_tree.specs.declared.Dialect.TheVariants as dialect
-use Rattle.gen_tree.specs.Grammar.{Span, ◌⨾◌, Single, Key, Sym, Each, Braces, int_op_mark, cmp_mark, SourceInt, SourceFam, SourceExpr, SpellsIndex, SpellsLit, un_op_word, op_mark, SpellsTwo, SpellsPrim, SpellsTurns, SpellsGiven, SpellsParam, SpellsMoreParams, SpellsParams, assign_mark, SpellsPart, SpellsTests, SpellsStmt, SpellsStmts, SpellsElse, SpellsDefault, SpellsArms, SpellsSomeArms, SpellsConn, SpellsItem, SpellsItems, SpellsElseItems, direction, SpellsPort, SpellsModule, Spells}
-use Rattle.gen_tree.specs.Tree.{Int, num, var, bin, Fam, Lit, plain, bits, Expr, read, out, value, unary, binary, mux, zext, slice, Stmt, assign, bind, choose, select, repeat, given, Stmts, no_stmt, stmt, Else, no_else, otherwise, Arms, no_arm, arm, Param, Conn, Item, wire, reg, inst, comb, ff, repeat_items, given_items, Items, no_item, item, ElseItems, no_else_items, otherwise_items, Port, Module}
+use Rattle.gen_tree.specs.Grammar.{Span, ◌⨾◌, Single, Key, Sym, Each, Braces, int_op_mark, cmp_mark, SourceInt, SourceFam, SourceExpr, SpellsIndex, SpellsLit, un_op_word, op_mark, SpellsTwo, SpellsPrim, SpellsTurns, SpellsGiven, SpellsParam, SpellsMoreParams, SpellsParams, assign_mark, SpellsPart, SpellsTests, SpellsStmt, SpellsStmts, SpellsElse, SpellsDefault, SpellsArms, SpellsSomeArms, SpellsConn, SpellsItem, SpellsItems, SpellsElseItems, direction, SpellsPort, SpellsModule, SpellsModules, SpellsImport}
+use Rattle.gen_tree.specs.Tree.{Int, num, var, bin, Fam, Lit, plain, bits, Expr, read, out, value, unary, binary, mux, zext, slice, Stmt, assign, bind, choose, select, repeat, given, Stmts, no_stmt, stmt, Else, no_else, otherwise, Arms, no_arm, arm, Param, Conn, Item, wire, reg, inst, comb, ff, repeat_items, given_items, Items, no_item, item, ElseItems, no_else_items, otherwise_items, Port, Module, Import, Source, all_modules}
 use Rattle.gen_tree.specs.declared.Cmp.{Cmp}
 use Rattle.name_laws.proofs.Source.{StmtNamed, StmtsNamed, ElseNamed, ArmsNamed, ItemNamed, ItemsNamed, ElseItemsNamed, ParamNamed, PortNamed, ModuleNamed}
 
@@ -244,10 +247,22 @@ one_module m ts rest h w =
     giving (λ x. record { name = x.1.0; params = x.1.1.0; ports = x.1.1.1.1.0; items = x.1.1.1.1.1.0 })
     (key keyword.Module ▷ single (Name m.name) ▷ params m.params ▷ sign mark.LeftBrace ▷ each SpellsPort PortNamed port m.ports ▷ all_items m.items ▷ sign mark.RightBrace) ts rest h.1 w
 
-all_modules : (ms : List Module) (ts : List Tok) → Spells ms ts → Named ts → EachOf ModuleNamed ms
-all_modules [] ts h w = absurd h
-all_modules (m ∷ ms) ts h w = (each SpellsModule ModuleNamed one_module (m ∷ ms) ts [] h w).0
+modules_named : (ms : List Module) (ts : List Tok) → SpellsModules ms ts → Named ts → EachOf ModuleNamed ms
+modules_named [] ts h w = absurd h
+modules_named (m ∷ ms) ts h w = (each SpellsModule ModuleNamed one_module (m ∷ ms) ts [] h w).0
 
--- the modules of a text that was read
-pub read_named : (text : List ℕ) (modules : List Module) → Reads text modules → EachOf ModuleNamed modules
-read_named text modules r = all_modules modules r.tokens r.spelled (words_named (skip false 1 text) r.tokens None r.are)
+one_import : (i : Import) → Gives (SpellsImport i) (IsUtf8 i.name)
+one_import i ts rest h w = giving (λ x. x.1.0) (key keyword.Import ▷ single (Name i.name) ▷ sign mark.Semicolon) ts rest h.1 w
+
+-- the modules of a text that was read in a file
+read_named : (file : ℕ) (text : List ℕ) (source : Source) → Reads file text source → EachOf ModuleNamed source.modules
+read_named file text source r =
+    let s = r.spelled in
+    let behind = each SpellsImport (λ i. IsUtf8 i.name) one_import source.imports r.tokens s.0 s.1 (words_named (skip false (place file 1) text) r.tokens None r.are) in
+    modules_named source.modules s.0 s.2 behind.1
+
+-- the modules of files from a number on
+pub files_named : (file : ℕ) (sources : List Source) → AreReadFrom file sources → EachOf ModuleNamed (all_modules sources)
+files_named file [] texts = tt
+files_named file (s ∷ sources) texts =
+    both_each ModuleNamed s.modules (all_modules sources) (read_named file texts.0.0 s texts.0.1) (files_named (file + 1) sources texts.1)

@@ -1,12 +1,12 @@
 -- The names of an elaborated design, as texts.
-use Rattle.std.specs.Prelude.{◌≡◌, List, ℕ, Ok, IsUtf8}
-use Rattle.gen_text.specs.Source.{Reads}
-use Rattle.gen_tree.specs.Tree.{Module}
+use Rattle.std.specs.Prelude.{◌≡◌, List, Ok, IsUtf8}
+use Rattle.gen_tree.specs.Tree.{Source}
+use Rattle.elab_laws.specs.Laws.{AreReadFrom}
 use Rattle.exec_core.specs.Block.{Name}
 use Rattle.list_core.specs.Lists.{EachOf}
 use Rattle.design_core.specs.Design.{Gens, AreInRange, Variant, Design}
 use Rattle.design_core.specs.Slots.{variant_heads, scope}
-use Rattle.elab_core.specs.Design.{elaborated}
+use Rattle.elab_core.specs.Design.{elaborated_files}
 
 -- the names of parameters or generator variables are UTF-8
 abbrev pub GensAreTexts : Gens → Type 0
@@ -25,8 +25,8 @@ pub record HasTexts (d : Design) : Type 0 where
   pub variants : EachOf VariantHasTexts d.variants
   pub paths : EachOf (λ r. IsUtf8 r.path) d.instances
 
--- so it is of each design that elaboration gives, where the source was read from a text and the parameters of the top are from
+-- so it is of each design that elaboration gives, where the sources were read from texts and the parameters of the top are from
 -- -2^62 to 2^62
 abbrev pub NamesAreTexts : Type 0
 NamesAreTexts =
-    (modules : List Module) (top : Name) (rest : Gens) (d : Design) (text : List ℕ) → Reads text modules → AreInRange rest → elaborated modules top rest ≡ Ok d → HasTexts d
+    (sources : List Source) (top : Name) (rest : Gens) (d : Design) → AreReadFrom 0 sources → AreInRange rest → elaborated_files sources top rest ≡ Ok d → HasTexts d

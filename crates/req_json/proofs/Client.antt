@@ -28,7 +28,7 @@ use Rattle.req_json.specs.Values.{at_json, counts_json, gens_json, going_json, n
 use Rattle.req_json.specs.Replies.{body_members, reply_json, with_id}
 use Rattle.req_json.specs.ReadBack.{VariablesFit, BodyIsText, IsNamedValue, IsSampleValue, IsShownValue, VariableFits, ReplyIsText}
 use Rattle.req_json.specs.Fields.{optional}
-use Rattle.req_json.specs.Client.{RepliesAreTold, TextsTellApart, heard_body, heard_reply, if_word, made_break, made_reply, made_status, made_threads, told_body, told_counts, told_going, told_integer, told_names, told_pair, told_place, told_reply, told_rows, told_sample, told_shown, told_values, told_variables}
+use Rattle.req_json.specs.Client.{RepliesAreTold, TextsTellApart, heard_body, heard_reply, if_word, made_break, made_reply, made_watch, made_status, made_threads, told_body, told_counts, told_going, told_integer, told_names, told_pair, told_place, told_reply, told_rows, told_sample, told_shown, told_values, told_variables}
 use Rattle.req_json.proofs.ReadBack.{replies_read_back}
 
 -- ---- values
@@ -101,6 +101,7 @@ status_told a bps listeners mode =
 body_at : (seq : ℕ) (id : Option ℕ) (b : Body) → BodyIsText b → told_body (object (with_member (codes "seq") (count_json seq) (with_id id (body_members b)))) ≡ Some (heard_body b)
 unfolding with_member
 body_at seq None body.Delete h = refl
+body_at seq None body.Unwatch h = refl
 body_at seq None body.Continue h = refl
 body_at seq None body.Reverse h = refl
 body_at seq None body.Step h = refl
@@ -120,7 +121,10 @@ body_at seq None (body.CondUnset name slot) h = refl
 body_at seq None (body.TooMany limit) h = refl
 body_at seq None (body.NoBreakpoint bp) h = refl
 body_at seq None (body.NoListener k) h = refl
+body_at seq None (body.TooManyWatches limit) h = refl
+body_at seq None (body.NoWatch wp) h = refl
 body_at seq None (body.Break bp slots) h = ap (made_break (Some bp)) (counts_told slots)
+body_at seq None (body.Watch slots wp) h = ap (λ o. made_watch o (Some wp)) (counts_told slots)
 body_at seq None (body.Pause at) h = ap (option_map body.Pause) (place_told at)
 body_at seq None (body.NoStop at) h = ap (option_map body.NoStop) (place_told at)
 body_at seq None (body.Busy mode) h = ap (option_map body.Busy) (going_told mode)
@@ -130,6 +134,7 @@ body_at seq None (body.Drop rows) h = ap (option_map body.Drop) (rows_told rows)
 body_at seq None (body.Threads at gens line threads) h = threads_told at gens line threads h.0.1
 body_at seq None (body.Status at bps listeners mode) h = status_told at bps listeners mode
 body_at seq (Some id) body.Delete h = refl
+body_at seq (Some id) body.Unwatch h = refl
 body_at seq (Some id) body.Continue h = refl
 body_at seq (Some id) body.Reverse h = refl
 body_at seq (Some id) body.Step h = refl
@@ -149,7 +154,10 @@ body_at seq (Some id) (body.CondUnset name slot) h = refl
 body_at seq (Some id) (body.TooMany limit) h = refl
 body_at seq (Some id) (body.NoBreakpoint bp) h = refl
 body_at seq (Some id) (body.NoListener k) h = refl
+body_at seq (Some id) (body.TooManyWatches limit) h = refl
+body_at seq (Some id) (body.NoWatch wp) h = refl
 body_at seq (Some id) (body.Break bp slots) h = ap (made_break (Some bp)) (counts_told slots)
+body_at seq (Some id) (body.Watch slots wp) h = ap (λ o. made_watch o (Some wp)) (counts_told slots)
 body_at seq (Some id) (body.Pause at) h = ap (option_map body.Pause) (place_told at)
 body_at seq (Some id) (body.NoStop at) h = ap (option_map body.NoStop) (place_told at)
 body_at seq (Some id) (body.Busy mode) h = ap (option_map body.Busy) (going_told mode)
@@ -162,6 +170,8 @@ body_at seq (Some id) (body.Status at bps listeners mode) h = status_told at bps
 no_id : (b : Body) → get (codes "id") (object (body_members b)) ≡ None
 unfolding with_member
 no_id body.Delete = refl
+no_id body.Unwatch = refl
+no_id (body.Watch slots wp) = refl
 no_id body.Continue = refl
 no_id body.Reverse = refl
 no_id body.Step = refl
@@ -181,6 +191,8 @@ no_id (body.CondUnset name slot) = refl
 no_id (body.TooMany limit) = refl
 no_id (body.NoBreakpoint bp) = refl
 no_id (body.NoListener k) = refl
+no_id (body.TooManyWatches limit) = refl
+no_id (body.NoWatch wp) = refl
 no_id (body.Break bp slots) = refl
 no_id (body.Pause at) = refl
 no_id (body.NoStop at) = refl

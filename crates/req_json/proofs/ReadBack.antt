@@ -1,5 +1,5 @@
 -- Replies and notices are read back.
-use Rattle.std.proofs.Common.{◌≡◌, ℕ, ◌<◌, ◌^◌, ℤ, Bool, true, false, List, codes, Option, Some, None, IfSome, IsUtf8, refl, arith}
+use Rattle.std.proofs.Common.{◌≡◌, ℕ, ◌<◌, ◌^◌, ℤ, Bool, true, false, List, [], ◌∷◌, codes, Option, Some, None, IfSome, IsUtf8, refl, arith}
 use Rattle.json.proofs.Printed.Utf8.{IsUtf8-are_ascii, are_ascii}
 use Rattle.bv_core.specs.declared.reference.Sample.{Sample}
 use Rattle.bv_core.specs.declared.reference.Sample.TheVariants as sample
@@ -20,7 +20,7 @@ use Rattle.symtab_json.proofs.Rounds.{Round, round_count, round_integer, round_p
 use Rattle.req_json.specs.Objects.{two_members, with_member}
 use Rattle.req_json.specs.Values.{at_json, counts_json, gens_json, going_json, named_json, names_json, position_members, row_pair_json, rows_json, sample_json, shown_json, values_json, variable_json}
 use Rattle.req_json.specs.Replies.{body_members, with_mark, own_members, body_refusal, reply_members, with_id}
-use Rattle.req_json.specs.Notices.{notice_members, notice_word, told_members}
+use Rattle.req_json.specs.Notices.{notice_members, notice_word, told_members, with_watches}
 use Rattle.req_json.specs.ReadBack.{AreCounts, AreNames, RowPairsFit, VariablesFit, BodyIsText, IsCount, IsNamedValue, AtFits, RowPairFits, IsSampleValue, IsShownValue, VariableFits, NoticeIsText, NoticesReadBack, RepliesReadBack, ReplyIsText}
 use Rattle.req_json.proofs.Round.{AllRound, all_one, all_two, all_with, bits_round, each_round, object_round, put_all, text_back, word_round}
 
@@ -82,6 +82,8 @@ boolean_round false = record { back = refl; numbers = tt; utf8 = IsUtf8-are_asci
 own_round : (b : Body) → BodyIsText b → AllRound 3 (own_members b)
 own_round (body.Break bp slots) h = all_two 3 (codes "bp") (count_json bp) (codes "slots") (counts_json slots) refl (round_count 3 bp h.0) refl (counts_round slots h.1)
 own_round body.Delete h = tt
+own_round (body.Watch slots wp) h = all_two 3 (codes "slots") (counts_json slots) (codes "wp") (count_json wp) refl (counts_round slots h.0) refl (round_count 3 wp h.1)
+own_round body.Unwatch h = tt
 own_round body.Continue h = tt
 own_round body.Reverse h = tt
 own_round body.Step h = tt
@@ -117,14 +119,18 @@ own_round (body.NoStop at) h = all_one 3 (codes "at") (at_json at) refl (at_roun
 own_round (body.TooMany limit) h = all_one 3 (codes "limit") (count_json limit) refl (round_count 3 limit h)
 own_round (body.NoBreakpoint bp) h = all_one 3 (codes "bp") (count_json bp) refl (round_count 3 bp h)
 own_round (body.NoListener k) h = all_one 3 (codes "k") (count_json k) refl (round_count 3 k h)
+own_round (body.TooManyWatches limit) h = all_one 3 (codes "limit") (count_json limit) refl (round_count 3 limit h)
+own_round (body.NoWatch wp) h = all_one 3 (codes "wp") (count_json wp) refl (round_count 3 wp h)
 
 -- the code and the name of a refusal
 abbrev RefusalIsText : Option (ℕ × List ℕ) → Type 0
-RefusalIsText refusal = IfSome refusal (λ r. (r.0 < 16) × (are_ascii r.1 ≡ true))
+RefusalIsText refusal = IfSome refusal (λ r. (r.0 < 18) × (are_ascii r.1 ≡ true))
 
 refusal_text : (b : Body) → RefusalIsText (body_refusal b)
 refusal_text (body.Break bp slots) = tt
 refusal_text body.Delete = tt
+refusal_text (body.Watch slots wp) = tt
+refusal_text body.Unwatch = tt
 refusal_text body.Continue = tt
 refusal_text body.Reverse = tt
 refusal_text body.Step = tt
@@ -152,6 +158,8 @@ refusal_text (body.NoStop at) = (omega arith, refl)
 refusal_text (body.TooMany limit) = (omega arith, refl)
 refusal_text (body.NoBreakpoint bp) = (omega arith, refl)
 refusal_text (body.NoListener k) = (omega arith, refl)
+refusal_text (body.TooManyWatches limit) = (omega arith, refl)
+refusal_text (body.NoWatch wp) = (omega arith, refl)
 
 marked_round : (refusal : Option (ℕ × List ℕ)) (ms : Members) → RefusalIsText refusal → AllRound 3 ms → AllRound 3 (with_mark refusal ms)
 marked_round None ms r h = all_with 3 (codes "ok") (boolean true) ms refl (boolean_round true) h
@@ -178,6 +186,8 @@ again_at : (seq : ℕ) (id : Option ℕ) (b : Body) →
 unfolding with_member
 again_at seq None (body.Break bp slots) = refl
 again_at seq None body.Delete = refl
+again_at seq None (body.Watch slots wp) = refl
+again_at seq None body.Unwatch = refl
 again_at seq None body.Continue = refl
 again_at seq None body.Reverse = refl
 again_at seq None body.Step = refl
@@ -205,8 +215,12 @@ again_at seq None (body.NoStop at) = refl
 again_at seq None (body.TooMany limit) = refl
 again_at seq None (body.NoBreakpoint bp) = refl
 again_at seq None (body.NoListener k) = refl
+again_at seq None (body.TooManyWatches limit) = refl
+again_at seq None (body.NoWatch wp) = refl
 again_at seq (Some id) (body.Break bp slots) = refl
 again_at seq (Some id) body.Delete = refl
+again_at seq (Some id) (body.Watch slots wp) = refl
+again_at seq (Some id) body.Unwatch = refl
 again_at seq (Some id) body.Continue = refl
 again_at seq (Some id) body.Reverse = refl
 again_at seq (Some id) body.Step = refl
@@ -234,26 +248,33 @@ again_at seq (Some id) (body.NoStop at) = refl
 again_at seq (Some id) (body.TooMany limit) = refl
 again_at seq (Some id) (body.NoBreakpoint bp) = refl
 again_at seq (Some id) (body.NoListener k) = refl
+again_at seq (Some id) (body.TooManyWatches limit) = refl
+again_at seq (Some id) (body.NoWatch wp) = refl
 
 pub replies_read_back : RepliesReadBack
 replies_read_back r h = text_back (reply_members r) (again_at r.seq r.id r.body) (reply_round r h)
 
 -- ---- notices
 
+watched_round : (watches : List ℕ) (ms : Members) → AreCounts watches → AllRound 3 ms → AllRound 3 (with_watches watches ms)
+watched_round [] ms w h = h
+watched_round (wp ∷ watches) ms w h = all_with 3 (codes "watches") (counts_json (wp ∷ watches)) ms refl (counts_round (wp ∷ watches) w) h
+
 told_round : (n : Notice) → NoticeIsText n → AllRound 3 (told_members n)
-told_round (notice.Stopped note gens paths) h =
+told_round (notice.Stopped note gens paths watches) h =
     let first = two_members (codes "cycle") (count_json note.cycle) (codes "slot") (count_json note.slot) in
     let lined = with_member (codes "line") (count_json note.line) first in
-    all_with 3 (codes "threads") (names_json paths) (with_member (codes "gens") (gens_json gens) lined) refl (names_round paths h.1.1)
-    (all_with 3 (codes "gens") (gens_json gens) lined refl (gens_round gens h.1.0)
+    watched_round watches _ h.1.1
+    (all_with 3 (codes "threads") (names_json paths) (with_member (codes "gens") (gens_json gens) lined) refl (names_round paths h.1.0.1)
+    (all_with 3 (codes "gens") (gens_json gens) lined refl (gens_round gens h.1.0.0)
     (all_with 3 (codes "line") (count_json note.line) first refl (round_count 3 note.line h.0.1)
-    (all_two 3 (codes "cycle") (count_json note.cycle) (codes "slot") (count_json note.slot) refl (round_count 3 note.cycle h.0.0.0) refl (round_count 3 note.slot h.0.0.1))))
+    (all_two 3 (codes "cycle") (count_json note.cycle) (codes "slot") (count_json note.slot) refl (round_count 3 note.cycle h.0.0.0) refl (round_count 3 note.slot h.0.0.1)))))
 told_round notice.Ended h = tt
 told_round notice.Start h = tt
 told_round (notice.Rows k rows) h = all_two 3 (codes "k") (count_json k) (codes "rows") (rows_json rows) refl (round_count 3 k h.0) refl (rows_round rows h.1)
 
 word_ascii : (n : Notice) → are_ascii (notice_word n) ≡ true
-word_ascii (notice.Stopped note gens paths) = refl
+word_ascii (notice.Stopped note gens paths watches) = refl
 word_ascii notice.Ended = refl
 word_ascii notice.Start = refl
 word_ascii (notice.Rows k rows) = refl
@@ -263,7 +284,8 @@ notice_round n h = all_with 3 (codes "notice") (string (notice_word n)) (told_me
 
 notice_again : (n : Notice) → put_all (notice_members n) no_members ≡ notice_members n
 unfolding with_member
-notice_again (notice.Stopped note gens paths) = refl
+notice_again (notice.Stopped note gens paths []) = refl
+notice_again (notice.Stopped note gens paths (wp ∷ watches)) = refl
 notice_again notice.Ended = refl
 notice_again notice.Start = refl
 notice_again (notice.Rows k rows) = refl

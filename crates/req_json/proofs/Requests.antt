@@ -11,7 +11,7 @@ use Rattle.symtab_json.specs.Files.{count_json}
 use Rattle.symtab_json.specs.Told.{json_of}
 use Rattle.symtab_json.proofs.Rounds.{round_count, round_string}
 use Rattle.req_json.specs.Asked.{asked_json, asked_tree, too_long}
-use Rattle.req_json.specs.Objects.{one_member, with_member}
+use Rattle.req_json.specs.Objects.{one_member, two_members, with_member}
 use Rattle.req_json.specs.Replies.{with_id}
 use Rattle.req_json.specs.Requests.{CmdIsText, RequestIsText, RequestsAreAsked, cmd_fields, cmd_word, request_members, request_text, with_optional}
 use Rattle.req_json.proofs.ReadBack.{id_round}
@@ -27,6 +27,10 @@ fields_round (cmd.Break line instance condition) h =
     optional_round (codes "cond") condition (with_optional (codes "instance") instance first) refl h.1.1
     (optional_round (codes "instance") instance first refl h.1.0 (all_one 3 (codes "line") (count_json line) refl (round_count 3 line h.0)))
 fields_round (cmd.Delete bp) h = all_one 3 (codes "bp") (count_json bp) refl (round_count 3 bp h)
+fields_round (cmd.Watch line instance expr) h =
+    all_with 3 (codes "expr") (string expr) (two_members (codes "line") (count_json line) (codes "instance") (string instance)) refl (round_string 3 expr h.1.1)
+    (all_two 3 (codes "line") (count_json line) (codes "instance") (string instance) refl (round_count 3 line h.0) refl (round_string 3 instance h.1.0))
+fields_round (cmd.Unwatch wp) h = all_one 3 (codes "wp") (count_json wp) refl (round_count 3 wp h)
 fields_round cmd.Continue h = tt
 fields_round cmd.Reverse h = tt
 fields_round (cmd.Step instance) h = optional_round (codes "instance") instance no_members refl h tt
@@ -42,6 +46,8 @@ fields_round cmd.Bye h = tt
 word_ascii : (c : Cmd) → are_ascii (cmd_word c) ≡ true
 word_ascii (cmd.Break line instance condition) = refl
 word_ascii (cmd.Delete bp) = refl
+word_ascii (cmd.Watch line instance expr) = refl
+word_ascii (cmd.Unwatch wp) = refl
 word_ascii cmd.Continue = refl
 word_ascii cmd.Reverse = refl
 word_ascii (cmd.Step instance) = refl
@@ -68,6 +74,8 @@ again_at None (cmd.Break line None (Some condition)) = refl
 again_at None (cmd.Break line (Some instance) None) = refl
 again_at None (cmd.Break line (Some instance) (Some condition)) = refl
 again_at None (cmd.Delete bp) = refl
+again_at None (cmd.Watch line instance expr) = refl
+again_at None (cmd.Unwatch wp) = refl
 again_at None cmd.Continue = refl
 again_at None cmd.Reverse = refl
 again_at None (cmd.Step None) = refl
@@ -86,6 +94,8 @@ again_at (Some id) (cmd.Break line None (Some condition)) = refl
 again_at (Some id) (cmd.Break line (Some instance) None) = refl
 again_at (Some id) (cmd.Break line (Some instance) (Some condition)) = refl
 again_at (Some id) (cmd.Delete bp) = refl
+again_at (Some id) (cmd.Watch line instance expr) = refl
+again_at (Some id) (cmd.Unwatch wp) = refl
 again_at (Some id) cmd.Continue = refl
 again_at (Some id) cmd.Reverse = refl
 again_at (Some id) (cmd.Step None) = refl
@@ -108,6 +118,8 @@ asked_at None (cmd.Break line None (Some condition)) = refl
 asked_at None (cmd.Break line (Some instance) None) = refl
 asked_at None (cmd.Break line (Some instance) (Some condition)) = refl
 asked_at None (cmd.Delete bp) = refl
+asked_at None (cmd.Watch line instance expr) = refl
+asked_at None (cmd.Unwatch wp) = refl
 asked_at None cmd.Continue = refl
 asked_at None cmd.Reverse = refl
 asked_at None (cmd.Step None) = refl
@@ -126,6 +138,8 @@ asked_at (Some id) (cmd.Break line None (Some condition)) = refl
 asked_at (Some id) (cmd.Break line (Some instance) None) = refl
 asked_at (Some id) (cmd.Break line (Some instance) (Some condition)) = refl
 asked_at (Some id) (cmd.Delete bp) = refl
+asked_at (Some id) (cmd.Watch line instance expr) = refl
+asked_at (Some id) (cmd.Unwatch wp) = refl
 asked_at (Some id) cmd.Continue = refl
 asked_at (Some id) cmd.Reverse = refl
 asked_at (Some id) (cmd.Step None) = refl

@@ -12,18 +12,15 @@ use Rattle.req_json.specs.declared.field.FieldName.{FieldName}
 use Rattle.req_json.specs.declared.field.FieldName.TheVariants as field
 use Rattle.req_json.specs.declared.field.FieldFault.{FieldFault}
 use Rattle.req_json.specs.declared.field.FieldFault.TheVariants as fault
-use Rattle.req_json.specs.Fields.{field_key, under, optional, required_count, required_text, optional_text}
-
--- a field, and what goes on with it; a wrong field ends all
-abbrev pub with_field : {A B : Type 0} → Result A FieldName → (A → Result B FieldName) → Result B FieldName
-with_field (Err f) rest = Err f
-with_field (Ok x) rest = rest x
+use Rattle.req_json.specs.Fields.{field_key, under, optional, with_field, required_count, required_place, required_text, optional_text}
 
 -- the table of commands: in each row the name of a command, and its fields in their order, each of its kind; no command has another name
 abbrev pub row_in : List ℕ → Data → Option (Result Cmd FieldName)
 row_in name d =
     if bytes_eq name (codes "break") then Some (with_field (required_count field.Line d) (λ line. with_field (optional_text field.Instance d) (λ instance. with_field (optional_text field.Cond d) (λ cond. Ok (cmd.Break line instance cond))))) else
     if bytes_eq name (codes "delete") then Some (with_field (required_count field.Bp d) (λ bp. Ok (cmd.Delete bp))) else
+    if bytes_eq name (codes "watch") then Some (with_field (required_place d) (λ line. with_field (required_text field.Instance d) (λ instance. with_field (required_text field.Expr d) (λ expr. Ok (cmd.Watch line instance expr))))) else
+    if bytes_eq name (codes "unwatch") then Some (with_field (required_count field.Wp d) (λ wp. Ok (cmd.Unwatch wp))) else
     if bytes_eq name (codes "continue") then Some (Ok cmd.Continue) else
     if bytes_eq name (codes "reverse") then Some (Ok cmd.Reverse) else
     if bytes_eq name (codes "step") then Some (with_field (optional_text field.Instance d) (λ instance. Ok (cmd.Step instance))) else

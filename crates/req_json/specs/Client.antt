@@ -86,6 +86,11 @@ made_break None slots = None
 made_break (Some bp) None = None
 made_break (Some bp) (Some slots) = Some (body.Break bp slots)
 
+abbrev pub made_watch : Option (List ℕ) → Option ℕ → Option Body
+made_watch None wp = None
+made_watch (Some slots) None = None
+made_watch (Some slots) (Some wp) = Some (body.Watch slots wp)
+
 abbrev pub made_threads : Option At → Option (List (List ℕ × ℤ)) → Option ℕ → Option (List (List ℕ)) → Option Body
 made_threads None gens line threads = None
 made_threads (Some at) None line threads = None
@@ -103,7 +108,8 @@ made_status (Some at) (Some bps) (Some listeners) (Some mode) = Some (body.Statu
 -- nothing more is told of what has no field of its own
 abbrev pub told_accepted : Data → Option Body
 told_accepted d =
-    if is_some (get (codes "bp") d) then made_break (told_member told_count (codes "bp") d) (told_member told_counts (codes "slots") d) else
+    if is_some (get (codes "wp") d) then made_watch (told_member told_counts (codes "slots") d) (told_member told_count (codes "wp") d) else
+    (if is_some (get (codes "bp") d) then made_break (told_member told_count (codes "bp") d) (told_member told_counts (codes "slots") d) else
     (if is_some (get (codes "gens") d) then
     made_threads (told_member told_place (codes "at") d) (told_member told_variables (codes "gens") d) (told_member told_count (codes "line") d) (told_member told_names (codes "threads") d) else
     (if is_some (get (codes "values") d) then option_map body.Values (told_member told_values (codes "values") d) else
@@ -111,7 +117,7 @@ told_accepted d =
     (if is_some (get (codes "rows") d) then option_map body.Drop (told_member told_rows (codes "rows") d) else
     (if is_some (get (codes "mode") d) then
     made_status (told_member told_place (codes "at") d) (told_member told_counts (codes "bps") d) (told_member told_counts (codes "listeners") d) (told_member told_going (codes "mode") d) else
-    (if is_some (get (codes "at") d) then option_map body.Pause (told_member told_place (codes "at") d) else Some body.Delete))))))
+    (if is_some (get (codes "at") d) then option_map body.Pause (told_member told_place (codes "at") d) else Some body.Delete)))))))
 
 -- ---- what was refused, by its code
 
@@ -141,7 +147,9 @@ told_refused code d =
     (if code == 12 then option_map body.NoStop (told_member told_place (codes "at") d) else
     (if code == 13 then option_map body.TooMany (told_member told_count (codes "limit") d) else
     (if code == 14 then option_map body.NoBreakpoint (told_member told_count (codes "bp") d) else
-    (if code == 15 then option_map body.NoListener (told_member told_count (codes "k") d) else None))))))))))))))
+    (if code == 15 then option_map body.NoListener (told_member told_count (codes "k") d) else
+    (if code == 16 then option_map body.TooManyWatches (told_member told_count (codes "limit") d) else
+    (if code == 17 then option_map body.NoWatch (told_member told_count (codes "wp") d) else None))))))))))))))))
 
 -- ---- the whole
 
@@ -169,6 +177,8 @@ heard_body body.Step = body.Delete
 heard_body body.Back = body.Delete
 heard_body body.Bye = body.Delete
 heard_body body.Delete = body.Delete
+heard_body body.Unwatch = body.Delete
+heard_body (body.Watch slots wp) = body.Watch slots wp
 heard_body (body.Break bp slots) = body.Break bp slots
 heard_body (body.Pause at) = body.Pause at
 heard_body (body.Threads at gens line threads) = body.Threads at gens line threads
@@ -192,6 +202,8 @@ heard_body (body.NoStop at) = body.NoStop at
 heard_body (body.TooMany limit) = body.TooMany limit
 heard_body (body.NoBreakpoint bp) = body.NoBreakpoint bp
 heard_body (body.NoListener k) = body.NoListener k
+heard_body (body.TooManyWatches limit) = body.TooManyWatches limit
+heard_body (body.NoWatch wp) = body.NoWatch wp
 
 abbrev pub heard_reply : Reply → Reply
 heard_reply r = record r { body = heard_body r.body }

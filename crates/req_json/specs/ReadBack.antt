@@ -65,6 +65,8 @@ IsNamedValue v = IsUtf8 v.0 × IsShownValue v.1
 abbrev pub BodyIsText : Body → Type 0
 BodyIsText (body.Break bp slots) = IsCount bp × AreCounts slots
 BodyIsText body.Delete = ⊤
+BodyIsText (body.Watch slots wp) = AreCounts slots × IsCount wp
+BodyIsText body.Unwatch = ⊤
 BodyIsText body.Continue = ⊤
 BodyIsText body.Reverse = ⊤
 BodyIsText body.Step = ⊤
@@ -92,6 +94,8 @@ BodyIsText (body.NoStop at) = AtFits at
 BodyIsText (body.TooMany limit) = IsCount limit
 BodyIsText (body.NoBreakpoint bp) = IsCount bp
 BodyIsText (body.NoListener k) = IsCount k
+BodyIsText (body.TooManyWatches limit) = IsCount limit
+BodyIsText (body.NoWatch wp) = IsCount wp
 
 pub record ReplyIsText (r : Reply) : Type 0 where
   pub seq : IsCount r.seq
@@ -99,7 +103,7 @@ pub record ReplyIsText (r : Reply) : Type 0 where
   pub body : BodyIsText r.body
 
 abbrev pub NoticeIsText : Notice → Type 0
-NoticeIsText (notice.Stopped note gens paths) = ((IsCount note.cycle × IsCount note.slot) × IsCount note.line) × (VariablesFit gens × AreNames paths)
+NoticeIsText (notice.Stopped note gens paths watches) = ((IsCount note.cycle × IsCount note.slot) × IsCount note.line) × ((VariablesFit gens × AreNames paths) × AreCounts watches)
 NoticeIsText notice.Ended = ⊤
 NoticeIsText notice.Start = ⊤
 NoticeIsText (notice.Rows k rows) = IsCount k × RowPairsFit rows

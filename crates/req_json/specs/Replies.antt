@@ -14,6 +14,8 @@ use Rattle.req_json.specs.Values.{at_json, counts_json, gens_json, going_json, n
 abbrev pub own_members : Body → Members
 own_members (body.Break bp slots) = two_members (codes "bp") (count_json bp) (codes "slots") (counts_json slots)
 own_members body.Delete = no_members
+own_members (body.Watch slots wp) = two_members (codes "slots") (counts_json slots) (codes "wp") (count_json wp)
+own_members body.Unwatch = no_members
 own_members body.Continue = no_members
 own_members body.Reverse = no_members
 own_members body.Step = no_members
@@ -43,12 +45,16 @@ own_members (body.NoStop at) = one_member (codes "at") (at_json at)
 own_members (body.TooMany limit) = one_member (codes "limit") (count_json limit)
 own_members (body.NoBreakpoint bp) = one_member (codes "bp") (count_json bp)
 own_members (body.NoListener k) = one_member (codes "k") (count_json k)
+own_members (body.TooManyWatches limit) = one_member (codes "limit") (count_json limit)
+own_members (body.NoWatch wp) = one_member (codes "wp") (count_json wp)
 
 -- ---- the code and the name of each refusal; what was accepted has none
 
 abbrev pub body_refusal : Body → Option (ℕ × List ℕ)
 body_refusal (body.Break bp slots) = None
 body_refusal body.Delete = None
+body_refusal (body.Watch slots wp) = None
+body_refusal body.Unwatch = None
 body_refusal body.Continue = None
 body_refusal body.Reverse = None
 body_refusal body.Step = None
@@ -76,6 +82,8 @@ body_refusal (body.NoStop at) = Some (12, codes "NoStop")
 body_refusal (body.TooMany limit) = Some (13, codes "TooMany")
 body_refusal (body.NoBreakpoint bp) = Some (14, codes "NoBreakpoint")
 body_refusal (body.NoListener k) = Some (15, codes "NoListener")
+body_refusal (body.TooManyWatches limit) = Some (16, codes "TooManyWatches")
+body_refusal (body.NoWatch wp) = Some (17, codes "NoWatch")
 
 -- ---- what every reply has
 

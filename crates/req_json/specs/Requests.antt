@@ -21,6 +21,8 @@ with_optional key (Some text) ms = with_member key (string text) ms
 abbrev pub cmd_fields : Cmd → Members
 cmd_fields (cmd.Break line instance condition) = with_optional (codes "cond") condition (with_optional (codes "instance") instance (one_member (codes "line") (count_json line)))
 cmd_fields (cmd.Delete bp) = one_member (codes "bp") (count_json bp)
+cmd_fields (cmd.Watch line instance expr) = with_member (codes "expr") (string expr) (two_members (codes "line") (count_json line) (codes "instance") (string instance))
+cmd_fields (cmd.Unwatch wp) = one_member (codes "wp") (count_json wp)
 cmd_fields cmd.Continue = no_members
 cmd_fields cmd.Reverse = no_members
 cmd_fields (cmd.Step instance) = with_optional (codes "instance") instance no_members
@@ -36,6 +38,8 @@ cmd_fields cmd.Bye = no_members
 abbrev pub cmd_word : Cmd → List ℕ
 cmd_word (cmd.Break line instance condition) = codes "break"
 cmd_word (cmd.Delete bp) = codes "delete"
+cmd_word (cmd.Watch line instance expr) = codes "watch"
+cmd_word (cmd.Unwatch wp) = codes "unwatch"
 cmd_word cmd.Continue = codes "continue"
 cmd_word cmd.Reverse = codes "reverse"
 cmd_word (cmd.Step instance) = codes "step"
@@ -64,6 +68,8 @@ request_text r = compact_text (request_json r)
 abbrev pub CmdIsText : Cmd → Type 0
 CmdIsText (cmd.Break line instance condition) = IsCount line × (IfSome instance IsUtf8 × IfSome condition IsUtf8)
 CmdIsText (cmd.Delete bp) = IsCount bp
+CmdIsText (cmd.Watch line instance expr) = IsCount line × (IsUtf8 instance × IsUtf8 expr)
+CmdIsText (cmd.Unwatch wp) = IsCount wp
 CmdIsText cmd.Continue = ⊤
 CmdIsText cmd.Reverse = ⊤
 CmdIsText (cmd.Step instance) = IfSome instance IsUtf8

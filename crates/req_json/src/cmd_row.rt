@@ -6,7 +6,9 @@ ghost use Rattle.std.specs.Prelude.{◌≡◌, Ok, IfOk, IfErr, option_map};
 ghost use Rattle.serde_json.specs.View.{view};
 ghost use Rattle.req_json.specs.Asked.{RowIsWrong, row_in};
 
-use crate::field::{FieldFault, FieldName, optional_text, required_count, required_text};
+use crate::field::{
+    FieldFault, FieldName, optional_text, required_count, required_place, required_text,
+};
 use machine_core::Cmd;
 use serde_json::Value;
 use std::alloc::Global;
@@ -24,6 +26,14 @@ pub(crate) fn row_in(alloc: Global, name: &str, value: &Value) -> Result<Option<
         },
         "delete" => Cmd::Delete {
             bp: required_count(value, FieldName::Bp)?,
+        },
+        "watch" => Cmd::Watch {
+            line: required_place(value)?,
+            instance: required_text(alloc, value, FieldName::Instance)?,
+            expr: required_text(alloc, value, FieldName::Expr)?,
+        },
+        "unwatch" => Cmd::Unwatch {
+            wp: required_count(value, FieldName::Wp)?,
         },
         "continue" => Cmd::Continue,
         "reverse" => Cmd::Reverse,

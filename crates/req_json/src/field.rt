@@ -1,15 +1,21 @@
 //! The fields of requests, and what each kind of field tells.
 
-ghost use Rattle.std.specs.Prelude.{◌≡◌, Ok, IfOk, IfErr, option_map};
+ghost use Rattle.std.specs.Prelude.{◌≡◌, ◌<◌, Ok, IfOk, IfErr, option_map};
 ghost use Rattle.serde_json.specs.Find.{get};
 ghost use Rattle.serde_json.specs.View.{view};
 ghost use Rattle.symtab_json.specs.Entries.{told_count};
 ghost use Rattle.req_json.specs.declared.field.FieldFault.TheVariants.{NoMemory};
-ghost use Rattle.req_json.specs.Fields.{field_key, IsWrong, optional, optional_text, required_text, under, required_count};
+ghost use Rattle.req_json.specs.Fields.{field_key, file_number, IsWrong, optional, optional_text, place_in, required_text, under, required_count, required_place};
 
 use machine_core::Utf8;
 use serde_json::Value;
 use std::alloc::{AllocError, Global};
+
+/// So many files may be named.
+const MOST_FILES: u64 = 64;
+
+/// The lines of a file are fewer than this.
+const FILE_LINES: u64 = 1 << 24;
 
 /// A field of a request; or the whole of it.
 #[derive(Clone, Copy, PartialEq, Eq)]
@@ -17,10 +23,12 @@ pub enum FieldName {
     Whole,
     Id,
     Cmd,
+    File,
     Line,
     Instance,
     Cond,
     Bp,
+    Wp,
     Expr,
     K,
 }
@@ -34,10 +42,12 @@ impl FieldName {
             FieldName::Whole => "",
             FieldName::Id => "id",
             FieldName::Cmd => "cmd",
+            FieldName::File => "file",
             FieldName::Line => "line",
             FieldName::Instance => "instance",
             FieldName::Cond => "cond",
             FieldName::Bp => "bp",
+            FieldName::Wp => "wp",
             FieldName::Expr => "expr",
             FieldName::K => "k",
         }
@@ -85,6 +95,41 @@ pub(crate) fn optional_whole(value: &Value, field: FieldName) -> Option<Option<u
             }
         }
     }
+}
+
+/// The number of a file, from 0 to 63; 0 where it is left out.
+fn file_number(value: &Value) -> Result<u64, FieldFault>
+    ensures ok { IfOk result (λ file. file_number (view value.now) ≡ Ok file) }
+    ensures err { IfErr result (IsWrong (file_number (view value.now))) }
+    ensures below { IfOk result (λ file. file < 64) }
+{
+    match optional_whole(value, FieldName::File) {
+        Some(None) => Ok(0),
+        Some(Some(file)) if file < MOST_FILES => Ok(file),
+        _ => Err(FieldFault::Wrong(FieldName::File)),
+    }
+}
+
+/// A line of a file, as one number: its place, as long as lines are below 2^24.
+fn place_in(file: u64, line: u64) -> u64
+    requires { file < 64 }
+    ensures { result ≡ place_in file line }
+{
+    if file == 0 {
+        line
+    } else {
+        (file * FILE_LINES).saturating_add(line)
+    }
+}
+
+/// A line that must be there, of a file that may be left out, as one number.
+pub(crate) fn required_place(value: &Value) -> Result<u64, FieldFault>
+    ensures ok { IfOk result (λ place. required_place (view value.now) ≡ Ok place) }
+    ensures err { IfErr result (IsWrong (required_place (view value.now))) }
+{
+    let file = file_number(value)?;
+    let line = required_count(value, FieldName::Line)?;
+    Ok(place_in(file, line))
 }
 
 /// A text that must be there.

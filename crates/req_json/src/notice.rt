@@ -1,6 +1,6 @@
 //! Writes a notice.
 
-ghost use Rattle.std.specs.Prelude.{◌≡◌, IfOk};
+ghost use Rattle.std.specs.Prelude.{◌≡◌, [], IfOk};
 ghost use Rattle.machine_core.specs.declared.turn.Notice.TheVariants.{Rows, Stopped};
 ghost use Rattle.req_json.specs.Objects.{member_texts};
 ghost use Rattle.req_json.specs.Notices.{notice_members, notice_text, notice_word, told_members};
@@ -23,20 +23,38 @@ fn notice_word(notice: &Notice) -> &'static str
     }
 }
 
-/// What the notice of a stop has of its own.
+/// What the notice of a stop has of its own, but for watches.
 #[tactic(auto, using(crate::proofs::Objects::texts_with, crate::proofs::Objects::texts_none))]
-fn stop_members(
+fn place_members(
     alloc: Global,
     note: StopNote,
     gens: &Listed<(Text, i64)>,
     paths: &Listed<Text>,
 ) -> Result<Object, NoMemory>
-    ensures { IfOk result (λ object. object ≡ member_texts (told_members (Stopped note gens.now paths.now))) }
+    ensures { IfOk result (λ object. object ≡ member_texts (told_members (Stopped note gens.now paths.now []))) }
 {
     let mut object = object_of_two(alloc, "cycle", &note.cycle, "slot", &note.slot)?;
     object.put(alloc, "line", &note.line)?;
     object.put(alloc, "gens", gens)?;
     object.put(alloc, "threads", paths)?;
+    Ok(object)
+}
+
+/// What the notice of a stop has of its own: the watches that match there, where there are some.
+#[tactic(auto, using(crate::proofs::Objects::texts_with))]
+fn stop_members(
+    alloc: Global,
+    note: StopNote,
+    gens: &Listed<(Text, i64)>,
+    paths: &Listed<Text>,
+    watches: &Listed<u64>,
+) -> Result<Object, NoMemory>
+    ensures { IfOk result (λ object. object ≡ member_texts (told_members (Stopped note gens.now paths.now watches.now))) }
+{
+    let mut object = place_members(alloc, note, gens, paths)?;
+    if !watches.items().is_empty() {
+        object.put(alloc, "watches", watches)?;
+    }
     Ok(object)
 }
 
@@ -54,7 +72,12 @@ fn told_members(alloc: Global, notice: &Notice) -> Result<Object, NoMemory>
     ensures { IfOk result (λ object. object ≡ member_texts (told_members notice.now)) }
 {
     match notice {
-        Notice::Stopped { note, gens, paths } => stop_members(alloc, *note, gens, paths),
+        Notice::Stopped {
+            note,
+            gens,
+            paths,
+            watches,
+        } => stop_members(alloc, *note, gens, paths, watches),
         Notice::Ended | Notice::Start => Ok(Object::new(alloc)),
         Notice::Rows { k, rows } => rows_members(alloc, *k, rows),
     }

@@ -30,6 +30,8 @@ fn body_refusal(body: &Body) -> Option<(u8, &'static str)>
         Body::TooMany { .. } => Some((13, "TooMany")),
         Body::NoBreakpoint { .. } => Some((14, "NoBreakpoint")),
         Body::NoListener { .. } => Some((15, "NoListener")),
+        Body::TooManyWatches { .. } => Some((16, "TooManyWatches")),
+        Body::NoWatch { .. } => Some((17, "NoWatch")),
         _ => None,
     }
 }
@@ -75,6 +77,7 @@ fn own_members(alloc: Global, body: &Body) -> Result<Object, NoMemory>
 {
     match body {
         Body::Break { bp, slots } => object_of_two(alloc, "bp", bp, "slots", slots),
+        Body::Watch { slots, wp } => object_of_two(alloc, "slots", slots, "wp", wp),
         Body::Pause { at } | Body::NoStop { at } => object_of_one(alloc, "at", at),
         Body::Threads {
             at,
@@ -103,6 +106,8 @@ fn own_members(alloc: Global, body: &Body) -> Result<Object, NoMemory>
         Body::TooMany { limit } => object_of_one(alloc, "limit", limit),
         Body::NoBreakpoint { bp } => object_of_one(alloc, "bp", bp),
         Body::NoListener { k } => object_of_one(alloc, "k", k),
+        Body::TooManyWatches { limit } => object_of_one(alloc, "limit", limit),
+        Body::NoWatch { wp } => object_of_one(alloc, "wp", wp),
         _ => Ok(Object::new(alloc)),
     }
 }

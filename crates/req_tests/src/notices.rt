@@ -20,14 +20,20 @@ fn stopped(alloc: Global, variable: i64) -> Result<Notice, NoMemory> {
             slot: 5,
             line: 8,
             threads: 2,
+            watches: 0,
         },
         gens: Listed::new(gens),
         paths: Listed::new(paths),
+        watches: Listed::new(Vec::new(alloc)),
     })
 }
 
-/// The notice of a stop with no generator variable.
-fn stopped_plainly(alloc: Global) -> Result<Notice, NoMemory> {
+/// The notice of a stop with no generator variable, where these watches match.
+fn stopped_plainly(alloc: Global, matching: &[u64]) -> Result<Notice, NoMemory> {
+    let mut watches = Vec::new(alloc);
+    for wp in matching {
+        watches.push(*wp)?;
+    }
     let mut paths = Vec::new(alloc);
     paths.push(Text::new(alloc, b"A")?)?;
     Ok(Notice::Stopped {
@@ -36,9 +42,11 @@ fn stopped_plainly(alloc: Global) -> Result<Notice, NoMemory> {
             slot: 3,
             line: 12,
             threads: 1,
+            watches: u32::try_from(watches.len()).unwrap_or(0),
         },
         gens: Listed::new(Vec::new(alloc)),
         paths: Listed::new(paths),
+        watches: Listed::new(watches),
     })
 }
 
@@ -54,24 +62,26 @@ fn rows(alloc: Global, k: u32, all: &[(u64, u64)]) -> Result<Notice, NoMemory> {
     })
 }
 
-static NOTICES: [&str; 6] = [
+static NOTICES: [&str; 7] = [
     "{\"cycle\":2,\"gens\":[],\"line\":12,\"notice\":\"stopped\",\"slot\":3,\"threads\":[\"A\"]}",
     "{\"cycle\":2,\"gens\":[[\"W\",-4611686018427387904]],\"line\":8,\"notice\":\"stopped\",\"slot\":5,\"threads\":[\"C.u#0\",\"C.u#1\"]}",
     "{\"notice\":\"ended\"}",
     "{\"notice\":\"start\"}",
     "{\"k\":0,\"notice\":\"rows\",\"rows\":[[18,4],[39,1]]}",
     "{\"k\":1,\"notice\":\"rows\",\"rows\":[]}",
+    "{\"cycle\":2,\"gens\":[],\"line\":12,\"notice\":\"stopped\",\"slot\":3,\"threads\":[\"A\"],\"watches\":[1]}",
 ];
 
 /// A notice, by the place of its text.
 fn notice(alloc: Global, case: usize) -> Result<Notice, NoMemory> {
     match case {
-        0 => stopped_plainly(alloc),
+        0 => stopped_plainly(alloc, &[]),
         1 => stopped(alloc, -4611686018427387904),
         2 => Ok(Notice::Ended),
         3 => Ok(Notice::Start),
         4 => rows(alloc, 0, &[(18, 4), (39, 1)]),
-        _ => rows(alloc, 1, &[]),
+        5 => rows(alloc, 1, &[]),
+        _ => stopped_plainly(alloc, &[1]),
     }
 }
 

@@ -51,7 +51,7 @@ fn listed<T: Copy + Drop>(alloc: Global, all: &[T]) -> Result<Listed<T>, NoMemor
 /// A reply: its number, that of its client, which body it has, and its text.
 type Case = (u64, Option<u64>, u32, &'static str);
 
-static ACCEPTED: [Case; 20] = [
+static ACCEPTED: [Case; 22] = [
     (
         14,
         None,
@@ -137,9 +137,16 @@ static ACCEPTED: [Case; 20] = [
         18,
         "{\"at\":\"end\",\"bps\":[7],\"listeners\":[0,1],\"mode\":\"forward\",\"ok\":true,\"seq\":6}",
     ),
+    (
+        1,
+        None,
+        19,
+        "{\"ok\":true,\"seq\":1,\"slots\":[3],\"wp\":1}",
+    ),
+    (2, Some(8), 20, "{\"id\":8,\"ok\":true,\"seq\":2}"),
 ];
 
-static REFUSED: [Case; 18] = [
+static REFUSED: [Case; 20] = [
     (
         9,
         None,
@@ -248,6 +255,18 @@ static REFUSED: [Case; 18] = [
         17,
         "{\"code\":15,\"error\":\"NoListener\",\"k\":2,\"ok\":false,\"seq\":13}",
     ),
+    (
+        258,
+        None,
+        18,
+        "{\"code\":16,\"error\":\"TooManyWatches\",\"limit\":256,\"ok\":false,\"seq\":258}",
+    ),
+    (
+        1,
+        None,
+        19,
+        "{\"code\":17,\"error\":\"NoWatch\",\"ok\":false,\"seq\":1,\"wp\":9}",
+    ),
 ];
 
 /// An armed breakpoint.
@@ -255,6 +274,14 @@ fn armed(alloc: Global, bp: u64, slots: &[u32]) -> Result<Body, NoMemory> {
     Ok(Body::Break {
         bp,
         slots: listed(alloc, slots)?,
+    })
+}
+
+/// An armed watch.
+fn watched(alloc: Global, slots: &[u32], wp: u64) -> Result<Body, NoMemory> {
+    Ok(Body::Watch {
+        slots: listed(alloc, slots)?,
+        wp,
     })
 }
 
@@ -336,7 +363,9 @@ fn accepted(alloc: Global, case: u32) -> Result<Body, NoMemory> {
         15 => dropped(alloc, &[]),
         16 => status(alloc, At::Start, &[], Going::Idle),
         17 => status(alloc, At::End, &[1, 3], Going::Backward),
-        _ => status(alloc, At::End, &[7], Going::Forward),
+        18 => status(alloc, At::End, &[7], Going::Forward),
+        19 => watched(alloc, &[3], 1),
+        _ => Ok(Body::Unwatch),
     }
 }
 
@@ -399,7 +428,9 @@ fn refused(alloc: Global, case: u32) -> Result<Body, NoMemory> {
         14 => Ok(Body::NoStop { at: At::Start }),
         15 => Ok(Body::TooMany { limit: 1024 }),
         16 => Ok(Body::NoBreakpoint { bp: 7 }),
-        _ => Ok(Body::NoListener { k: 2 }),
+        17 => Ok(Body::NoListener { k: 2 }),
+        18 => Ok(Body::TooManyWatches { limit: 256 }),
+        _ => Ok(Body::NoWatch { wp: 9 }),
     }
 }
 

@@ -8,7 +8,7 @@ use text_core::NoMemory;
 
 /// Texts, each with what it is read as: of a request its command and its fields, of any other text the code and the field of its
 /// refusal; in front of both the number of its client.
-static CASES: [(&[u8], &str); 70] = [
+static CASES: [(&[u8], &str); 79] = [
     (b"{\"cmd\":\"break\",\"line\":8}", "break 8 - -"),
     (
         b"{\"cmd\":\"break\",\"line\":8,\"instance\":\"B.x\"}",
@@ -23,6 +23,31 @@ static CASES: [(&[u8], &str); 70] = [
         "break 14 - -",
     ),
     (b"{\"cmd\":\"delete\",\"bp\":7}", "delete 7"),
+    (
+        b"{\"cmd\":\"watch\",\"line\":12,\"instance\":\"A\",\"expr\":\"t\"}",
+        "watch 12 A t",
+    ),
+    (b"{\"cmd\":\"watch\",\"line\":12,\"expr\":7}", "3 instance"),
+    // a file is judged first, and left out it is 0
+    (
+        b"{\"cmd\":\"watch\",\"file\":null,\"line\":12,\"instance\":\"A\",\"expr\":\"t\"}",
+        "watch 12 A t",
+    ),
+    (
+        b"{\"cmd\":\"watch\",\"file\":63,\"line\":12,\"instance\":\"A\",\"expr\":\"t\"}",
+        "watch 1056964620 A t",
+    ),
+    (
+        b"{\"cmd\":\"watch\",\"file\":64,\"instance\":\"A\",\"expr\":\"t\"}",
+        "3 file",
+    ),
+    (
+        b"{\"cmd\":\"watch\",\"file\":1.0,\"line\":12,\"instance\":\"A\",\"expr\":\"t\"}",
+        "3 file",
+    ),
+    (b"{\"cmd\":\"watch\",\"file\":0,\"expr\":\"t\"}", "3 line"),
+    (b"{\"cmd\":\"unwatch\",\"wp\":9,\"id\":4}", "4 unwatch 9"),
+    (b"{\"cmd\":\"unwatch\",\"bp\":9}", "3 wp"),
     (b"{\"cmd\":\"continue\"}", "continue"),
     (b"{\"cmd\":\"reverse\"}", "reverse"),
     (b"{\"cmd\":\"step\"}", "step -"),
@@ -182,6 +207,16 @@ fn push_cmd(alloc: Global, text: &mut Vec<u8>, cmd: &Cmd) -> Result<(), NoMemory
             cond,
         } => push_break(alloc, text, *line, instance, cond),
         Cmd::Delete { bp } => push_numbered(alloc, text, b"delete", *bp),
+        Cmd::Watch {
+            line,
+            instance,
+            expr,
+        } => {
+            push_numbered(alloc, text, b"watch", *line)?;
+            push_word(text, instance.text().as_bytes())?;
+            push_word(text, expr.text().as_bytes())
+        }
+        Cmd::Unwatch { wp } => push_numbered(alloc, text, b"unwatch", *wp),
         Cmd::Continue => push_word(text, b"continue"),
         Cmd::Reverse => push_word(text, b"reverse"),
         Cmd::Step { instance } => {

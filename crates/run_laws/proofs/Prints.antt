@@ -1,10 +1,13 @@
 -- What commands over one design print is told by what one of them holds.
 use Rattle.std.proofs.Common.{◌≡◌, ℕ, ◌≤◌, ◌<◌, ◌^◌, List, length, Option, Some, Result, Ok, Err, refl, sym, ap, ◌∙◌, subst}
 use Rattle.gen_tree.specs.Tree as tree
+use Rattle.gen_tree.specs.Tree.{all_modules}
 use Rattle.exec_core.specs.Block.{Name}
 use Rattle.design_core.specs.Design.{Design}
 use Rattle.elab_core.specs.Design.{design_from}
 use Rattle.elab_laws.proofs.Kept.{elaboration_keeps}
+use Rattle.project_read.specs.Projects.{IsProject}
+use Rattle.design_judge.proofs.Sources.{files_so}
 use Rattle.check_exec.specs.Premises.{IsSound}
 use Rattle.place_core.specs.Orders.{TellsOrder}
 use Rattle.world_core.specs.declared.mode.Mode.{Mode}
@@ -56,7 +59,9 @@ top_from modules top (Err fault) d e = cc
 
 module _ (told : Contents) (command debug : Command) (source : command.source ≡ debug.source) (top : command.top ≡ debug.top) where
   pub as_debug : (d : Design) → HoldsDesign told command d → HoldsDesign told debug d
-  as_debug d h = record { source = h.source; found = ap told (sym source) ∙ h.found; accepted = subst (λ (t : Top). IsAccepted t h.source d) top h.accepted }
+  as_debug d h = record {
+    accepted = subst (λ (t : Top). IsAccepted t (IsProject told debug.source) d) top (subst (λ (s : List ℕ). IsAccepted command.top (IsProject told s) d) source h.accepted);
+  }
 
   module _ (mode : command.mode ≡ debug.mode) (a b : Held) (x : Holds told command a) (y : Holds told debug b) where
     design : a.design ≡ b.design
@@ -105,7 +110,7 @@ prints_replayed law heard words symbols sim debug spelled one told table dump li
     let dump_is : dump ≡ text_of heard Waves d.held =
     text_is heard told sim dump w Waves one.tasks.1 ∙ same_waves told sim debug one.sources.1 one.tops.1 one.modes.1 w.held d.held w.holds d.holds one.stimulus in
     let lines_is : lines ≡ text_of heard Session d.held = text_is heard told debug lines d Session one.tasks.2 in
-    let top : d.held.ports.module ≡ debug.top.name = d.holds.ports.module ∙ top_from d.holds.design.accepted.0.modules debug.top.name _ d.held.design d.holds.design.accepted.0.elaborates in
+    let top : d.held.ports.module ≡ debug.top.name = d.holds.ports.module ∙ top_from (all_modules d.holds.design.accepted.0.sources) debug.top.name _ d.held.design d.holds.design.accepted.0.elaborates in
     let net = net_held told debug d.held d.holds Session one.tasks.2 refl compiles in
     subst (AsksFor heard files names) (sym lines_is)
     (replayed law heard words debug spelled told d.held d.holds net files names (record {
@@ -130,8 +135,9 @@ waves_of_run law heard words sim spelled task told dump asks compiles =
     let net = net_held told sim w.held w.holds Waves task refl compiles in
     let trimmed : IsTrimmed w.held.design (length w.holds.design.accepted.1.pairs) w.held.mode net.0 net.1 = subst (λ (n : ℕ). IsTrimmed w.held.design n w.held.mode net.0 net.1) w.holds.driven net.2 in
     let source = w.holds.design.accepted.0 in
+    let read = files_so told sim.source source.sources source.are in
     let sound : IsSound w.held.design = record {
-      kept = elaboration_keeps source.modules sim.top.name sim.top.given w.held.design w.holds.design.source source.reads (words_in_range words sim spelled) source.elaborates;
+      kept = elaboration_keeps source.sources sim.top.name sim.top.given w.held.design read.0 read.1 (words_in_range words sim spelled) source.elaborates;
       accepted = w.holds.design.accepted.1.clean;
     } in
     let values = law w.held.design w.holds.design.accepted.1.pairs w.held.mode net.0 net.1 (rows_held w.held) w.held.run (record {

@@ -60,7 +60,7 @@ module _ (law : ReplaysAreDebugged) (heard : List Heard) (told : answers.Content
     few = few_requests told command.requests held.requests h.requests;
   }
 
-  debugged : IsDebugged command.top h.design.source held.design pairs own held.run
+  debugged : IsDebugged command.top told command.source held.design pairs own held.run
   debugged = record {
     describes = h.design.accepted.0;
     in_range = in_range;
@@ -74,7 +74,7 @@ module _ (law : ReplaysAreDebugged) (heard : List Heard) (told : answers.Content
   pub asked_for : AsksFor heard files names (text_of heard Session held)
   asked_for =
       subst (λ (n : ℕ). AsksFor heard files names (batch_text held.reader (source_world held.design n held.mode held.run) heard held.requests)) (sym h.driven)
-      (own_law command.top h.design.source held.run debugged heard files names held.requests
+      (own_law command.top told command.source held.run debugged heard files names held.requests
       (subst (λ (n : ℕ). HoldPrinted files names held.design n held.mode own held.requests) h.driven printed_by) held.reader h.reads)
 
 pub replayed : ReplaysAreDebugged → HeldIsReplayed

@@ -9,7 +9,6 @@ pub mod Ready
 pub mod Searched
 pub mod Scopes
 pub mod Tests
-pub mod Turns
 pub mod Prepared
 pub mod Values
 pub mod Spanning

@@ -30,7 +30,7 @@ use Rattle.cond_lang.specs.Names.{Name}
 use Rattle.cond_lang.specs.Bound.{bound_value}
 use Rattle.cond_lang.specs.Meaning as cond
 use Rattle.cond_lang.specs.TextShown.{text_expr, text_offsets}
-use Rattle.machine_core.specs.Matching.{is_wanted, holds, fits_breakpoint, is_stop, matches}
+use Rattle.machine_core.specs.Matching.{is_wanted, holds, fits_breakpoint, breakpoints_alone, is_stop, matches}
 use Rattle.slot_sched.specs.declared.armed.Trap.{Trap}
 use Rattle.slot_sched.specs.declared.armed.Armed.{Armed}
 use Rattle.slot_sched.specs.Armed.{breakpoint_of, trap_place, IsBoundAt, IsTrap, IsArmed}
@@ -181,7 +181,7 @@ module _ (parts : TableParts) (s : Samples) (t k : ℕ) (inside : t < s.cycles) 
       ∙ any_alike _ (λ i. is_wanted a.instance i && own_stops a.text k i) (λ i. swapped (is_thread parts (s.sample t) k i) (is_wanted a.instance i) (holds_by parts (s.sample t) k i a.text)) (instances_of parts k))
 
   slot_is : (armed : List Armed) → All (IsArmed parts) armed → (want : Want)
-      → slot_stops parts (s.sample t) k armed want ≡ list_any (is_stop (told parts s) (map breakpoint_of armed) want t k) ((told parts s).threads t k)
+      → slot_stops parts (s.sample t) k armed want ≡ list_any (is_stop (told parts s) (breakpoints_alone (map breakpoint_of armed)) want t k) ((told parts s).threads t k)
   slot_is armed h Breakpoints =
       any_each (IsArmed parts) (armed_stops parts (s.sample t) k) (λ a. list_any (λ i. fits_breakpoint (told parts s) t k i (breakpoint_of a)) ((told parts s).threads t k))
       (λ a own. traps_are a own ∙ sym (breakpoint_is a)) armed (all_each (IsArmed parts) armed h)
@@ -205,10 +205,10 @@ slot_below : (c n p : ℕ) → p < c * n → p % n < n
 slot_below c n p h = let some = some_slot c n p h in omega (arith, some)
 
 pub position_is : (parts : TableParts) (s : Samples) (armed : List Armed) → All (IsArmed parts) armed → (want : Want) (p : ℕ) → p < total_of parts s
-    → position_stops parts s armed want p ≡ matches (told parts s) (map breakpoint_of armed) want p
+    → position_stops parts s armed want p ≡ matches (told parts s) (breakpoints_alone (map breakpoint_of armed)) want p
 position_is parts s armed h want p within =
     slot_is parts s (p / length parts.slots) (p % length parts.slots) (cycle_inside s.cycles (length parts.slots) p within) (slot_below s.cycles (length parts.slots) p within) armed h want
-    ∙ ap (λ n. list_any (is_stop (told parts s) (map breakpoint_of armed) want (p / n) (p % n)) ((told parts s).threads (p / n) (p % n))) (sym (length-map parts.slots (shows_by parts)))
+    ∙ ap (λ n. list_any (is_stop (told parts s) (breakpoints_alone (map breakpoint_of armed)) want (p / n) (p % n)) ((told parts s).threads (p / n) (p % n))) (sym (length-map parts.slots (shows_by parts)))
 
 -- ---- breakpoints of a table are ready over a trace that fits it
 

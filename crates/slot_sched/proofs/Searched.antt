@@ -9,11 +9,12 @@ use Rattle.trace_core.specs.declared.scan.Way.TheVariants.{Forward, Backward}
 use Rattle.trace_core.specs.declared.scan.Want.{Want}
 use Rattle.trace_world.specs.TraceWorld.{shows_by}
 use Rattle.machine_core.specs.Positions.{ahead}
-use Rattle.machine_core.specs.Matching.{matches}
+use Rattle.machine_core.specs.Matching.{breakpoints_alone, matches}
+use Rattle.machine_core.specs.Search.{found_or}
 use Rattle.machine_core.proofs.Ends.{length_ahead, ahead_length}
 use Rattle.slot_sched.specs.declared.armed.Armed.{Armed}
 use Rattle.slot_sched.specs.Armed.{breakpoint_of, IsArmed}
-use Rattle.slot_sched.specs.Scan.{found_or, searched, total_of, position_stops, down_from}
+use Rattle.slot_sched.specs.Scan.{searched, total_of, position_stops, down_from}
 use Rattle.slot_sched.proofs.Matches.{told, position_is}
 use Rattle.slot_sched.proofs.Nearest.{forward_looks, backward_looks, found_alike, from_below, down_below}
 
@@ -25,10 +26,10 @@ module _ (parts : TableParts) (s : Samples) (armed : List Armed) (own : All (IsA
   of_count way found near positions within is looks edge =
       ap₂ found_or
       (is
-      ∙ found_alike (total_of parts s) (position_stops parts s armed want) (matches (told parts s) (map breakpoint_of armed) want) (position_is parts s armed own want) positions within
-      ∙ ap (find (matches (told parts s) (map breakpoint_of armed) want)) (sym looks))
+      ∙ found_alike (total_of parts s) (position_stops parts s armed want) (matches (told parts s) (breakpoints_alone (map breakpoint_of armed)) want) (position_is parts s armed own want) positions within
+      ∙ ap (find (matches (told parts s) (breakpoints_alone (map breakpoint_of armed)) want)) (sym looks))
       (edge ∙ ap (λ n. nat_lt n 64) (sym (ahead_length (total_of parts s) way place)))
-      ∙ ap (λ n. found_or (find (matches (told parts s) (map breakpoint_of armed) want) (take 64 (ahead (s.cycles * n) way place))) (nat_lt (length (ahead (s.cycles * n) way place)) 64))
+      ∙ ap (λ n. found_or (find (matches (told parts s) (breakpoints_alone (map breakpoint_of armed)) want) (take 64 (ahead (s.cycles * n) way place))) (nat_lt (length (ahead (s.cycles * n) way place)) 64))
       (sym (length-map parts.slots (shows_by parts)))
 
   pub forward_is : (total end : ℕ) (found : Option ℕ) (near : Bool) → total ≡ total_of parts s → end ≡ min total (place + 64)

@@ -55,3 +55,14 @@ pub each_wide : (s : Samples) (cursor : Option ℕ) (R : NodeId → Sample → T
 each_wide s cursor R o cond e h set tells =
     each_weaker (IsNodeOf s) (λ n w. (found : Sample) → R n found → HasWidth w found)
     (λ n w own found r. wide s cursor n w found set own (tells n found r).0 (tells n found r).1) (cond_tree cond) (test_told s o cond e h).1
+
+-- the same of an expression that can be evaluated
+pub each_asked_for : (s : Samples) (Q : NodeId → ℕ → Type 0) (tree : Tree Ref) → EachNode (IsNodeOf s) tree → ((n : NodeId) (w : ℕ) → n.0 < s.nodes → Q n w) → EachNode Q tree
+each_asked_for s Q tree own ask = each_weaker (IsNodeOf s) Q (λ n w h. ask n w h.within) tree own
+
+pub each_has_width : (s : Samples) (cursor : Option ℕ) (R : NodeId → Sample → Type 0) (tree : Tree Ref) → EachNode (IsNodeOf s) tree → IsSet s cursor
+    → ((n : NodeId) (found : Sample) → R n found → (found ≡ cycle_samples s cursor n.0) × IsValue found)
+    → EachNode (λ n w. (found : Sample) → R n found → HasWidth w found) tree
+each_has_width s cursor R tree own set tells =
+    each_weaker (IsNodeOf s) (λ n w. (found : Sample) → R n found → HasWidth w found)
+    (λ n w h found r. wide s cursor n w found set h (tells n found r).0 (tells n found r).1) tree own

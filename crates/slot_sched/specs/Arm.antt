@@ -13,11 +13,11 @@ use Rattle.cond_lang.specs.Judged.{judged}
 use Rattle.cond_lang.specs.TextShown.{text_expr, text_offsets}
 use Rattle.machine_core.specs.declared.reply.Body.{Body}
 use Rattle.machine_core.specs.declared.reply.Body.TheVariants as body
-use Rattle.machine_core.specs.Arming.{bit_refusal, limit_refusal, unless_refused}
+use Rattle.machine_core.specs.Arming.{fit_refusal, limit_refusal, unless_refused, Sited}
 use Rattle.machine_core.specs.Reading.{Reader, Reading, Condition, NoCondition}
 use Rattle.machine_core.specs.Matching.{Breakpoint, is_wanted}
 use Rattle.slot_sched.specs.declared.arm.Unarmed.{Unarmed}
-use Rattle.slot_sched.specs.Armed.{trap_place, traps_of, IsTrap}
+use Rattle.slot_sched.specs.Armed.{trap_place, traps_of, IsTrapOf}
 use Rattle.slot_sched.specs.declared.fault.ArmFault.{ArmFault}
 use Rattle.slot_sched.specs.declared.fault.ArmFault.TheVariants as fault
 
@@ -85,10 +85,10 @@ as_read read (Some text) = reading_made (read text)
 abbrev pub text_parts : CondText → Expr × List ℕ
 text_parts t = (text_expr t, text_offsets t)
 
--- why a condition is none at a slot of an instance
-abbrev pub refused_at : TableParts → Option CondText → ℕ × ℕ → Option Body
-refused_at parts None at = None
-refused_at parts (Some text) at = bit_refusal at.0 (judged (scope_of (binding_of parts at.0 at.1)) (text_expr text) (text_offsets text))
+-- why an expression does not fit at a slot of an instance: no bit where one is wanted, or a name without a value
+abbrev pub refused_at : (bit : Bool) → TableParts → Option CondText → ℕ × ℕ → Option Body
+refused_at bit parts None at = None
+refused_at bit parts (Some text) at = fit_refusal bit at.0 (judged (scope_of (binding_of parts at.0 at.1)) (text_expr text) (text_offsets text))
 
 -- the instances that have a slot; where one was named, that one alone
 abbrev pub traps_in : TableParts → Option ℕ → ℕ → List (ℕ × ℕ)
@@ -105,16 +105,23 @@ pub record IsSpot (parts : TableParts) (spot : ℕ × ℕ) : Type 0 where
 abbrev pub as_breakpoint : ℕ → Unarmed → Breakpoint
 as_breakpoint number u = record { number = number; slots = u.slots.items; instance = u.instance; condition = option_map text_expr u.text }
 
+-- what was found for it, as the machine finds it
+abbrev pub sited_of : Unarmed → Sited
+sited_of u = record { slots = u.slots.items; instance = u.instance; expr = option_map text_expr u.text }
+
 -- what the machine arms, where so many are armed and this is the next number; or why it is refused, unless memory ran out
 abbrev pub IsFor : (armed next : ℕ) → Result Unarmed ArmFault → Result Breakpoint Body → Type 0
 IsFor armed next (Ok u) made = made ≡ unless_refused (limit_refusal armed next) (as_breakpoint next u)
 IsFor armed next (Err end) made = IsRefusal (answer_for end) made
 
 -- it waits at each instance that it is armed for, and at no other; slot after slot
-pub record IsArmable (parts : TableParts) (u : Unarmed) : Type 0 where
+pub record IsPlaced (bit : Bool) (parts : TableParts) (u : Unarmed) : Type 0 where
   pub places : map trap_place u.traps.items ≡ traps_of parts u.instance u.slots.items
-  pub each : All (IsTrap parts u.text) u.traps.items
+  pub each : All (IsTrapOf bit parts u.text) u.traps.items
   pub in_order : IsNonDecreasingBy (λ t. t.slot) u.traps.items
+
+abbrev pub IsArmable : TableParts → Unarmed → Type 0
+IsArmable parts u = IsPlaced true parts u
 
 -- the breakpoint that the machine arms there, under this number, behind those that were; or why it is refused, unless memory ran out
 abbrev pub Arms : Result ℕ ArmFault → Result Breakpoint Body → (old new : List Breakpoint) → Type 0

@@ -1,5 +1,5 @@
 -- The breakpoints that a schedule holds, and when they are those of a table.
-use Rattle.std.specs.Prelude.{◌≡◌, ℕ, ◌+◌, ◌<◌, ◌==◌, Bool, List, length, map, filter, Option, Some, None, Ok, option_map, All, Contains}
+use Rattle.std.specs.Prelude.{◌≡◌, ℕ, ◌+◌, ◌<◌, ◌==◌, Bool, true, false, List, length, map, filter, Option, Some, None, Ok, option_map, All, Contains}
 use Rattle.std.specs.List.{flat_map}
 use Rattle.symtab.specs.declared.parts.TableParts.{TableParts}
 use Rattle.symtab.specs.Lookups.{instances_of, binding_of}
@@ -50,20 +50,32 @@ traps_of parts named slots = flat_map (λ k. map (λ i. (k, i)) (filter (is_want
 abbrev pub trap_place : Trap → ℕ × ℕ
 trap_place t = (t.slot, t.instance)
 
--- a condition of width 1 is the text's, with its names found at a slot of an instance, where each has a value; there is none where
--- there is no text
-abbrev pub IsBoundAt : TableParts → (slot instance : ℕ) → Option CondText → Option Cond → Type 0
-IsBoundAt parts k i None None = Unit {0}
-IsBoundAt parts k i None (Some cond) = ⊥
-IsBoundAt parts k i (Some text) None = ⊥
-IsBoundAt parts k i (Some text) (Some cond) =
-    (cond_width cond ≡ 1) × (cond_tree cond ≡ bound_by (binding_of parts k i) (text_expr text))
-    × (judged (scope_of (binding_of parts k i)) (text_expr text) (text_offsets text) ≡ Ok 1)
+-- a bit has width 1, where one is wanted
+abbrev pub IsBit : (bit : Bool) → ℕ → Type 0
+IsBit true width = width ≡ 1
+IsBit false width = Unit {0}
 
-pub record IsTrap (parts : TableParts) (text : Option CondText) (t : Trap) : Type 0 where
+-- an expression is the text's, with its names found at a slot of an instance, where each has a value; there is none where there is no text
+abbrev pub IsFittingAt : (bit : Bool) → TableParts → (slot instance : ℕ) → Option CondText → Option Cond → Type 0
+IsFittingAt bit parts k i None None = Unit {0}
+IsFittingAt bit parts k i None (Some cond) = ⊥
+IsFittingAt bit parts k i (Some text) None = ⊥
+IsFittingAt bit parts k i (Some text) (Some cond) =
+    IsBit bit (cond_width cond) × (cond_tree cond ≡ bound_by (binding_of parts k i) (text_expr text))
+    × (judged (scope_of (binding_of parts k i)) (text_expr text) (text_offsets text) ≡ Ok (cond_width cond))
+
+-- a condition is a bit
+abbrev pub IsBoundAt : TableParts → (slot instance : ℕ) → Option CondText → Option Cond → Type 0
+IsBoundAt parts k i text cond = IsFittingAt true parts k i text cond
+
+-- an expression of a text waits at a slot of an instance
+pub record IsTrapOf (bit : Bool) (parts : TableParts) (text : Option CondText) (t : Trap) : Type 0 where
   pub slot : t.slot < length parts.slots
   pub instance : Contains (instances_of parts t.slot) t.instance
-  pub bound : IsBoundAt parts t.slot t.instance text t.cond
+  pub bound : IsFittingAt bit parts t.slot t.instance text t.cond
+
+abbrev pub IsTrap : TableParts → Option CondText → Trap → Type 0
+IsTrap parts text t = IsTrapOf true parts text t
 
 -- a breakpoint waits at each instance that it was armed for, and at no other
 pub record IsArmed (parts : TableParts) (a : Armed) : Type 0 where

@@ -2,7 +2,6 @@ pub mod Arm
 pub mod Armed
 pub mod Waiting
 pub mod Scan
-pub mod Laws
 pub mod Sample
 pub mod Spans
 pub mod Spots

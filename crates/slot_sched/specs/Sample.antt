@@ -19,8 +19,8 @@ use Rattle.trace_core.specs.declared.scan.Way.{Way}
 use Rattle.world_core.specs.Seen.{seen}
 use Rattle.trace_world.specs.TraceWorld.{trace_world}
 use Rattle.machine_core.specs.Matching.{Breakpoint}
-use Rattle.slot_sched.specs.declared.found.Found.{Found}
-use Rattle.slot_sched.specs.declared.found.Found.TheVariants as found
+use Rattle.machine_core.specs.declared.found.Found.{Found}
+use Rattle.machine_core.specs.declared.found.Found.TheVariants as found
 use Rattle.slot_sched.specs.Scan.{searched}
 
 abbrev bits : ℕ → ℕ → Bits

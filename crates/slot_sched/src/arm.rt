@@ -8,15 +8,15 @@ ghost use Rattle.cond_lang.specs.Bound.{scope_of};
 ghost use Rattle.cond_lang.specs.Judged.{Refusal, judged};
 ghost use Rattle.cond_lang.specs.TextShown.{text_expr, text_offsets};
 ghost use Rattle.machine_core.specs.Matching.{is_wanted};
-ghost use Rattle.slot_sched.specs.Armed.{trap_place, traps_of, IsBoundAt, IsTrap};
+ghost use Rattle.slot_sched.specs.Armed.{trap_place, traps_of, IsBit, IsFittingAt, IsTrapOf};
 ghost use Rattle.cond_lang.specs.Shown.{cond_tree, cond_width};
-ghost use Rattle.machine_core.specs.Arming.{bit_refusal, first_of, breakpoint_on};
+ghost use Rattle.machine_core.specs.Arming.{bit_refusal, value_refusal, fit_refusal, first_of, breakpoint_on, sited_on};
 ghost use Rattle.symtab.specs.Lookups.{instances_of, binding_of};
 ghost use Rattle.machine_core.specs.Reading.{Reader, IsReader};
 ghost use Rattle.world_core.specs.Seen.{seen};
 ghost use Rattle.trace_core.specs.Samples.{Samples};
 ghost use Rattle.trace_world.specs.TraceWorld.{trace_world};
-ghost use Rattle.slot_sched.specs.Arm.{answer_for, IsTold, TellsMade, TellsNone, has_slot, named_has, asked_instance, as_read, text_parts, refused_at, traps_in, IsSpot, IsFor, IsArmable};
+ghost use Rattle.slot_sched.specs.Arm.{answer_for, IsTold, TellsMade, TellsNone, has_slot, named_has, asked_instance, as_read, text_parts, refused_at, traps_in, IsSpot, IsFor, sited_of, IsPlaced, IsArmable};
 
 use crate::armed::Trap;
 use crate::fault::ArmFault;
@@ -26,13 +26,13 @@ use std::alloc::{AllocError, Global};
 use symtab::Table;
 use text_core::{NoMemory, Text};
 
-/// What is armed as a breakpoint, but for its number.
+/// What is armed as a breakpoint, but for its number; and what was found for a watch.
 #[derive(Drop)]
 pub struct Unarmed {
-    pub(crate) slots: Vec<u32>,
-    pub(crate) instance: Option<u32>,
-    pub(crate) text: Option<CondText>,
-    pub(crate) traps: Vec<Trap>,
+    pub slots: Vec<u32>,
+    pub instance: Option<u32>,
+    pub text: Option<CondText>,
+    pub traps: Vec<Trap>,
 }
 
 impl Unarmed {
@@ -135,9 +135,10 @@ pub(crate) fn read_text(alloc: Global, cond: Option<&[u8]>) -> Result<Option<Con
     }
 }
 
-/// Why a text is no condition at a slot, by the end of its binding there.
+/// Why a text does not fit at a slot, by the end of its binding there.
 fn fault_of(end: BindEnd, slot: u32) -> ArmFault
-    ensures { (judged : Result ℕ Refusal) → Refuses end judged → IsTold (answer_for result) (bit_refusal slot judged) }
+    ensures bit { (judged : Result ℕ Refusal) → Refuses end judged → IsTold (answer_for result) (bit_refusal slot judged) }
+    ensures value { (judged : Result ℕ Refusal) → Refuses end judged → IsTold (answer_for result) (value_refusal slot judged) }
 {
     match end {
         BindEnd::Unknown { name } => ArmFault::BadCondName { name },
@@ -148,36 +149,37 @@ fn fault_of(end: BindEnd, slot: u32) -> ArmFault
     }
 }
 
-/// A condition that has width 1.
-fn bit(cond: Cond) -> Result<Cond, ArmFault>
+/// An expression that is a bit, where one is wanted.
+fn demanded(cond: Cond, bit: bool) -> Result<Cond, ArmFault>
     ensures same { IfOk result (λ made. (cond_tree made ≡ cond_tree cond) × (cond_width made ≡ cond_width cond)) }
-    ensures bit { IfOk result (λ made. cond_width made ≡ 1) }
-    ensures tells { (slot : ℕ) → TellsNone result (bit_refusal slot (Ok (cond_width cond))) }
+    ensures bit { IfOk result (λ made. IsBit bit (cond_width made)) }
+    ensures tells { (slot : ℕ) → TellsNone result (fit_refusal bit slot (Ok (cond_width cond))) }
 {
-    if cond.width() != 1 {
+    if bit && cond.width() != 1 {
         return Err(ArmFault::BadCondAt { offset: 0 });
     }
     Ok(cond)
 }
 
-/// The condition that a text is at a slot of an instance.
+/// The expression that a text is at a slot of an instance.
 fn bound(
     alloc: Global,
     table: &Table,
     slot: u32,
     instance: u32,
     text: &CondText,
+    bit: bool,
 ) -> Result<Cond, ArmFault>
     requires { Contains (instances_of table.now slot) instance }
-    ensures tells { TellsNone result (bit_refusal slot (judged (scope_of (binding_of table.now slot instance)) (text_expr text.now) (text_offsets text.now))) }
-    ensures made { IfOk result (λ cond. IsBoundAt table.now slot instance (Some text.now) (Some cond)) }
+    ensures tells { TellsNone result (fit_refusal bit slot (judged (scope_of (binding_of table.now slot instance)) (text_expr text.now) (text_offsets text.now))) }
+    ensures made { IfOk result (λ cond. IsFittingAt bit table.now slot instance (Some text.now) (Some cond)) }
 {
     match bind(
         alloc,
         text,
         &|name: &str| table.binding(slot, instance, name),
     ) {
-        Ok(cond) => bit(cond),
+        Ok(cond) => demanded(cond, bit),
         Err(end) => Err(fault_of(end, slot)),
     }
 }
@@ -189,14 +191,15 @@ fn trap_at(
     slot: u32,
     instance: u32,
     text: &Option<CondText>,
+    bit: bool,
 ) -> Result<Trap, ArmFault>
     requires { Contains (instances_of table.now slot) instance }
-    ensures tells { TellsNone result (refused_at table.now text.now (slot, instance)) }
+    ensures tells { TellsNone result (refused_at bit table.now text.now (slot, instance)) }
     ensures place { IfOk result (λ t. trap_place t ≡ (slot, instance)) }
-    ensures bound { IfOk result (λ t. IsBoundAt table.now slot instance text.now t.cond) }
+    ensures bound { IfOk result (λ t. IsFittingAt bit table.now slot instance text.now t.cond) }
 {
     let cond = match text {
-        Some(text) => Some(bound(alloc, table, slot, instance, text)?),
+        Some(text) => Some(bound(alloc, table, slot, instance, text, bit)?),
         None => None,
     };
     Ok(Trap {
@@ -260,16 +263,17 @@ fn traps_at(
     table: &Table,
     spots: &[(u32, u32)],
     text: &Option<CondText>,
+    bit: bool,
 ) -> Result<Vec<Trap>, ArmFault>
     requires { All (IsSpot table.now) spots.now }
-    ensures tells { TellsNone result (first_of (map (refused_at table.now text.now) spots.now)) }
+    ensures tells { TellsNone result (first_of (map (refused_at bit table.now text.now) spots.now)) }
     ensures places { IfOk result (λ traps. map trap_place traps.items ≡ spots.now) }
-    ensures each { IfOk result (λ traps. All (IsTrap table.now text.now) traps.items) }
+    ensures each { IfOk result (λ traps. All (IsTrapOf bit table.now text.now) traps.items) }
 {
     let mut traps = Vec::new(alloc);
     for spot in spots {
         let (slot, instance) = *spot;
-        let trap = trap_at(alloc, table, slot, instance, text)?;
+        let trap = trap_at(alloc, table, slot, instance, text, bit)?;
         traps.push(trap)?;
     }
     Ok(traps)
@@ -282,18 +286,49 @@ fn traps_for(
     slots: &[u32],
     named: Option<u32>,
     text: &Option<CondText>,
+    bit: bool,
 ) -> Result<Vec<Trap>, ArmFault>
     requires { All (λ k. k < length table.now.slots) slots.now }
-    ensures tells { TellsNone result (first_of (map (refused_at table.now text.now) (traps_of table.now named slots.now))) }
+    ensures tells { TellsNone result (first_of (map (refused_at bit table.now text.now) (traps_of table.now named slots.now))) }
     ensures places { IfOk result (λ traps. map trap_place traps.items ≡ traps_of table.now named slots.now) }
-    ensures each { IfOk result (λ traps. All (IsTrap table.now text.now) traps.items) }
+    ensures each { IfOk result (λ traps. All (IsTrapOf bit table.now text.now) traps.items) }
 {
     let spots = spots_of(alloc, table, slots, named)?;
-    traps_at(alloc, table, &spots, text)
+    traps_at(alloc, table, &spots, text, bit)
 }
 
-/// What is armed on a line: in one instance alone, if a path is given; where a condition holds, if a text is given. Or why nothing is, in
-/// the order in which `Schedule::arm` refuses, but for the number of breakpoints.
+/// What is armed on a line, as a breakpoint or a watch: in one instance alone, if a path is given; with an expression, if a text is given,
+/// which is to be a bit, where that is wanted. Or why nothing is, in the order in which `Schedule::arm` refuses, but for the number of those
+/// that are armed.
+pub fn sited(
+    alloc: Global,
+    table: &Table,
+    line: u64,
+    path: Option<&str>,
+    text: Option<&[u8]>,
+    bit: bool,
+) -> Result<Unarmed, ArmFault>
+    ensures told { (read : Reader) (s : Samples) → IsReader read → TellsMade sited_of result (sited_on read (seen (trace_world table.now s)) bit line (option_map (λ p. p.now) path.entry) (option_map (λ t. t.now) text.entry)) }
+    ensures placed { IfOk result (IsPlaced bit table.now) }
+{
+    let _parts = table.parts();
+    let all = table.slots_on(line);
+    if all.is_empty() {
+        return Err(ArmFault::NoSite { line });
+    }
+    let instance = asked_instance(alloc, table, all, path)?;
+    let slots = slots_for(alloc, table, all, instance)?;
+    let text = read_text(alloc, text)?;
+    let traps = traps_for(alloc, table, &slots, instance, &text, bit)?;
+    Ok(Unarmed {
+        slots,
+        instance,
+        text,
+        traps,
+    })
+}
+
+/// What is armed as a breakpoint: its text is a condition, which is a bit.
 pub fn prepare(
     alloc: Global,
     table: &Table,
@@ -304,19 +339,5 @@ pub fn prepare(
     ensures told { (read : Reader) (s : Samples) (armed next : ℕ) → IsReader read → IsFor armed next result (breakpoint_on read (seen (trace_world table.now s)) armed next line (option_map (λ p. p.now) path.entry) (option_map (λ t. t.now) cond.entry)) }
     ensures armable { IfOk result (IsArmable table.now) }
 {
-    let _parts = table.parts();
-    let all = table.slots_on(line);
-    if all.is_empty() {
-        return Err(ArmFault::NoSite { line });
-    }
-    let instance = asked_instance(alloc, table, all, path)?;
-    let slots = slots_for(alloc, table, all, instance)?;
-    let text = read_text(alloc, cond)?;
-    let traps = traps_for(alloc, table, &slots, instance, &text)?;
-    Ok(Unarmed {
-        slots,
-        instance,
-        text,
-        traps,
-    })
+    sited(alloc, table, line, path, cond, true)
 }

@@ -4,12 +4,12 @@ ghost use Rattle.std.specs.List.Sorted.{IsNonDecreasingBy};
 
 use cond_lang::{Cond, CondText};
 
-/// Where a breakpoint waits: a slot, an instance, and the condition there, if there is one.
+/// Where a breakpoint or a watch waits: a slot, an instance, and the expression there, if there is one.
 #[derive(Drop)]
-pub(crate) struct Trap {
-    pub(crate) slot: u32,
-    pub(crate) instance: u32,
-    pub(crate) cond: Option<Cond>,
+pub struct Trap {
+    pub slot: u32,
+    pub instance: u32,
+    pub cond: Option<Cond>,
 }
 
 /// An armed breakpoint: its number, its slots, the instance that was named, if one was, the text of its condition, if there is

@@ -2,14 +2,14 @@
 //!
 //! A search looks at as many positions as one turn of a session. What it looks for is defined in `machine_core`, over the world
 //! that a table and a trace tell; `specs/Waiting.antt` has what this crate looks at instead, slot by slot.
-//! A breakpoint is armed in two steps, `prepare` and `Schedule::commit`; `Schedule::arm` is both.
+//! A breakpoint is armed in two steps, `prepare` and `Schedule::commit`; `Schedule::arm` is both. What `prepare` has in common with a watch is
+//! `sited`.
 #![tactic(auto)]
 
 mod arm;
 mod armed;
 mod armory;
 mod fault;
-mod found;
 mod laws;
 mod sampled;
 mod schedule;
@@ -18,9 +18,9 @@ mod spans;
 mod spot;
 mod stops;
 
-pub use arm::{Unarmed, prepare};
+pub use arm::{Unarmed, prepare, sited};
+pub use armed::Trap;
 pub use fault::ArmFault;
-pub use found::Found;
-pub use laws::{sample_is_searched, turns_by_search};
-pub use sampled::{is_thread, sample_at};
+pub use laws::sample_is_searched;
+pub use sampled::{come_to, is_thread, sample_at};
 pub use schedule::Schedule;

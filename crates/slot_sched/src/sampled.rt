@@ -2,13 +2,16 @@
 
 ghost use Rattle.std.specs.Prelude.{◌≡◌, ◌<◌, Contains};
 ghost use Rattle.symtab.specs.Lookups.{instances_of};
+ghost use Rattle.cond_lang.specs.Bound as bound;
+ghost use Rattle.cond_lang.specs.Bound.{EachNode, bound_value};
+ghost use Rattle.cond_lang.specs.Shown.{cond_tree};
 ghost use Rattle.trace_core.specs.Known.{known, is_one};
 ghost use Rattle.trace_world.specs.Fitting.{FitsTable};
 ghost use Rattle.machine_core.specs.Matching.{is_wanted};
-ghost use Rattle.slot_sched.specs.Waiting.{cycle_samples, IsSet, IsValue, IsTest, is_thread, is_true, test_holds};
+ghost use Rattle.slot_sched.specs.Waiting.{cycle_samples, IsSet, IsValue, IsNodeOf, IsTest, is_thread, is_true, test_holds};
 
 use bv_core::{NodeId, Ref, Sample, Truth};
-use cond_lang::{Cond, truth};
+use cond_lang::{Cond, truth, value_of};
 use symtab::Table;
 use trace_core::Trace;
 
@@ -57,6 +60,21 @@ pub fn is_thread<T: Trace>(table: &Table, trace: &T, slot: u32, instance: u32) -
         Ref::Node(node, _) => is_one(sample_at(trace, node)),
         Ref::Const(value) => value.value() == 1,
     }
+}
+
+/// What an expression comes to. Takes no memory.
+pub fn come_to<T: Trace>(trace: &T, cond: &Cond) -> Sample
+    requires set { IsSet (T.samples trace.now) (T.cursor trace.now) }
+    requires nodes { EachNode (IsNodeOf (T.samples trace.now)) (cond_tree cond.now) }
+    ensures { bound.known result ≡ bound_value (λ node. cycle_samples (T.samples trace.now) (T.cursor trace.now) node.0) (cond_tree cond.now) }
+{
+    let value = |node: NodeId| -> Sample
+        requires set { IsSet (T.samples trace.now) (T.cursor trace.now) }
+        requires node { node.0 < (T.samples trace.now).nodes }
+        ensures sample { result ≡ cycle_samples (T.samples trace.entry.now) (T.cursor trace.entry.now) node.0 }
+        ensures value { IsValue result }
+    { sample_at(trace, node) };
+    value_of(cond, &value)
 }
 
 /// Whether a condition is true.

@@ -18,11 +18,11 @@ ghost use Rattle.slot_sched.specs.Scan.{searched, scanned, total_of, position_st
 ghost use Rattle.symtab.specs.Lookups.{instances_of};
 
 use crate::armed::Armed;
-use crate::found::{Found, place_of, told};
 use crate::sampled::{is_thread, is_wanted};
 use crate::schedule::Schedule;
 use crate::spans::span_at;
 use crate::spot::Spot;
+use machine_core::{Found, place_of, told};
 use symtab::Table;
 use trace_core::{Scanned, Trace, Want, Way};
 

@@ -21,7 +21,7 @@ use Rattle.symtab.specs.Lookups.{instances_of, row_of, enable_of, binding_of}
 use Rattle.symtab.proofs.Rows as rows
 use Rattle.trace_core.specs.Samples.{Samples}
 use Rattle.world_core.specs.World as world
-use Rattle.world_core.specs.World.{shown_by, shown_text, gen_text, name_text, path_in, trail_line, position_text}
+use Rattle.world_core.specs.World.{place_text, shown_by, shown_text, gen_text, name_text, path_in, trail_line, position_text}
 use Rattle.list_core.proofs.Listing.{flat_map_same}
 use Rattle.trace_world.specs.TraceWorld.{is_on, status_by, value_by, gen_of, shows_by, trace_world}
 use Rattle.trail_out.specs.Texts.{variable_text, cells_text, line_text, no_slot, no_instance, path_at, row_text, rows_text, slot_text, cycle_text, TextsAreTrails}
@@ -100,7 +100,7 @@ module _ (parts : TableParts) (table : IsTable parts) (s : Samples) (t : ℕ) wh
       line_same : line_text t slot (path_at parts i) (s.sample t) row.cells ≡ trail_line t (shows_by parts slot) (path_in (trace_world parts s) i) ((trace_world parts s).shown t k i)
       line_same =
           ap (λ p. line_text t slot p (s.sample t) row.cells) (path_same parts.instances i)
-          ∙ ap₂ (λ (g c : List ℕ). decimal t ++ codes " " ++ decimal slot.line ++ codes " " ++ path_in (trace_world parts s) i ++ g ++ c ++ codes "\n") (variables_same slot.gens)
+          ∙ ap₂ (λ (g c : List ℕ). decimal t ++ codes " " ++ place_text slot.line ++ codes " " ++ path_in (trace_world parts s) i ++ g ++ c ++ codes "\n") (variables_same slot.gens)
           (cells_same (s.sample t) (λ x. binding_of parts k i x) slot.names row.cells long binding_is)
 
     rows_same : (n : ℕ) (is : List ℕ) (list : List Row) → length is ≡ length list

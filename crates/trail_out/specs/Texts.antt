@@ -15,7 +15,7 @@ use Rattle.symtab.specs.declared.parts.TableParts.{TableParts}
 use Rattle.symtab.specs.Shape.{IsTable}
 use Rattle.symtab.specs.Lookups.{instances_of}
 use Rattle.trace_core.specs.Samples.{Samples}
-use Rattle.world_core.specs.World.{Shown, Value, Unknown, shown_by, shown_text, trail_text}
+use Rattle.world_core.specs.World.{Shown, Value, Unknown, place_text, shown_by, shown_text, trail_text}
 use Rattle.trace_world.specs.TraceWorld.{is_on, status_by, value_by, trace_world}
 
 -- what is shown of a sample
@@ -39,10 +39,10 @@ cells_text samples [] cells = []
 cells_text samples (x ∷ names) [] = []
 cells_text samples (x ∷ names) (cell ∷ cells) = cell_text samples x cell ++ cells_text samples names cells
 
--- the cycle, the line, the path, the generator variables, and the names in scope, joined by one blank
+-- the cycle, the place, the path, the generator variables, and the names in scope, joined by one blank
 abbrev pub line_text : ℕ → Slot → Name → (ℕ → Sample) → List Binding → List ℕ
 line_text cycle slot path samples cells =
-    decimal cycle ++ codes " " ++ decimal slot.line ++ codes " " ++ path ++ flat_map variable_text slot.gens ++ cells_text samples slot.names cells ++ codes "\n"
+    decimal cycle ++ codes " " ++ place_text slot.line ++ codes " " ++ path ++ flat_map variable_text slot.gens ++ cells_text samples slot.names cells ++ codes "\n"
 
 -- a slot and an instance of no table
 abbrev pub no_slot : Slot

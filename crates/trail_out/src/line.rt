@@ -3,13 +3,14 @@
 ghost use Rattle.std.specs.Prelude.{◌≡◌, ◌<◌, ◌++◌, All, IsSome, OnOk, codes, length};
 ghost use Rattle.std.specs.Fmt.{decimal};
 ghost use Rattle.std.specs.List.{flat_map};
-ghost use Rattle.world_core.specs.World.{shown_text};
+ghost use Rattle.world_core.specs.World.{place_text, shown_text};
 ghost use Rattle.trace_core.specs.Known.{known};
 ghost use Rattle.trace_world.specs.TraceWorld.{found_by};
 ghost use Rattle.trail_out.specs.Texts.{sample_shown, cell_shown, variable_text, cell_text, cells_text, line_text};
 ghost use Rattle.trail_out.specs.Written.{samples_at, RefStands, CellStands};
 
 use bv_core::{Binding, Ref, Sample, text_of};
+use places::{file_of, line_in};
 use std::alloc::Global;
 use symtab::{Cells, GenVariable, Slot};
 use text_core::{NoMemory, Text};
@@ -122,12 +123,28 @@ fn push_cells<T: Trace>(
     Ok(())
 }
 
-/// Adds the cycle and the line, with a blank behind each.
-fn push_head(alloc: Global, text: &mut Vec<u8>, cycle: u64, line: u32) -> Result<(), NoMemory>
-    ensures { OnOk result (text.new.items ≡ text.old.items ++ (decimal cycle ++ codes " " ++ decimal line ++ codes " ")) }
+/// Adds a place as it is told in one word: the line alone in file 0, and FILE:LINE in another.
+fn push_place(alloc: Global, text: &mut Vec<u8>, place: u32) -> Result<(), NoMemory>
+    ensures { OnOk result (text.new.items ≡ text.old.items ++ place_text place) }
 {
-    let head = format!(in alloc; "{cycle} {line} ")?;
+    let (file, line) = (file_of(place), line_in(place));
+    if file != 0 {
+        let front = format!(in alloc; "{file}:")?;
+        text.extend_from_slice(front.as_bytes())?;
+    }
+    let digits = format!(in alloc; "{line}")?;
+    text.extend_from_slice(digits.as_bytes())?;
+    Ok(())
+}
+
+/// Adds the cycle and the place, with a blank behind each.
+fn push_head(alloc: Global, text: &mut Vec<u8>, cycle: u64, place: u32) -> Result<(), NoMemory>
+    ensures { OnOk result (text.new.items ≡ text.old.items ++ (decimal cycle ++ codes " " ++ place_text place ++ codes " ")) }
+{
+    let head = format!(in alloc; "{cycle} ")?;
     text.extend_from_slice(head.as_bytes())?;
+    push_place(alloc, text, place)?;
+    text.push(b' ')?;
     Ok(())
 }
 

@@ -6,7 +6,7 @@ use Rattle.std.specs.Fmt.{decimal}
 use Rattle.std.proofs.lemmas.Option.{slice_get_within}
 use Rattle.exec_core.specs.Block.{Name}
 use Rattle.list_core.specs.Lists.{IsIn, from}
-use Rattle.world_core.specs.World.{Shown, Shows, World, shown_text, gen_text, name_text, path_in, trail_line, position_text, cycle_text, AreSame, SameTrails}
+use Rattle.world_core.specs.World.{Shown, Shows, World, place_text, shown_text, gen_text, name_text, path_in, trail_line, position_text, cycle_text, AreSame, SameTrails}
 use Rattle.list_core.proofs.Listing.{flat_map_same, from_in}
 
 -- an element of a numbered list stands at its number
@@ -24,7 +24,7 @@ module _ (v w : World) (h : AreSame v w) (t : ℕ) (inside : t < w.cycles) where
   line_same : (k i : ℕ) (shows : Shows) → slice_get w.slots k ≡ Some shows → IsIn i (w.threads t k)
       → trail_line t shows (path_in v i) (v.shown t k i) ≡ trail_line t shows (path_in w i) (w.shown t k i)
   line_same k i shows at thread =
-      ap₂ (λ (p rest : List ℕ). decimal t ++ codes " " ++ decimal shows.line ++ codes " " ++ p ++ flat_map gen_text shows.gens ++ rest ++ codes "\n")
+      ap₂ (λ (p rest : List ℕ). decimal t ++ codes " " ++ place_text shows.line ++ codes " " ++ p ++ flat_map gen_text shows.gens ++ rest ++ codes "\n")
       (ap (λ paths. slice_index_or paths i (codes "")) h.paths)
       (names_same (v.shown t k i) (w.shown t k i) shows.names (λ x j. h.shown t k i x inside thread (record { shows = shows; slot = at; name = j })))
 

@@ -1,7 +1,8 @@
 -- What a debugger walks: positions, their threads, and what names have there; and the text of a trail through it.
-use Rattle.std.specs.Prelude.{◌≡◌, ℕ, ◌<◌, ℤ, List, ◌++◌, length, codes, Option, Some, None, slice_get, slice_index_or}
+use Rattle.std.specs.Prelude.{◌≡◌, ℕ, ◌<◌, ◌==◌, ℤ, List, ◌++◌, length, codes, Option, Some, None, slice_get, slice_index_or, if◌then◌else◌}
 use Rattle.std.specs.List.{flat_map, enumerate_from}
 use Rattle.std.specs.Fmt.{decimal, signed_decimal}
+use Rattle.places.specs.Places.{file_of, line_in}
 use Rattle.bv_core.specs.Value.{Bits}
 use Rattle.bv_core.specs.Text as text
 use Rattle.exec_core.specs.Block.{Name}
@@ -15,7 +16,7 @@ pub data Status : Type 0 where
   IsRemoved : Status
   HasWidth : (width : ℕ) → Status
 
--- a statement as it is shown: its line, the generator variables at it, the names in scope, and the instances that have it, in
+-- a statement as it is shown: its place, the generator variables at it, the names in scope, and the instances that have it, in
 -- preorder
 pub record Shows : Type 0 where
   pub line : ℕ
@@ -93,10 +94,14 @@ gen_text g = codes " " ++ g.0 ++ codes "=" ++ signed_decimal g.1
 abbrev pub name_text : (Name → Shown) → Name → List ℕ
 name_text shown x = codes " " ++ x ++ codes "=" ++ shown_text (shown x)
 
--- the cycle, the line, the path, the generator variables, and the names in scope, joined by one blank
+-- a place in one word: the line alone in file 0, and FILE:LINE in another
+abbrev pub place_text : ℕ → List ℕ
+place_text at = if file_of at == 0 then decimal (line_in at) else decimal (file_of at) ++ codes ":" ++ decimal (line_in at)
+
+-- the cycle, the place, the path, the generator variables, and the names in scope, joined by one blank
 abbrev pub trail_line : ℕ → Shows → Name → (Name → Shown) → List ℕ
 trail_line cycle slot path shown =
-    decimal cycle ++ codes " " ++ decimal slot.line ++ codes " " ++ path ++ flat_map gen_text slot.gens ++ flat_map (name_text shown) slot.names ++ codes "\n"
+    decimal cycle ++ codes " " ++ place_text slot.line ++ codes " " ++ path ++ flat_map gen_text slot.gens ++ flat_map (name_text shown) slot.names ++ codes "\n"
 
 -- the path of an instance
 abbrev pub path_in : World → ℕ → Name

@@ -37,16 +37,16 @@ pub returns-in-Some-clause-front : goal.returns-in-Some-clause-front
 returns-in-Some-clause-front g c = λ late. trace_called (g.F.Files.told c.args.files.now) c.args.words.now (names_as c.in-Some.replay) _ c.in-Some.ensures (c.run_replay.ensures.front late)
 
 pub returns-in-Some-clause-asked : goal.returns-in-Some-clause-asked
-returns-in-Some-clause-asked g c = trace_files c.args.words.now (names_as c.in-Some.replay) _ _ c.in-Some.ensures c.run_replay.ensures.asked
+returns-in-Some-clause-asked g c = trace_files (g.F.Files.told c.args.files.now) c.args.words.now (names_as c.in-Some.replay) _ _ c.in-Some.ensures c.run_replay.ensures.asked
 
 pub returns-in-Some-clause-row : goal.returns-in-Some-clause-row
 returns-in-Some-clause-row g c = trace_row c.args.words.now (names_as c.in-Some.replay) c.run_replay.result c.in-Some.ensures c.run_replay.ensures.statuses
 
 pub returns-in-Some-clause-files : goal.returns-in-Some-clause-files
-returns-in-Some-clause-files g c = trace_asked c.args.words.now (names_as c.in-Some.replay) c.run_replay.result _ _ _ _ c.in-Some.ensures c.run_replay.ensures.files
+returns-in-Some-clause-files g c = trace_asked (g.F.Files.told c.args.files.now) c.args.words.now (names_as c.in-Some.replay) c.run_replay.result _ _ _ _ c.in-Some.ensures c.run_replay.ensures.files
 
 pub returns-in-Some-clause-unread : goal.returns-in-Some-clause-unread
-returns-in-Some-clause-unread g c = λ seven. trace_unread _ _ _ _ c.args.words.now (names_as c.in-Some.replay) c.in-Some.ensures (c.run_replay.ensures.unread seven)
+returns-in-Some-clause-unread g c = λ seven. trace_unread _ _ (g.F.Files.told c.args.files.now) _ _ c.args.words.now (names_as c.in-Some.replay) c.in-Some.ensures (c.run_replay.ensures.unread seven)
 
 pub returns-in-Some-clause-compiled : goal.returns-in-Some-clause-compiled
 returns-in-Some-clause-compiled g c = λ zero. trace_compiles (g.F.Files.told c.args.files.now) c.args.words.now (names_as c.in-Some.replay) c.in-Some.ensures
@@ -87,16 +87,16 @@ pub returns-in-Some-read_demo-clause-front : goal.returns-in-Some-read_demo-clau
 returns-in-Some-read_demo-clause-front g c = λ late. chain_called (g.F.Files.told c.args.files.now) c.args.words.now (given_as c.in-Some-read_demo.demo) _ c.in-None.ensures c.in-Some-read_demo.ensures (c.run_demo.ensures.front late)
 
 pub returns-in-Some-read_demo-clause-asked : goal.returns-in-Some-read_demo-clause-asked
-returns-in-Some-read_demo-clause-asked g c = chain_files c.args.words.now (given_as c.in-Some-read_demo.demo) _ _ c.in-None.ensures c.in-Some-read_demo.ensures c.run_demo.ensures.asked
+returns-in-Some-read_demo-clause-asked g c = chain_files (g.F.Files.told c.args.files.now) c.args.words.now (given_as c.in-Some-read_demo.demo) _ _ c.in-None.ensures c.in-Some-read_demo.ensures c.run_demo.ensures.asked
 
 pub returns-in-Some-read_demo-clause-row : goal.returns-in-Some-read_demo-clause-row
 returns-in-Some-read_demo-clause-row g c = chain_row c.args.words.now (given_as c.in-Some-read_demo.demo) c.run_demo.result c.in-None.ensures c.in-Some-read_demo.ensures c.run_demo.ensures.statuses
 
 pub returns-in-Some-read_demo-clause-files : goal.returns-in-Some-read_demo-clause-files
-returns-in-Some-read_demo-clause-files g c = chain_asked c.args.words.now (given_as c.in-Some-read_demo.demo) c.run_demo.result _ _ _ _ c.in-None.ensures c.in-Some-read_demo.ensures c.run_demo.ensures.files
+returns-in-Some-read_demo-clause-files g c = chain_asked (g.F.Files.told c.args.files.now) c.args.words.now (given_as c.in-Some-read_demo.demo) c.run_demo.result _ _ _ _ c.in-None.ensures c.in-Some-read_demo.ensures c.run_demo.ensures.files
 
 pub returns-in-Some-read_demo-clause-unread : goal.returns-in-Some-read_demo-clause-unread
-returns-in-Some-read_demo-clause-unread g c = λ seven. chain_unread _ _ _ _ c.args.words.now (given_as c.in-Some-read_demo.demo) c.in-None.ensures c.in-Some-read_demo.ensures (c.run_demo.ensures.unread seven)
+returns-in-Some-read_demo-clause-unread g c = λ seven. chain_unread _ _ (g.F.Files.told c.args.files.now) _ _ c.args.words.now (given_as c.in-Some-read_demo.demo) c.in-None.ensures c.in-Some-read_demo.ensures (c.run_demo.ensures.unread seven)
 
 pub returns-in-Some-read_demo-clause-compiled : goal.returns-in-Some-read_demo-clause-compiled
 returns-in-Some-read_demo-clause-compiled g c = λ zero. chain_compiles (g.F.Files.told c.args.files.now) c.args.words.now (given_as c.in-Some-read_demo.demo) c.in-None.ensures c.in-Some-read_demo.ensures
@@ -128,16 +128,16 @@ pub returns-in-None-read_demo-clause-front : goal.returns-in-None-read_demo-clau
 returns-in-None-read_demo-clause-front g c = λ late. design_called (g.F.Files.told c.args.files.now) c.args.words.now _ c.in-None.ensures c.in-None-read_demo.ensures (c.run_design.ensures.front late)
 
 pub returns-in-None-read_demo-clause-asked : goal.returns-in-None-read_demo-clause-asked
-returns-in-None-read_demo-clause-asked g c = design_files c.args.words.now _ _ c.in-None.ensures c.in-None-read_demo.ensures c.run_design.ensures.asked
+returns-in-None-read_demo-clause-asked g c = design_files (g.F.Files.told c.args.files.now) c.args.words.now _ _ c.in-None.ensures c.in-None-read_demo.ensures c.run_design.ensures.asked
 
 pub returns-in-None-read_demo-clause-row : goal.returns-in-None-read_demo-clause-row
 returns-in-None-read_demo-clause-row g c = design_row c.args.words.now c.run_design.result.status c.in-None.ensures c.in-None-read_demo.ensures c.run_design.ensures.row
 
 pub returns-in-None-read_demo-clause-files : goal.returns-in-None-read_demo-clause-files
-returns-in-None-read_demo-clause-files g c = design_asked c.args.words.now c.run_design.result.status _ _ _ _ c.in-None.ensures c.in-None-read_demo.ensures c.run_design.ensures.files
+returns-in-None-read_demo-clause-files g c = design_asked (g.F.Files.told c.args.files.now) c.args.words.now c.run_design.result.status _ _ _ _ c.in-None.ensures c.in-None-read_demo.ensures c.run_design.ensures.files
 
 pub returns-in-None-read_demo-clause-unread : goal.returns-in-None-read_demo-clause-unread
-returns-in-None-read_demo-clause-unread g c = λ seven. design_unread _ _ _ _ c.args.words.now c.in-None.ensures c.in-None-read_demo.ensures (c.run_design.ensures.unread seven)
+returns-in-None-read_demo-clause-unread g c = λ seven. design_unread _ _ (g.F.Files.told c.args.files.now) _ _ c.args.words.now c.in-None.ensures c.in-None-read_demo.ensures (c.run_design.ensures.unread seven)
 
 pub returns-in-None-read_demo-clause-compiled : goal.returns-in-None-read_demo-clause-compiled
 returns-in-None-read_demo-clause-compiled g c = λ zero. design_compiles (g.F.Files.told c.args.files.now) c.args.words.now c.in-None.ensures c.in-None-read_demo.ensures (c.run_design.ensures.compiled zero)

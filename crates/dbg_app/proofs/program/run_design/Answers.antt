@@ -49,7 +49,7 @@ returns-in-Ok-clause-row g c =
     row_told (command_of c.args.words.now) c.in-Ok.judged c.end.result.status e.statuses c.in-Ok.ensures.command c.in-Ok.ensures.named e.status e.no_read
 
 pub returns-in-Ok-clause-files : goal.returns-in-Ok-clause-files
-returns-in-Ok-clause-files g c = files_asked (command_of c.args.words.now) c.in-Ok.judged c.end.result.status _ _ c.in-Ok.ensures.asked c.end.ensures.status
+returns-in-Ok-clause-files g c = files_asked (g.F.Files.told c.args.files.now) (command_of c.args.words.now) c.in-Ok.judged c.end.result.status _ _ c.in-Ok.ensures.asked c.end.ensures.status
 
 pub returns-in-Ok-clause-unread : goal.returns-in-Ok-clause-unread
 returns-in-Ok-clause-unread g c = λ seven. absurd (c.end.ensures.no_read seven)

@@ -4,7 +4,7 @@ use Rattle.dbg_app.proofs.Statuses.{ends_grown}
 use Rattle.dbg_app.specs.Serving.{offer_as}
 use Rattle.dbg_app.specs.declared.judge.Judged.TheVariants.{NoCommand}
 use Rattle.dbg_app.proofs.Ending.{usage_taken, design_line_taken, stimulus_line_taken}
-use Rattle.dbg_app.proofs.Offering.{offered_is, no_files, shown_files, refused_files, served_grown, serves_offer, serves_part, served_completes, ends_late, refused_completes, refused_ends, refused_front}
+use Rattle.dbg_app.proofs.Offering.{offered_is, no_files, no_front, front_offer, shown_files, refused_files, served_grown, serves_offer, serves_part, served_completes, ends_late, refused_completes, refused_ends, refused_front}
 use Rattle.dbg_app.proofs.serving.serve.Goals as goal
 
 pub returns-in_default-clause-usage_front : goal.returns-in_default-clause-usage_front
@@ -67,18 +67,30 @@ returns-in-Ok-Refused-clause-front g c = λ late.
 -- ---- the files that were asked for
 
 pub returns-in_default-clause-files : goal.returns-in_default-clause-files
-returns-in_default-clause-files g c = no_files c.args.words.now c.refuse.result.status (g.F.Files.asked c.args.files.now) c.in_default.ensures.offer
+returns-in_default-clause-files g c = no_files (g.F.Files.told c.args.files.now) c.args.words.now c.refuse.result.status (g.F.Files.asked c.args.files.now) c.in_default.ensures.offer
 
 pub returns-in-Ok-Accepted-clause-files : goal.returns-in-Ok-Accepted-clause-files
 returns-in-Ok-Accepted-clause-files g c =
-    shown_files c.args.words.now (offer_as c.in-Some.offer) c.in-Some.offer.stimulus.now c.in-Some.ensures.offer c.in-Some.ensures.stimulus c.in-Some.ensures.requests c.serve_links.result.status _ _
+    shown_files (g.F.Files.told c.args.files.now) c.args.words.now (offer_as c.in-Some.offer) c.in-Some.ensures.offer c.in-Some.ensures.requests c.serve_links.result.status _ _
     (rw c.in-Ok-Accepted.field-0-is at c.in-Ok-Accepted.ensures.asked) c.serve_links.ensures.statuses
 
 pub returns-in-Ok-Refused-clause-files : goal.returns-in-Ok-Refused-clause-files
 returns-in-Ok-Refused-clause-files g c =
     let r = c.refuse-in-Ok-Refused.ensures in
-    refused_files c.args.words.now (offer_as c.in-Some.offer) c.in-Some.offer.stimulus.now c.in-Some.ensures.offer c.in-Some.ensures.stimulus c.in-Some.ensures.requests c.in-Ok-Refused.judged c.refuse-in-Ok-Refused.result.status _ _
+    refused_files (g.F.Files.told c.args.files.now) c.args.words.now (offer_as c.in-Some.offer) c.in-Some.ensures.offer c.in-Some.ensures.requests c.in-Ok-Refused.judged c.refuse-in-Ok-Refused.result.status _ _
     (rw c.in-Ok-Refused.field-0-is at c.in-Ok-Refused.ensures.asked) r.status
+
+pub returns-in_default-clause-asked : goal.returns-in_default-clause-asked
+returns-in_default-clause-asked g c = no_front (g.F.Files.told c.args.files.now) c.args.words.now _ c.in_default.ensures.offer
+
+pub returns-in-Ok-Accepted-clause-asked : goal.returns-in-Ok-Accepted-clause-asked
+returns-in-Ok-Accepted-clause-asked g c = front_offer (g.F.Files.told c.args.files.now) c.args.words.now (offer_as c.in-Some.offer) c.in-Some.ensures.offer c.in-Some.ensures.requests _ _ c.judge_shown.ensures.front
+
+pub returns-in-Ok-Refused-clause-asked : goal.returns-in-Ok-Refused-clause-asked
+returns-in-Ok-Refused-clause-asked g c = front_offer (g.F.Files.told c.args.files.now) c.args.words.now (offer_as c.in-Some.offer) c.in-Some.ensures.offer c.in-Some.ensures.requests _ _ c.judge_shown.ensures.front
+
+pub returns-in-Err-clause-asked : goal.returns-in-Err-clause-asked
+returns-in-Err-clause-asked g c = front_offer (g.F.Files.told c.args.files.now) c.args.words.now (offer_as c.in-Some.offer) c.in-Some.ensures.offer c.in-Some.ensures.requests _ _ c.judge_shown.ensures.front
 
 -- ---- what stays in front
 

@@ -1,21 +1,30 @@
-use Rattle.std.proofs.Common.{rules, refl, [], ◌∷◌}
-use Rattle.io_edge.specs.Unread.{StopsAt}
-use Rattle.io_edge.proofs.Stops.{stops_of_front, stops_after}
-use Rattle.io_edge.proofs.Growth.{front_after, front_of_front}
+use Rattle.std.proofs.Common.{rules, [], ◌∷◌, ◌++◌, ap₂}
+use Rattle.project_read.specs.Asking.{StopsInside}
+use Rattle.dbg_app.specs.Asked.{command_as}
+use Rattle.dbg_app.specs.Command.{file_names}
+use Rattle.dbg_app.proofs.Names.{refused_some, shown_asked, front_own, front_behind, unread_own, unread_behind}
 use Rattle.dbg_app.proofs.shown.judge_shown.Goals as goal
 
+pub returns-in-Err-clause-asked : goal.returns-in-Err-clause-asked
+returns-in-Err-clause-asked g c = refused_some (g.F.Files.told c.args.files.now) c.args.command.now.source.now _ _ c.in-Err.fault (rw c.in-Err.is at c.in_ok-accepted.ensures.asked)
+
+pub returns-in-Ok-clause-asked : goal.returns-in-Ok-clause-asked
+returns-in-Ok-clause-asked g c = shown_asked (g.F.Files.told c.args.files.now) (command_as c.args.command.now) _ _ _ c.show.result c.requires.stimulus c.requires.bare (rw c.in-Ok.is at c.in_ok-accepted.ensures.asked) c.show.ensures.asked
+
 pub returns-in_err-accepted-clause-front : goal.returns-in_err-accepted-clause-front
-returns-in_err-accepted-clause-front g c = front_of_front _ _ (c.args.command.now.source.now ∷ []) (c.args.stimulus.now ∷ []) _ refl c.judge_source.ensures.front
+returns-in_err-accepted-clause-front g c = front_own (g.F.Files.told c.args.files.now) (command_as c.args.command.now) _ _ c.judge_source.ensures.front
+
+pub returns-in-Err-clause-front : goal.returns-in-Err-clause-front
+returns-in-Err-clause-front g c = front_own (g.F.Files.told c.args.files.now) (command_as c.args.command.now) _ _ c.judge_source.ensures.front
 
 pub returns-in-Ok-clause-front : goal.returns-in-Ok-clause-front
-returns-in-Ok-clause-front g c =
-    front_after _ _ _ (c.args.command.now.source.now ∷ []) (c.args.stimulus.now ∷ []) [] _ refl c.in_ok-accepted.ensures.asked c.show.ensures.front
+returns-in-Ok-clause-front g c = front_behind (g.F.Files.told c.args.files.now) (command_as c.args.command.now) _ _ _ (c.args.stimulus.now ∷ []) (ap₂ (λ s r. file_names s ++ file_names r) c.requires.stimulus c.requires.bare) (rw c.in-Ok.is at c.in_ok-accepted.ensures.asked) c.show.ensures.front
 
 pub returns-in_err-accepted-clause-unread : goal.returns-in_err-accepted-clause-unread
 returns-in_err-accepted-clause-unread g c e =
-    let q : StopsAt g.F.Files.asked g.F.Files.fault_count c.args.files.now c.judge_source.new.files (c.args.command.now.source.now ∷ []) = search rules in
-    stops_of_front _ _ _ _ (c.args.command.now.source.now ∷ []) (c.args.stimulus.now ∷ []) _ refl q
+    let q : StopsInside (g.F.Files.told c.args.files.now) c.args.command.now.source.now g.F.Files.asked g.F.Files.fault_count c.args.files.now c.judge_source.new.files = search rules in
+    unread_own _ _ (g.F.Files.told c.args.files.now) (command_as c.args.command.now) _ _ q
 
 pub returns-in-Ok-clause-unread : goal.returns-in-Ok-clause-unread
 returns-in-Ok-clause-unread g c e =
-    stops_after _ _ _ _ _ (c.args.command.now.source.now ∷ []) (c.args.stimulus.now ∷ []) [] _ refl c.in_ok-accepted.ensures.asked c.judge_source.ensures.later (c.show.ensures.unread e)
+    unread_behind _ _ (g.F.Files.told c.args.files.now) (command_as c.args.command.now) _ _ _ (c.args.stimulus.now ∷ []) (ap₂ (λ s r. file_names s ++ file_names r) c.requires.stimulus c.requires.bare) (rw c.in-Ok.is at c.in_ok-accepted.ensures.asked) c.judge_source.ensures.later (c.show.ensures.unread e)

@@ -1,5 +1,6 @@
 use Rattle.std.proofs.Common.{rules, ◌≡◌, ◌||◌, [], true, false, None, map, option_map, refl, ◌∙◌, ap, ap₂, subst}
 use Rattle.std.specs.Prelude.{is_some}
+use Rattle.std.proofs.lemmas.Result.{IfOk-weaker}
 use Rattle.dbg_core.specs.World.{world_of}
 use Rattle.dbg_core.specs.State.{machine_of}
 use Rattle.machine_core.specs.Machine.{is_running, opening}
@@ -61,7 +62,7 @@ loop-preserved-then-is_ready g c =
       samples = c.notice-notice.ensures.samples ∙ c.turn-turned.ensures.samples ∙ j.1;
       going = noticed (world_of c.args.session.table (g.T.Trace.samples c.args.session.trace)) (machine_of c.args.session (map (option_map (λ b. (goal.Listener-dyn g (b.vtable, b.value)).heard b.value)) c.args.listeners.boxes.items)) (g.L.Link.meaning c.args.link) (world_of c.match-hear.session.table (g.T.Trace.samples c.match-hear.session.trace)) (world_of c.turn-turned.new.self.table (g.T.Trace.samples c.turn-turned.new.self.trace)) (g.L.Link.meaning c.match-hear.desk.outlet.link) (g.L.Link.meaning c.turned.new.self.outlet.link) c.match-hear.desk c.turned.new.self (machine_of c.match-hear.session (map (option_map (λ b. (goal.Listener-dyn g (b.vtable, b.value)).heard b.value)) c.match-hear.listeners.boxes.items)) (machine_of c.turn-turned.new.self (map (option_map (λ b. (goal.Listener-dyn g (b.vtable, b.value)).heard b.value)) c.turn-turned.new.listeners.boxes.items)) (machine_of c.notice-notice.new.self (map (option_map (λ b. (goal.Listener-dyn g (b.vtable, b.value)).heard b.value)) c.turn-turned.new.listeners.boxes.items)) c.turn-turned.result
           (ap₂ (λ t s. world_of t s) j.0 j.1) too yes.0 yes.1 running c.turn-turned.ensures.turn (c.notice-notice.ensures.state (map (option_map (λ b. (goal.Listener-dyn g (b.vtable, b.value)).heard b.value)) c.turn-turned.new.listeners.boxes.items)) (c.turned.ensures.left ∙ c.is_ready.ensures.left)
-          (λ polls deeds made h. c.turned.ensures.keeps (g.L.Link.meaning c.args.link) polls deeds made (notices_of (world_of c.turn-turned.new.self.table (g.T.Trace.samples c.turn-turned.new.self.trace)) c.turn-turned.result) c.notice-notice.ensures.lines (c.is_ready.ensures.keeps (g.L.Link.meaning c.args.link) polls deeds made h)) j.2;
+          (λ polls deeds made h. c.turned.ensures.keeps (g.L.Link.meaning c.args.link) polls deeds made (notices_of (world_of c.turn-turned.new.self.table (g.T.Trace.samples c.turn-turned.new.self.trace)) (machine_of c.turn-turned.new.self (map (option_map (λ b. (goal.Listener-dyn g (b.vtable, b.value)).heard b.value)) c.turn-turned.new.listeners.boxes.items)) c.turn-turned.result) (IfOk-weaker c.notice-notice.result _ _ (λ notice told. told (map (option_map (λ b. (goal.Listener-dyn g (b.vtable, b.value)).heard b.value)) c.turn-turned.new.listeners.boxes.items)) c.notice-notice.ensures.lines) (c.is_ready.ensures.keeps (g.L.Link.meaning c.args.link) polls deeds made h)) j.2;
       usable = c.turned.ensures.usable;
       room = c.turned.ensures.room (c.is_ready.ensures.room j.4);
     }

@@ -12,3 +12,9 @@ returns-clause-endless c = samples.endless
 
 pub returns-clause-family : goal.returns-clause-family
 returns-clause-family c = samples.family
+
+pub returns-clause-files : goal.returns-clause-files
+returns-clause-files c = samples.files
+
+pub returns-clause-files_refused : goal.returns-clause-files_refused
+returns-clause-files_refused c = samples.files_refused

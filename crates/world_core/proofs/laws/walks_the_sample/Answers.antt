@@ -11,3 +11,7 @@ returns-clause-walked c = refl
 pub returns-clause-kept : goal.returns-clause-kept
 unfolding digits hex_digits
 returns-clause-kept c = refl
+
+pub returns-clause-places : goal.returns-clause-places
+unfolding digits
+returns-clause-places c = (refl, refl, refl)

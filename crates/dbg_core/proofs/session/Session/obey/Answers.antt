@@ -18,6 +18,18 @@ returns-in-Delete-clause-answer g c = λ read ordinal id reader.
     c.delete.ensures.answer ordinal heard id
     ∙ ap (λ cmd. answer_by m id (obey read (world_of c.args.self.now.table (g.T.Trace.samples c.args.self.now.trace)) m cmd)) (sym c.in-Delete.is)
 
+pub returns-in-Watch-clause-kept : goal.returns-in-Watch-clause-kept
+returns-in-Watch-clause-kept g c =
+    let heard = map (option_map (λ b. (goal.Listener-dyn g (b.vtable, b.value)).heard b.value)) c.args.listeners.now.boxes.items in
+    on_error c.watch_on.result _ (machine_of c.watch_on.new.self heard ≡ machine_of c.args.self.now heard) (λ h. h heard) c.watch_on.ensures.kept
+
+pub returns-in-Unwatch-clause-answer : goal.returns-in-Unwatch-clause-answer
+returns-in-Unwatch-clause-answer g c = λ read ordinal id reader.
+    let heard = map (option_map (λ b. (goal.Listener-dyn g (b.vtable, b.value)).heard b.value)) c.args.listeners.now.boxes.items in
+    let m = counted_as c.args.self.now ordinal heard in
+    c.unwatch.ensures.answer ordinal heard id
+    ∙ ap (λ cmd. answer_by m id (obey read (world_of c.args.self.now.table (g.T.Trace.samples c.args.self.now.trace)) m cmd)) (sym c.in-Unwatch.is)
+
 pub returns-in-Continue-clause-answer : goal.returns-in-Continue-clause-answer
 returns-in-Continue-clause-answer g c = λ read ordinal id reader.
     let heard = map (option_map (λ b. (goal.Listener-dyn g (b.vtable, b.value)).heard b.value)) c.args.listeners.now.boxes.items in

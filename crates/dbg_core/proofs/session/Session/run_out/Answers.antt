@@ -11,7 +11,7 @@ returns-clause-ran g c =
     IfOk-weaker c.notice.result _ _
     (λ notice lines. (λ j. record {
       after = c.notice.ensures.state heard j;
-      lines = (lines ∙ (λ i. notices_of (world_of (c.settle-turned.ensures.table i) (c.settle-turned.ensures.samples i)) c.settle-turned.result)) j;
+      lines = (lines heard ∙ (λ i. notices_of (world_of (c.settle-turned.ensures.table i) (c.settle-turned.ensures.samples i)) (machine_of c.settle-turned.new.self heard) c.settle-turned.result)) j;
     }) ∙ c.settle-turned.ensures.ran) c.notice.ensures.lines
 
 pub returns-clause-after : goal.returns-clause-after

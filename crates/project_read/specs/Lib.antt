@@ -1,0 +1,7 @@
+pub mod Ends
+pub mod Names
+pub mod Projects
+pub mod Steps
+pub mod Asking
+pub mod Sample
+pub mod Laws

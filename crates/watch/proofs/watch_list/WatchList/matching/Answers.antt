@@ -1,0 +1,17 @@
+use Rattle.std.proofs.Common.{rules, ◌≡◌, ◌-◌, List, length, ap, ap₂, ◌∙◌}
+use Rattle.machine_core.specs.Matching.{Watch, watches_at}
+use Rattle.machine_core.specs.Search.{place_of}
+use Rattle.slot_sched.proofs.Matches.{told}
+use Rattle.watch.specs.Watching.{watches, matching_at}
+use Rattle.watch.proofs.Counting.{at_is}
+use Rattle.watch.proofs.watch_list.WatchList.matching.Goals as goal
+
+pub returns-clause-value : goal.returns-clause-value
+returns-clause-value g c =
+    let w = told c.args.table.now (g.T.Trace.samples c.args.trace.now) in
+    let ws = watches c.args.self.now in
+    let at : c.place_of.result ≡ place_of c.args.at = search rules in
+    let same : watches_at w c.spot_of-cycle.result.0 c.spot_of-cycle.result.1 ws ≡ matching_at w ws (place_of c.args.at - 1) =
+    ap₂ (λ t k. watches_at w t k ws) c.spot_of-cycle.ensures.cycle c.spot_of-cycle.ensures.slot ∙ at_is c.args.table.now (g.T.Trace.samples c.args.trace.now) ws (c.place_of.result - 1)
+    ∙ ap (λ n. matching_at w ws (n - 1)) at in
+    c.matching_at.ensures.value ∙ ap (λ (l : List Watch). length l) same

@@ -1,0 +1,72 @@
+//! Why a watch is not armed.
+
+ghost use Rattle.std.specs.Prelude.{◌≡◌};
+ghost use Rattle.watch.specs.Arm.{watch_answer, same_answer};
+ghost use Rattle.watch.specs.declared.fault.WatchFault.TheVariants as watch_faults;
+
+use slot_sched::ArmFault;
+use std::alloc::{AllocError, AllocFailed};
+use text_core::{NoMemory, Text};
+
+/// Why a watch is not armed: each but the last stands for the answer of a session that has its name.
+#[derive(Drop)]
+pub enum WatchFault {
+    /// No statement is on the line.
+    NoSite { line: u64 },
+    /// No instance of this path, or none that has a statement on the line.
+    NoInstance { instance: Text },
+    /// A text that is no expression, or whose widths do not fit, from this offset on, in bytes.
+    BadCondAt { offset: u64 },
+    /// A name that is not in scope.
+    BadCondName { name: Text },
+    /// A name of which nothing was kept there.
+    CondRemoved { name: Text, slot: u32 },
+    /// A name that some path to the statement does not assign.
+    CondUnset { name: Text, slot: u32 },
+    /// So many watches are armed already, or the last number was given.
+    TooManyWatches { limit: u64 },
+    /// Want of memory.
+    NoMemory,
+}
+
+impl WatchFault {
+    /// What was found to be wrong of a line, an instance or a text.
+    pub(crate) fn new(fault: ArmFault) -> WatchFault
+        ensures { same_answer fault result }
+    {
+        match fault {
+            ArmFault::NoSite { line } => WatchFault::NoSite { line },
+            ArmFault::NoInstance { instance } => WatchFault::NoInstance { instance },
+            ArmFault::BadCondAt { offset } => WatchFault::BadCondAt { offset },
+            ArmFault::BadCondName { name } => WatchFault::BadCondName { name },
+            ArmFault::CondRemoved { name, slot } => WatchFault::CondRemoved { name, slot },
+            ArmFault::CondUnset { name, slot } => WatchFault::CondUnset { name, slot },
+            ArmFault::TooMany { limit } => WatchFault::TooManyWatches { limit },
+            ArmFault::NoMemory => WatchFault::NoMemory,
+        }
+    }
+}
+
+impl From<NoMemory> for WatchFault {
+    ghost from_gives = { λ _ e. e ≡ watch_faults.NoMemory };
+
+    fn from(_: NoMemory) -> Self {
+        WatchFault::NoMemory
+    }
+}
+
+impl From<AllocError> for WatchFault {
+    ghost from_gives = { λ _ e. e ≡ watch_faults.NoMemory };
+
+    fn from(_: AllocError) -> Self {
+        WatchFault::NoMemory
+    }
+}
+
+impl<T: Drop> From<AllocFailed<T>> for WatchFault {
+    ghost from_gives = { λ _ e. e ≡ watch_faults.NoMemory };
+
+    fn from(_: AllocFailed<T>) -> Self {
+        WatchFault::NoMemory
+    }
+}
