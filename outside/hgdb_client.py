@@ -34,12 +34,12 @@ AHEAD = 64
 NOTICES = {"stopped": ("cycle", "gens", "line", "slot", "threads"), "ended": (), "start": (), "rows": ("k", "rows")}
 REPLIES = {
     "break": ("bp", "slots"), "pause": ("at",), "threads": ("at", "gens", "line", "threads"), "values": ("values",),
-    "eval": ("value",), "drop": ("rows",), "status": ("at", "bps", "listeners", "mode"),
+    "eval": ("value",), "drop": ("rows",), "status": ("at", "bps", "listeners", "mode"), "watch": ("slots", "wp"),
 }
 # What a refusal of a code has besides; one of a condition, 7, has an offset where it has no name.
 KEPT = {
     "3": ("field",), "5": ("line",), "6": ("instance",), "7": ("offset",), "8": ("name", "slot"), "9": ("name", "slot"), "10": ("mode",),
-    "12": ("at",), "13": ("limit",), "14": ("bp",), "15": ("k",),
+    "12": ("at",), "13": ("limit",), "14": ("bp",), "15": ("k",), "16": ("limit",), "17": ("wp",),
 }
 
 

@@ -31,6 +31,16 @@ class Commands(Client):
         changed = f" if {point.cond}" if point.cond != cond else ""
         self.say(f"{'Temporary b' if temporary else 'B'}reakpoint {point.number} at line {line}{changed}, {slots}")
 
+    def do_watch(self, words):
+        if not words:
+            raise usage("watch")
+        self.idle()
+        if not self.stopped():
+            self.look("values")
+        point = self.points.watch(self.place["line"], self.here(), " ".join(words), self.place["gens"])
+        slots = f"slot{'s' * (len(point.slots) != 1)} {', '.join(map(str, point.slots))}"
+        self.say(f"Watchpoint {point.number} of {point.cond} at line {point.line} in {point.path}, {slots}")
+
     def do_tbreak(self, words):
         self.do_break(words, True)
 
@@ -70,6 +80,8 @@ class Commands(Client):
 
     def do_condition(self, words):
         point = self.point("condition", words, 1, len(words))
+        if isinstance(point, hgdb_points.Watch):
+            raise Failed(f"Watchpoint {point.number} has no condition")
         self.points.condition(point, " ".join(words[1:]) or None)
         self.say(f"Breakpoint {point.number} stops {f'if {point.cond}' if point.cond else 'always'}")
 
@@ -78,7 +90,7 @@ class Commands(Client):
         if count is None:
             raise usage("ignore")
         point.ignored = count
-        self.say(f"Breakpoint {point.number} is ignored {hgdb_points.times(count)}")
+        self.say(f"{point.WORD.capitalize()} {point.number} is ignored {hgdb_points.times(count)}")
 
     # Commands: runs
 
@@ -286,7 +298,10 @@ class Commands(Client):
         self.say(*[f"{name} = {shown}" for name, shown in self.values().items()])
 
     def info_breakpoints(self, _):
-        self.say(*[it.told() for it in self.points.all.values()] or ["No breakpoints"])
+        self.say(*[it.told() for it in self.points.breakpoints()] or ["No breakpoints"])
+
+    def info_watchpoints(self, _):
+        self.say(*[it.told() for it in self.points.watches()] or ["No watchpoints"])
 
     def info_display(self, _):
         told = [f"{number}: {f'/{form} ' if form else ''}{text}" for number, (text, form) in self.displays.items()]
@@ -303,7 +318,7 @@ class Commands(Client):
         told = f"Line {line} has slot{'s' * (len(reply['slots']) != 1)} {', '.join(map(str, reply['slots']))}"
         if (block := self.source.block(line)) is not None:
             told += f", in the {block.kind} of {block.module}, lines {block.first} to {block.last}"
-        points = [str(it.number) for it in self.points.all.values() if it.line == line]
+        points = [str(it.number) for it in self.points.breakpoints() if it.line == line]
         self.say(told, *[f"Breakpoint{'s' * (len(points) != 1)} {', '.join(points)}"] * bool(points), *self.listing(line, line))
 
     def info_threads(self, _):
@@ -325,7 +340,7 @@ class Commands(Client):
     def listing(self, first, last):
         """Lines of the source with marks: `B` for a breakpoint, `b` for a disabled one, `>` for the stop."""
         marks, stop = {}, self.place and self.place["line"]
-        for point in self.points.all.values():
+        for point in self.points.breakpoints():
             marks[point.line] = "B" if point.bp is not None or marks.get(point.line) == "B" else "b"
         told = [f"{marks.get(number, ' ')}{'>' if number == stop else ' '} {number}\t{text}" for number, text in self.lines(first, last)]
         return [self.paint("place", it) if it[1] == ">" else it for it in told]

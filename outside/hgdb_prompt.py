@@ -15,8 +15,9 @@ WHERE = "LINE [at INSTANCE] [if CONDITION]"
 COMMANDS = {
     "break": (("b", "br"), WHERE, "stop before the statements of a line"),
     "tbreak": (("tb",), WHERE, "the same, and take the breakpoint away at its first stop"),
-    "delete": (("d",), "[NUMBER]..", "take breakpoints away; without a number, all of them"),
-    "disable": ((), "[NUMBER]..", "let breakpoints rest; without a number, all of them"),
+    "watch": ((), "EXPRESSION", "stop where its value at this statement of this instance differs from that in the cycle before"),
+    "delete": (("d",), "[NUMBER]..", "take breakpoints and watchpoints away; without a number, all of them"),
+    "disable": ((), "[NUMBER]..", "let them rest; without a number, all of them"),
     "enable": ((), "[NUMBER]..", "set them again"),
     "condition": ((), "NUMBER [CONDITION]", "give a breakpoint another condition, or none"),
     "ignore": ((), "NUMBER COUNT", "pass over the next COUNT stops of a breakpoint"),
@@ -36,7 +37,7 @@ COMMANDS = {
     "display": ((), "[/x | /d | /t] [EXPRESSION]", "show it at each stop; without an expression, show all of them now"),
     "undisplay": ((), "[NUMBER]..", "show it no longer"),
     "wave": ((), "NAME.. [CYCLES]", f"values over the cycles round the stop, {hgdb_wave.USUAL} of them, at most {hgdb_wave.CYCLES}"),
-    "info": (("i",), "locals | breakpoints | display | line [LINE] | threads | listeners",
+    "info": (("i",), "locals | breakpoints | watchpoints | display | line [LINE] | threads | listeners",
              "the values of all names; what stands behind the other words"),
     "where": (("bt", "frame", "f"), "", "where the session stands"),
     "list": (("l",), "[LINE | FIRST,LAST | -]", "lines of the source: around the stop, the next ones, around a line, those before"),
@@ -45,7 +46,7 @@ COMMANDS = {
     "help": (("h",), "[COMMAND]", "this text"),
     "quit": (("q", "exit"), "", "end the session"),
 }
-INFOS = ("locals", "breakpoints", "display", "line", "listeners", "threads")
+INFOS = ("locals", "breakpoints", "watchpoints", "display", "line", "listeners", "threads")
 # What a refusal tells, by its code: a text over the fields of the answer.
 REFUSALS = {
     1: "the request is too long",
@@ -61,6 +62,8 @@ REFUSALS = {
     13: "there are {limit} breakpoints already",
     14: "there is no breakpoint {bp}",
     15: "there is no listener {k}",
+    16: "there are {limit} watchpoints already",
+    17: "there is no watchpoint {wp}",
 }
 MODES = {"continue": "forward", "step": "forward", "reverse": "backward", "back": "backward"}
 ROWS = 8
@@ -289,6 +292,7 @@ class Client:
         else:
             self.tell_place()
             self.tell_changes()
+            self.tell_watches()
         self.tell_pending(pending)
         self.tell_displays()
 
@@ -303,7 +307,7 @@ class Client:
     def tell_place(self):
         """Shows the place: the breakpoints, the cycle, the line, the instance that is looked at, and the line of the source."""
         place, line = self.place, self.place["line"]
-        points = ", ".join(f"{'Temporary b' if it.temporary else 'B'}reakpoint {it.number}" for it in self.hits if it.number)
+        points = ", ".join(it.name().capitalize() for it in self.hits if it.number)
         gens = "".join(f", {name}={number}" for name, number in place["gens"])
         self.say(f"{points + ', c' if points else 'C'}ycle {place['cycle']}, line {line}, {self.who()}{gens}", kind="place")
         self.say(*[f"{number}\t{text}" for number, text in self.lines(line, line)], kind="line")
@@ -330,6 +334,15 @@ class Client:
             if before.get(name) != shown:
                 was = f", was {before[name]}" if name in before else ""
                 self.say(f"  {name} = {shown}{was}", kind="changed")
+
+    def tell_watches(self):
+        """Shows what the watched expressions of the watchpoints that are hit were and are."""
+        for point in self.hits:
+            if isinstance(point, hgdb_points.Watch):
+                was = self.points.earlier(point, self.place)
+                now = self.asked("eval", instance=point.path, expr=point.cond)["value"]
+                at = "" if point.path == self.here() else f" at {point.path}"
+                self.say(f"  {point.cond}{at} = {now}" + f", was {was} in the cycle before" * (was is not None), kind="changed")
 
     def values(self):
         """The values of the instance that is looked at, which are kept."""

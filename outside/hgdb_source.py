@@ -47,6 +47,8 @@ class Walk:
         return self.tokens[start:self.at - 1]
 
     def source(self):
+        while self.tokens[self.at][1] == "import":
+            self.upto(";")
         while self.at < len(self.tokens):
             self.takes("module")
             module = self.takes()[1]

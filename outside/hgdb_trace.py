@@ -15,7 +15,7 @@ import hgdb_client
 from websocket import Lost
 
 BUILT = os.path.join(os.path.dirname(os.path.dirname(os.path.abspath(__file__))), "crates", "hgdb", "out", "hgdb")
-CHANGES = ("break", "delete", "drop", *hgdb_client.RUNS)
+CHANGES = ("break", "delete", "watch", "unwatch", "drop", *hgdb_client.RUNS)
 # How often a run is asked for in advance at most.
 ADVANCE = 64
 

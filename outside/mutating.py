@@ -430,10 +430,10 @@ def condition(chance, names):
 
 def request(chance, names):
     """A request whose fields are mostly of their kinds."""
-    cmd = chance.choice("break delete continue reverse step back pause threads values eval drop status bye".split() + ["break", "eval", "continue", "step", "x"])
+    cmd = chance.choice("break delete watch unwatch continue reverse step back pause threads values eval drop status bye".split() + ["break", "watch", "eval", "continue", "step", "x"])
     it = Pairs([("cmd", cmd)])
     fields = {
-        "line": chance.randrange(30), "bp": chance.randrange(1, 5), "k": chance.randrange(3), "id": chance.randrange(9), "instance": chance.choice(STRINGS + names),
+        "file": chance.choice((0, 0, 0, 1, 63, 64)), "line": chance.randrange(30), "bp": chance.randrange(1, 5), "wp": chance.randrange(1, 5), "k": chance.randrange(3), "id": chance.randrange(9), "instance": chance.choice(STRINGS + names),
         "cond": condition(chance, names), "expr": condition(chance, names),
     }
     for name, value in fields.items():

@@ -26,7 +26,7 @@ GIVEN = {
     "back": "back Arbiter 2", "until": "until 33", "finish": "finish", "start": "start", "run": "run", "pause": "pause", "wait": "wait",
     "threads": "threads", "instance": "instance Arbiter.stage", "print": "print grant + 1", "display": "display busy",
     "undisplay": "undisplay {d}", "wave": "wave grant turn", "info": "info locals", "where": "where", "list": "list",
-    "set": "set listsize 5", "drop": "drop 0", "help": "help", "quit": "quit",
+    "set": "set listsize 5", "watch": "watch grant", "drop": "drop 0", "help": "help", "quit": "quit",
 }
 ALONE = ("ignore", "wait", "undisplay", "list", "set", "help")
 ASKS = "Interrupted: the answer is waited for; Ctrl-C once more gives the connection up\n"

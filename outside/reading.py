@@ -35,10 +35,10 @@ def tokens(text):
 
 
 class Reader:
-    """Reads the forms of the grammar, one function for each."""
+    """Reads the forms of the grammar, one function for each. A line is told as FILE:LINE where the file is not 0."""
 
-    def __init__(self, text):
-        self.tokens, self.at = tokens(text), 0
+    def __init__(self, text, file=0):
+        self.tokens, self.at, self.file, self.imports = tokens(text), 0, file, []
 
     def sees(self, text):
         return self.tokens[self.at][1] == text and self.tokens[self.at][0] in ("mark", "keyword")
@@ -54,7 +54,8 @@ class Reader:
             raise ValueError(f"line {self.line()}: {text} is wanted, and {self.tokens[self.at][1]} stands there")
 
     def line(self):
-        return self.tokens[self.at][2]
+        line = self.tokens[self.at][2]
+        return f"{self.file}:{line}" if self.file else line
 
     def name(self):
         kind, text, line = self.tokens[self.at]
@@ -64,6 +65,9 @@ class Reader:
         return text
 
     def source(self):
+        while self.takes("import"):
+            self.imports.append(self.name())
+            self.need(";")
         modules = [self.module()]
         while self.tokens[self.at][0] != "end":
             modules.append(self.module())
@@ -262,6 +266,19 @@ class Reader:
         if text == "mux":
             return ("mux",) + self.pair(self.expr, self.expr, self.expr)
         raise ValueError(f"line {line}: an expression is wanted")
+
+
+def project(read, name):
+    """The modules of the files of a design, by the numbers of the files; `read` gives the text of a file by its name."""
+    folder, names, modules = name[:name.rfind("/") + 1], [name], []
+    # (the list grows while it is walked)
+    for file, each in enumerate(names):
+        reader = Reader(read(each), file)
+        modules += reader.source()
+        for other in (f"{folder}{it}.hg" for it in reader.imports):
+            if other not in names:
+                names.append(other)
+    return modules
 
 
 def put(tree, name, number):
