@@ -1,3 +1,5 @@
+//! A place is made of a file and a line, and tells both: a factor keeps them apart, since no file has so many lines.
+
 ghost use Rattle.std.specs.Prelude.{◌≡◌, ◌<◌, ◌^◌};
 ghost use Rattle.places.specs.Places.{place, file_of, line_in};
 

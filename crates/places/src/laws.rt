@@ -1,3 +1,5 @@
+//! Laws: what a place was made of is what it tells, so that a number can stand for both.
+
 ghost use Rattle.std.specs.Prelude.{ℕ};
 ghost use Rattle.places.specs.Places.{TellsBoth, IsOfBoth, IsItsLine};
 
