@@ -7,6 +7,8 @@ use Rattle.std.proofs.lemmas.Bool.{and_from, lt-ltb}
 use Rattle.std.proofs.lemmas.Bool.Decides.{nat_tests}
 use Rattle.std.proofs.lemmas.List.Elements.{recursion_from_All}
 use Rattle.std.proofs.lemmas.Slice.Eq.{bytes_eq-Decides}
+use Rattle.places.specs.Places.{place, file_of, line_in}
+use Rattle.places.proofs.Places.{is_of}
 use Rattle.bv_core.specs.declared.Ref.{Ref}
 use Rattle.bv_core.specs.declared.Ref.TheVariants.{Node, Const}
 use Rattle.bv_core.specs.declared.Binding.{Binding}
@@ -28,7 +30,7 @@ use Rattle.symtab_json.specs.declared.entries.Entries.{Entries}
 use Rattle.symtab_json.specs.declared.entries.Outside.{Outside}
 use Rattle.symtab_json.specs.declared.fault.TableFault.TheVariants as fault
 use Rattle.symtab_json.specs.Files.{node_json, variant_json, instance_json, row_json, slot_json, table_json, symbols_text}
-use Rattle.symtab_json.specs.Entries.{kept_if, is_line, made_slot, told_instance, told_node, told_row, told_slot, told_variant}
+use Rattle.symtab_json.specs.Entries.{kept_if, is_place, made_place, made_slot, told_instance, told_node, told_row, told_slot, told_variant}
 use Rattle.symtab_json.specs.Places.{are_apart, instance_count}
 use Rattle.symtab_json.specs.Judged.{paths_differ, names_of_nodes_differ, variants_len, has_cells, is_full, are_full, is_first, told_instances, told_nodes, told_slots, told_top, told_variants, outside_list, first_outside, ref_outside, cell_outside, row_outside, slot_outside, instance_outside, entries_outside, instance_parts, slot_parts, told_parts}
 use Rattle.symtab_json.specs.Told.{by_variants, by_top, by_slots, by_nodes, by_instances, by_json, by_entries, by_numbers, told_tree, told_entries, json_of}
@@ -71,13 +73,20 @@ nodes_back p h =
     (every (λ n. IsWidth n.width) (λ n. told_node (node_json n) ≡ Some n) node_back p.nodes (recursion_from_All (λ n. IsWidth n.width) p.nodes h.widths)))
     ∙ kept_back names_of_nodes_differ p.nodes (apart_back _ h.node_names)
 
+-- a place is told by its file and its line
+place_back : (at : ℕ) → at < 2 ^ 30 → made_place (Some (file_of at)) (Some (line_in at)) ≡ Some at
+place_back at h =
+    let file : file_of at < 64 = omega (arith, h) in
+    let both : is_place (file_of at) (line_in at) ≡ true = and_from _ _ (lt-ltb (file_of at) 64 file) (lt-ltb (line_in at) 16777216 (is_of at).1) in
+    ap (λ b. cond b (Some (place (file_of at) (line_in at))) None) both ∙ ap Some (is_of at).0
+
 all_slots : (line : Option ℕ) (gens : Option _) (names : Option _) (rows : Option _) (s : Slot) → line ≡ Some s.line → gens ≡ Some s.gens → names ≡ Some s.names → rows ≡ Some s.rows →
     made_slot (Some s.variant) line gens names rows ≡ Some (slot_entry s)
 all_slots line gens names rows s a b c d = λ i. made_slot (Some s.variant) (a i) (b i) (c i) (d i)
 
-slot_back : (nodes : List NodeName) (variants : ℕ) (of : List ℕ) (s : Slot) → IsSlot nodes variants of s → SlotIsText s → told_slot nodes (slot_json s) ≡ Some (slot_entry s)
+slot_back : (nodes : List NodeName) (variants : ℕ) (of : List ℕ) (s : Slot) → IsSlot nodes variants of s → SlotIsText s → told_slot true nodes (slot_json s) ≡ Some (slot_entry s)
 slot_back nodes variants of s h t =
-    all_slots _ _ _ _ s (kept_back is_line s.line (lt-ltb s.line 1073741824 h.line)) (gens_back s.gens h.gens)
+    all_slots _ _ _ _ s (place_back s.line h.line) (gens_back s.gens h.gens)
     (short_same as_str string s.names h.short_names (each (λ n. as_str (string n) ≡ Some n) (λ n. refl) s.names))
     (short_same (told_row nodes) row_json s.rows h.short_rows
     (every_two (IsRow nodes s.names) RowIsValue (λ row. told_row nodes (row_json row) ≡ Some row) (row_back nodes s.names) s.rows (recursion_from_All (IsRow nodes s.names) s.rows h.rows) t.rows))
@@ -108,7 +117,7 @@ items_count : {A : Type 0} (tree : A → Data) (xs : List A) → items_len (item
 items_count tree [] = refl
 items_count tree (x ∷ xs) = ap suc (items_count tree xs)
 
-slots_back : (p : TableParts) → IsTable p → AreTexts p → told_slots (table_json p) (map instance_entry p.instances) p.nodes ≡ Some (map slot_entry p.slots)
+slots_back : (p : TableParts) → IsTable p → AreTexts p → told_slots true (table_json p) (map instance_entry p.instances) p.nodes ≡ Some (map slot_entry p.slots)
 slots_back p h t =
     let of = variants_of p.instances in
     let count = instance_count (map instance_entry p.instances) in
@@ -116,8 +125,8 @@ slots_back p h t =
     let full : are_full (length p.variants) count (map slot_entry p.slots) ≡ true =
     list_full (length p.variants) count p.slots (every (IsSlot p.nodes (length p.variants) of) (λ s. is_full (length p.variants) count (slot_entry s) ≡ true) (slot_full p) p.slots slots) in
     let many : variants_len (table_json p) ≡ length p.variants = items_count variant_json p.variants in
-    ap (kept_if (are_full (variants_len (table_json p)) count)) (short_back (told_slot p.nodes) slot_json slot_entry p.slots h.short_slots
-    (every_two (IsSlot p.nodes (length p.variants) of) SlotIsText (λ s. told_slot p.nodes (slot_json s) ≡ Some (slot_entry s)) (slot_back p.nodes (length p.variants) of) p.slots slots t.slots))
+    ap (kept_if (are_full (variants_len (table_json p)) count)) (short_back (told_slot true p.nodes) slot_json slot_entry p.slots h.short_slots
+    (every_two (IsSlot p.nodes (length p.variants) of) SlotIsText (λ s. told_slot true p.nodes (slot_json s) ≡ Some (slot_entry s)) (slot_back p.nodes (length p.variants) of) p.slots slots t.slots))
     ∙ kept_back (are_full (variants_len (table_json p)) count) (map slot_entry p.slots) (ap (λ n. are_full n count (map slot_entry p.slots)) many ∙ full)
 
 first_back : (instances : List InstanceParts) (top : List ℕ) → slice_get (paths_of instances) 0 ≡ Some top → is_first (map instance_entry instances) top ≡ true
@@ -137,7 +146,7 @@ tree_back p h t =
     let d = table_json p in
     let is = map instance_entry p.instances in
     let ss = map slot_entry p.slots in
-    ap (by_instances d) (instances_back p h) ∙ ap (by_nodes d is) (nodes_back p h) ∙ ap (by_slots d is p.nodes) (slots_back p h t)
+    ap (by_instances true d) (instances_back p h) ∙ ap (by_nodes true d is) (nodes_back p h) ∙ ap (by_slots d is p.nodes) (slots_back p h t)
     ∙ ap (by_top d is p.nodes ss) (top_back p h) ∙ ap (by_variants is p.nodes ss p.top) (variants_back p h)
 
 -- ---- numbers

@@ -33,10 +33,10 @@ use Rattle.symtab_json.proofs.Outside.{or_none, none_outside, inside_list, ref_f
 
 -- ---- what was told is what the entries are
 
-pub record AreOf (d : Data) (e : Entries) : Type 0 where
+pub record AreOf (filed : Bool) (d : Data) (e : Entries) : Type 0 where
   pub instances : told_instances d ≡ Some e.instances
   pub nodes : told_nodes d ≡ Some e.nodes
-  pub slots : told_slots d e.instances e.nodes ≡ Some e.slots
+  pub slots : told_slots filed d e.instances e.nodes ≡ Some e.slots
   pub top : told_top d e.instances ≡ Some e.top
   pub variants : told_variants d ≡ Some e.variants
 
@@ -57,42 +57,48 @@ of_slots : (d : Data) (instances : List InstanceEntry) (nodes : List NodeName) (
 of_slots d instances nodes None e h = absurd (cc)
 of_slots d instances nodes (Some slots) e h = let of = of_top d instances nodes slots (told_top d instances) e h in (of.0, of.1, ap Some of.2, of.3, of.4)
 
-of_nodes : (d : Data) (instances : List InstanceEntry) (nodes : Option (List NodeName)) (e : Entries) →
-    by_nodes d instances nodes ≡ Ok e → (instances ≡ e.instances) × (nodes ≡ Some e.nodes) × (told_slots d instances e.nodes ≡ Some e.slots) × (told_top d instances ≡ Some e.top) × (told_variants d ≡ Some e.variants)
-of_nodes d instances None e h = absurd (cc)
-of_nodes d instances (Some nodes) e h =
-    let of = of_slots d instances nodes (told_slots d instances nodes) e h in
-    (of.0, ap Some of.1, ap (λ (ns : List NodeName). told_slots d instances ns) (sym of.1) ∙ of.2, of.3, of.4)
+of_nodes : (filed : Bool) (d : Data) (instances : List InstanceEntry) (nodes : Option (List NodeName)) (e : Entries) →
+    by_nodes filed d instances nodes ≡ Ok e → (instances ≡ e.instances) × (nodes ≡ Some e.nodes) × (told_slots filed d instances e.nodes ≡ Some e.slots) × (told_top d instances ≡ Some e.top) × (told_variants d ≡ Some e.variants)
+of_nodes filed d instances None e h = absurd (cc)
+of_nodes filed d instances (Some nodes) e h =
+    let of = of_slots d instances nodes (told_slots filed d instances nodes) e h in
+    (of.0, ap Some of.1, ap (λ (ns : List NodeName). told_slots filed d instances ns) (sym of.1) ∙ of.2, of.3, of.4)
 
-of_instances : (d : Data) (instances : Option (List InstanceEntry)) (e : Entries) → told_instances d ≡ instances → by_instances d instances ≡ Ok e → AreOf d e
-of_instances d None e is h = absurd (cc)
-of_instances d (Some instances) e is h =
-    let of = of_nodes d instances (told_nodes d) e h in
+of_instances : (filed : Bool) (d : Data) (instances : Option (List InstanceEntry)) (e : Entries) → told_instances d ≡ instances → by_instances filed d instances ≡ Ok e → AreOf filed d e
+of_instances filed d None e is h = absurd (cc)
+of_instances filed d (Some instances) e is h =
+    let of = of_nodes filed d instances (told_nodes d) e h in
     record {
       instances = is ∙ ap Some of.0;
       nodes = of.1;
-      slots = ap (λ (xs : List InstanceEntry). told_slots d xs e.nodes) (sym of.0) ∙ of.2;
+      slots = ap (λ (xs : List InstanceEntry). told_slots filed d xs e.nodes) (sym of.0) ∙ of.2;
       top = ap (told_top d) (sym of.0) ∙ of.3;
       variants = of.4;
     }
 
-if_known : (b : Bool) (f : TableFault) (d : Data) (e : Entries) → cond b (by_instances d (told_instances d)) (Err f) ≡ Ok e → AreOf d e
-if_known true f d e h = of_instances d (told_instances d) e refl h
-if_known false f d e h = absurd (cc)
+-- of one version or the other
+abbrev pub AreOfOne : Data → Entries → Type 0
+AreOfOne d e = (filed : Bool) × AreOf filed d e
 
-of_version : (d : Data) (version : Option ℕ) (e : Entries) → by_version d version ≡ Ok e → AreOf d e
+if_known : (first second : Bool) (f : TableFault) (d : Data) (e : Entries) →
+    cond first (by_instances false d (told_instances d)) (cond second (by_instances true d (told_instances d)) (Err f)) ≡ Ok e → AreOfOne d e
+if_known true second f d e h = (false, of_instances false d (told_instances d) e refl h)
+if_known false true f d e h = (true, of_instances true d (told_instances d) e refl h)
+if_known false false f d e h = absurd (cc)
+
+of_version : (d : Data) (version : Option ℕ) (e : Entries) → by_version d version ≡ Ok e → AreOfOne d e
 of_version d None e h = absurd (cc)
-of_version d (Some version) e h = if_known (version == 1) (fault.Version version) d e h
+of_version d (Some version) e h = if_known (version == 1) (version == 2) (fault.Version version) d e h
 
-of_tree : (b : Bool) (d : Data) (e : Entries) → cond b (by_version d (told_member told_count (codes "version") d)) (misshapen part.Whole) ≡ Ok e → AreOf d e
+of_tree : (b : Bool) (d : Data) (e : Entries) → cond b (by_version d (told_member told_count (codes "version") d)) (misshapen part.Whole) ≡ Ok e → AreOfOne d e
 of_tree true d e h = of_version d (told_member told_count (codes "version") d) e h
 of_tree false d e h = absurd (cc)
 
-of_json : (o : Option Data) (e : Entries) → by_json o ≡ Ok e → (d : Data) × AreOf d e
+of_json : (o : Option Data) (e : Entries) → by_json o ≡ Ok e → (d : Data) × AreOfOne d e
 of_json None e h = absurd (cc)
 of_json (Some d) e h = (d, of_tree (is_some (as_object d)) d e h)
 
-of_text : (b : Bool) (text : List ℕ) (e : Entries) → cond b (Err fault.TooLong) (by_json (json_of text)) ≡ Ok e → (d : Data) × AreOf d e
+of_text : (b : Bool) (text : List ℕ) (e : Entries) → cond b (Err fault.TooLong) (by_json (json_of text)) ≡ Ok e → (d : Data) × AreOfOne d e
 of_text true text e h = absurd (cc)
 of_text false text e h = of_json (json_of text) e h
 
@@ -167,8 +173,8 @@ variants_are d variants e =
     let told = items_told told_variant (λ v. ⊤) (λ x v is. tt) items.0 variants items.2 in
     ap (λ o. option_map_or list_len o 0) found.1 ∙ ap (λ o. option_map_or items_len o 0) items.1 ∙ sym told.1
 
-entries_fit : (d : Data) (e : Entries) → AreOf d e → entries_outside e ≡ None → AreTableParts e
-entries_fit d e of inside =
+entries_fit : (filed : Bool) (d : Data) (e : Entries) → AreOf filed d e → entries_outside e ≡ None → AreTableParts e
+entries_fit filed d e of inside =
     let both = or_none (first_outside (instance_outside (length e.variants)) e.instances) (first_outside (slot_outside (length e.variants) (length e.nodes)) e.slots) inside in
     let kept_instances = kept_parts paths_differ (told_member (told_short told_instance) (codes "instances") d) e.instances of.instances in
     let instances_at = and_then_parts (told_short told_instance) (get (codes "instances") d) e.instances kept_instances.0 in
@@ -176,9 +182,9 @@ entries_fit d e of inside =
     let kept_nodes = kept_parts names_of_nodes_differ (told_member (told_list told_node) (codes "nodes") d) e.nodes of.nodes in
     let nodes_at = and_then_parts (told_list told_node) (get (codes "nodes") d) e.nodes kept_nodes.0 in
     let nodes_told = list_told told_node (λ node. IsWidth node.width) node_read nodes_at.0 e.nodes nodes_at.2 in
-    let kept_slots = kept_parts (are_full (variants_len d) (instance_count e.instances)) (told_member (told_short (told_slot e.nodes)) (codes "slots") d) e.slots of.slots in
-    let slots_at = and_then_parts (told_short (told_slot e.nodes)) (get (codes "slots") d) e.slots kept_slots.0 in
-    let slots_told = short_told (told_slot e.nodes) (SlotRead e.nodes) (slot_read e.nodes) slots_at.0 e.slots slots_at.2 in
+    let kept_slots = kept_parts (are_full (variants_len d) (instance_count e.instances)) (told_member (told_short (told_slot filed e.nodes)) (codes "slots") d) e.slots of.slots in
+    let slots_at = and_then_parts (told_short (told_slot filed e.nodes)) (get (codes "slots") d) e.slots kept_slots.0 in
+    let slots_told = short_told (told_slot filed e.nodes) (SlotRead e.nodes) (slot_read filed e.nodes) slots_at.0 e.slots slots_at.2 in
     let count = variants_are d e.variants of.variants in
     let full : AllByRecursion (λ slot. is_full (length e.variants) (instance_count e.instances) slot ≡ true) e.slots =
     subst (λ n. AllByRecursion (λ slot. is_full n (instance_count e.instances) slot ≡ true) e.slots) count (all_pass (is_full (variants_len d) (instance_count e.instances)) e.slots kept_slots.1) in
@@ -211,4 +217,4 @@ entries_fit d e of inside =
 
 -- the entries of a text
 pub text_fits : (text : List ℕ) (e : Entries) → told_entries text ≡ Ok e → entries_outside e ≡ None → AreTableParts e
-text_fits text e told inside = let of = of_text (nat_lt (2 ^ 26) (length text)) text e told in entries_fit of.0 e of.1 inside
+text_fits text e told inside = let of = of_text (nat_lt (2 ^ 26) (length text)) text e told in entries_fit of.1.0 of.0 e of.1.1 inside

@@ -21,3 +21,4 @@ pub mod Passes
 pub mod Pairs
 pub mod Objects
 pub mod Prefaced
+pub mod Versions

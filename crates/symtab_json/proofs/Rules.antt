@@ -1,11 +1,12 @@
 -- What each entry that was told keeps of the rules.
-use Rattle.std.proofs.Common.{◌≡◌, ℕ, ◌<◌, ◌^◌, ℤ, T, Bool, true, false, cond, List, codes, Option, Some, None, option_map, option_and_then, refl, sym, ap, subst, ltb-true, leb-true}
+use Rattle.std.proofs.Common.{◌≡◌, ℕ, ◌<◌, ◌+◌, ◌*◌, ◌^◌, ℤ, T, Bool, true, false, cond, List, codes, Option, Some, None, option_map, option_and_then, refl, sym, ap, subst, arith, ltb-true, leb-true}
 use Rattle.std.specs.Prelude.{⊤}
 use Rattle.std.specs.List.{AllByRecursion}
 use Rattle.std.specs.Option.{option_or}
 use Rattle.std.proofs.lemmas.Bool.{and_parts, eqb-true}
 use Rattle.std.proofs.lemmas.List.Elements.{All-from_recursion}
 use lib.Signed.{le_z_yes}
+use Rattle.places.specs.Places.{place}
 use Rattle.bv_core.specs.Value.{Bits}
 use Rattle.bv_core.specs.declared.Ref.{Ref}
 use Rattle.bv_core.specs.declared.Ref.TheVariants.{Node, Const}
@@ -20,7 +21,7 @@ use Rattle.serde_json.specs.Data.{Data}
 use Rattle.serde_json.specs.Find.{get, as_str, as_number, as_i64}
 use Rattle.symtab_json.specs.declared.entries.SlotEntry.{SlotEntry}
 use Rattle.symtab_json.specs.Literals.{told_literal}
-use Rattle.symtab_json.specs.Entries.{made_node, made_gen, made_variant, made_row, made_slot, told_mark, told_count, is_node_width, told_width, is_line, told_line, is_gen_number, told_gen_number, told_two, told_node, told_gen, told_variant, told_width_at, told_ref, told_cell, is_one_wide, told_on, told_row, told_short, told_member, told_slot}
+use Rattle.symtab_json.specs.Entries.{made_node, made_gen, made_variant, made_row, file_found, is_place, made_place, made_slot, told_mark, told_count, is_node_width, told_width, is_gen_number, told_gen_number, told_two, told_node, told_gen, told_variant, told_width_at, told_ref, told_cell, is_one_wide, told_on, told_row, told_short, told_member, told_slot}
 use Rattle.symtab_json.proofs.Found.{kept_parts, and_then_parts, short_told}
 
 -- ---- nodes, generator variables, variants
@@ -156,17 +157,32 @@ slot_split (Some variant) (Some line) (Some gens) (Some names) (Some rows) slot 
       rows_are = ap (λ (s : SlotEntry). Some s.rows) same;
     }
 
-pub slot_read : (nodes : List NodeName) (d : Data) (slot : SlotEntry) → told_slot nodes d ≡ Some slot → SlotRead nodes slot
-slot_read nodes d slot e =
-    let parts = slot_split (told_member told_count (codes "variant") d) (told_member told_line (codes "line") d) (told_member (told_short told_gen) (codes "gens") d)
+place_at : (b : Bool) (file line at : ℕ) → is_place file line ≡ b → cond b (Some (place file line)) None ≡ Some at → at < 2 ^ 30
+place_at false file line at is e = absurd (cc)
+place_at true file line at is e =
+    let same : place file line ≡ at = cc in
+    let both = and_parts _ _ is in
+    let file_small : file < 64 = ltb-true file 64 both.0 in
+    let line_small : line < 16777216 = ltb-true line 16777216 both.1 in
+    subst (λ n. n < 2 ^ 30) same (let small : file * 16777216 + line < 2 ^ 30 = omega (arith, file_small, line_small) in small)
+
+place_read : (file line : Option ℕ) (at : ℕ) → made_place file line ≡ Some at → at < 2 ^ 30
+place_read None line at e = absurd (cc)
+place_read (Some file) None at e = absurd (cc)
+place_read (Some file) (Some line) at e = place_at (is_place file line) file line at refl e
+
+pub slot_read : (filed : Bool) (nodes : List NodeName) (d : Data) (slot : SlotEntry) → told_slot filed nodes d ≡ Some slot → SlotRead nodes slot
+slot_read filed nodes d slot e =
+    let file = file_found filed (told_member told_count (codes "file") d) in
+    let line = told_member told_count (codes "line") d in
+    let parts = slot_split (told_member told_count (codes "variant") d) (made_place file line) (told_member (told_short told_gen) (codes "gens") d)
     (told_member (told_short as_str) (codes "names") d) (told_member (told_short (told_row nodes)) (codes "rows") d) slot e in
-    let line = and_then_parts told_line (get (codes "line") d) slot.line parts.line_is in
     let gens = and_then_parts (told_short told_gen) (get (codes "gens") d) slot.gens parts.gens_are in
     let names = and_then_parts (told_short as_str) (get (codes "names") d) slot.names parts.names_are in
     let rows = and_then_parts (told_short (told_row nodes)) (get (codes "rows") d) slot.rows parts.rows_are in
     let told = short_told (told_row nodes) (RowRead nodes) (row_read nodes) rows.0 slot.rows rows.2 in
     record {
-      line = ltb-true slot.line 1073741824 (kept_parts is_line (told_count line.0) slot.line line.2).1;
+      line = place_read file line slot.line parts.line_is;
       gens = gens_read gens.0 slot.gens gens.2;
       short_names = (short_told as_str (λ text. ⊤) (λ x text is. tt) names.0 slot.names names.2).1;
       short_rows = told.1;

@@ -7,6 +7,7 @@ use Rattle.std.proofs.lemmas.Str.{IsUtf8-append, IsUtf8-from_ascii}
 use Rattle.std.proofs.lemmas.Fmt.{IsAscii-decimal}
 use lib.Signed.{mag}
 use Rattle.json.proofs.Printed.Utf8.{IsUtf8-are_ascii}
+use Rattle.places.specs.Places.{file_of, line_in}
 use Rattle.bv_core.specs.Value.{Bits, IsBits}
 use Rattle.bv_core.specs.Text.{hex_digit, hex_digits, shown}
 use Rattle.bv_core.specs.declared.Ref.{Ref}
@@ -106,7 +107,9 @@ round_row nodes names row few h v =
 round_slot : (parts : TableParts) (of : List ℕ) (slot : Slot) → length parts.nodes < 2 ^ 64 → length parts.variants < 2 ^ 32 → IsSlot parts.nodes (length parts.variants) of slot → SlotIsText slot → Round 4 (slot_json slot)
 round_slot parts of slot few variants h t =
     let gens : Round 3 (list_json gen_json slot.gens) = round_gens 1 slot.gens h.gens t.gens in
-    let line : Round 3 (count_json slot.line) = round_count 3 slot.line (omega (arith, h.line)) in
+    let whole : (file_of slot.line < 2 ^ 64) × (line_in slot.line < 2 ^ 64) = (omega (arith, h.line), omega (arith, h.line)) in
+    let file : Round 3 (count_json (file_of slot.line)) = round_count 3 (file_of slot.line) whole.0 in
+    let line : Round 3 (count_json (line_in slot.line)) = round_count 3 (line_in slot.line) whole.1 in
     let names : Round 3 (list_json string slot.names) = round_list 2 string slot.names (every IsUtf8 (λ s. Round 2 (string s)) (round_string 2) slot.names t.names) in
     let rows : Round 3 (list_json row_json slot.rows) =
     round_list 2 row_json slot.rows (every_two (IsRow parts.nodes slot.names) RowIsValue (λ row. Round 2 (row_json row)) (λ row. round_row parts.nodes slot.names row few) slot.rows
@@ -115,18 +118,22 @@ round_slot parts of slot few variants h t =
     let m5 = member (codes "variant") (count_json slot.variant) no_members in
     let m4 = member (codes "rows") (list_json row_json slot.rows) m5 in
     let m3 = member (codes "names") (list_json string slot.names) m4 in
-    let m2 = member (codes "line") (count_json slot.line) m3 in
-    let f1 = put (codes "gens") (list_json gen_json slot.gens) no_members in
-    let f2 = put (codes "line") (count_json slot.line) f1 in
+    let m2 = member (codes "line") (count_json (line_in slot.line)) m3 in
+    let m1 = member (codes "gens") (list_json gen_json slot.gens) m2 in
+    let f0 = put (codes "file") (count_json (file_of slot.line)) no_members in
+    let f1 = put (codes "gens") (list_json gen_json slot.gens) f0 in
+    let f2 = put (codes "line") (count_json (line_in slot.line)) f1 in
     let f3 = put (codes "names") (list_json string slot.names) f2 in
     let f4 = put (codes "rows") (list_json row_json slot.rows) f3 in
     round_object 3 (slot_members slot)
-    (member_back 3 (codes "gens") (list_json gen_json slot.gens) m2 no_members gens ∙ member_back 3 (codes "line") (count_json slot.line) m3 f1 line
+    (member_back 3 (codes "file") (count_json (file_of slot.line)) m1 no_members file ∙ member_back 3 (codes "gens") (list_json gen_json slot.gens) m2 f0 gens
+    ∙ member_back 3 (codes "line") (count_json (line_in slot.line)) m3 f1 line
     ∙ member_back 3 (codes "names") (list_json string slot.names) m4 f2 names ∙ member_back 3 (codes "rows") (list_json row_json slot.rows) m5 f3 rows
     ∙ member_back 3 (codes "variant") (count_json slot.variant) no_members f4 variant)
-    (round_member 3 (codes "gens") (list_json gen_json slot.gens) m2 (IsUtf8-are_ascii _ refl) gens (round_member 3 (codes "line") (count_json slot.line) m3 (IsUtf8-are_ascii _ refl) line
+    (round_member 3 (codes "file") (count_json (file_of slot.line)) m1 (IsUtf8-are_ascii _ refl) file
+    (round_member 3 (codes "gens") (list_json gen_json slot.gens) m2 (IsUtf8-are_ascii _ refl) gens (round_member 3 (codes "line") (count_json (line_in slot.line)) m3 (IsUtf8-are_ascii _ refl) line
     (round_member 3 (codes "names") (list_json string slot.names) m4 (IsUtf8-are_ascii _ refl) names (round_member 3 (codes "rows") (list_json row_json slot.rows) m5 (IsUtf8-are_ascii _ refl) rows
-    (round_member 3 (codes "variant") (count_json slot.variant) no_members (IsUtf8-are_ascii _ refl) variant (round_end 3))))))
+    (round_member 3 (codes "variant") (count_json slot.variant) no_members (IsUtf8-are_ascii _ refl) variant (round_end 3)))))))
 
 -- ---- whole tables
 
@@ -144,8 +151,8 @@ round_table parts h t =
     let top : Round 5 (string parts.top) = round_string 5 parts.top t.top in
     let variants : Round 5 (list_json variant_json parts.variants) =
     round_list 4 variant_json parts.variants (every_two (λ v. AreGens v.gens) VariantIsText (λ v. Round 4 (variant_json v)) (round_variant 1) parts.variants (recursion_from_All (λ v. AreGens v.gens) parts.variants h.variants) t.variants) in
-    let version : Round 5 (count_json 1) = round_count 5 1 (omega arith) in
-    let m6 = member (codes "version") (count_json 1) no_members in
+    let version : Round 5 (count_json 2) = round_count 5 2 (omega arith) in
+    let m6 = member (codes "version") (count_json 2) no_members in
     let m5 = member (codes "variants") (list_json variant_json parts.variants) m6 in
     let m4 = member (codes "top") (string parts.top) m5 in
     let m3 = member (codes "slots") (list_json slot_json parts.slots) m4 in
@@ -158,7 +165,7 @@ round_table parts h t =
     round_up 6 127 (table_json parts) (omega arith) (round_object 5 (table_members parts)
     (member_back 5 (codes "instances") (list_json instance_json parts.instances) m2 no_members instances ∙ member_back 5 (codes "nodes") (list_json node_json parts.nodes) m3 f1 nodes
     ∙ member_back 5 (codes "slots") (list_json slot_json parts.slots) m4 f2 slots ∙ member_back 5 (codes "top") (string parts.top) m5 f3 top
-    ∙ member_back 5 (codes "variants") (list_json variant_json parts.variants) m6 f4 variants ∙ member_back 5 (codes "version") (count_json 1) no_members f5 version)
+    ∙ member_back 5 (codes "variants") (list_json variant_json parts.variants) m6 f4 variants ∙ member_back 5 (codes "version") (count_json 2) no_members f5 version)
     (round_member 5 (codes "instances") (list_json instance_json parts.instances) m2 (IsUtf8-are_ascii _ refl) instances (round_member 5 (codes "nodes") (list_json node_json parts.nodes) m3 (IsUtf8-are_ascii _ refl) nodes
     (round_member 5 (codes "slots") (list_json slot_json parts.slots) m4 (IsUtf8-are_ascii _ refl) slots (round_member 5 (codes "top") (string parts.top) m5 (IsUtf8-are_ascii _ refl) top
-    (round_member 5 (codes "variants") (list_json variant_json parts.variants) m6 (IsUtf8-are_ascii _ refl) variants (round_member 5 (codes "version") (count_json 1) no_members (IsUtf8-are_ascii _ refl) version (round_end 5))))))))
+    (round_member 5 (codes "variants") (list_json variant_json parts.variants) m6 (IsUtf8-are_ascii _ refl) variants (round_member 5 (codes "version") (count_json 2) no_members (IsUtf8-are_ascii _ refl) version (round_end 5))))))))

@@ -1,6 +1,7 @@
 -- What each JSON value of a symbol file tells. None is for one that is missing, of another kind or of another form.
 use Rattle.std.specs.Prelude.{ℕ, ◌^◌, ◌&&◌, ◌==◌, ℤ, pos, neg_ℤ, int_le, List, [], ◌∷◌, length, slice_get, Bool, nat_le, nat_lt, is_some, codes, bytes_eq, Option, Some, None, option_map, option_and_then, if◌then◌else◌}
 use Rattle.std.specs.Option.{option_map_or, option_or}
+use Rattle.places.specs.Places.{place}
 use Rattle.bv_core.specs.declared.Ref.{Ref}
 use Rattle.bv_core.specs.declared.Ref.TheVariants.{Node, Const}
 use Rattle.bv_core.specs.declared.Binding.{Binding}
@@ -39,12 +40,9 @@ is_node_width n = nat_le 1 n && nat_le n 128
 abbrev pub told_width : Data → Option ℕ
 told_width d = kept_if is_node_width (told_count d)
 
--- a line: below 2^30
-abbrev pub is_line : ℕ → Bool
-is_line n = nat_lt n (2 ^ 30)
-
-abbrev pub told_line : Data → Option ℕ
-told_line d = kept_if is_line (told_count d)
+-- a file and a line of it: below 64, and below 2^24
+abbrev pub is_place : ℕ → ℕ → Bool
+is_place file line = nat_lt file 64 && nat_lt line (2 ^ 24)
 
 -- the number of a generator variable: from -2^62 to 2^62
 abbrev pub is_gen_number : ℤ → Bool
@@ -150,6 +148,16 @@ made_row (Some on) (Some cells) = Some (record { on = on; cells = cells })
 abbrev pub told_row : List NodeName → Data → Option Row
 told_row nodes d = made_row (told_member (told_on nodes) (codes "on") d) (told_member (told_short (told_cell nodes)) (codes "cells") d)
 
+-- the file of a slot: what its member tells; where slots have no files, file 0
+abbrev pub file_found : Bool → Option ℕ → Option ℕ
+file_found filed file = if filed then file else Some 0
+
+-- the place of a line in a file
+abbrev pub made_place : Option ℕ → Option ℕ → Option ℕ
+made_place None line = None
+made_place (Some file) None = None
+made_place (Some file) (Some line) = if is_place file line then Some (place file line) else None
+
 abbrev pub made_slot : Option ℕ → Option ℕ → Option (List GenVariable) → Option (List (List ℕ)) → Option (List Row) → Option SlotEntry
 made_slot None line gens names rows = None
 made_slot (Some variant) None gens names rows = None
@@ -159,7 +167,9 @@ made_slot (Some variant) (Some line) (Some gens) (Some names) None = None
 made_slot (Some variant) (Some line) (Some gens) (Some names) (Some rows) =
     Some (record { variant = variant; line = line; gens = gens; names = names; rows = rows })
 
-abbrev pub told_slot : List NodeName → Data → Option SlotEntry
-told_slot nodes d =
-    made_slot (told_member told_count (codes "variant") d) (told_member told_line (codes "line") d) (told_member (told_short told_gen) (codes "gens") d)
+-- a slot, of a file whose slots have files or of one where they have none
+abbrev pub told_slot : Bool → List NodeName → Data → Option SlotEntry
+told_slot filed nodes d =
+    made_slot (told_member told_count (codes "variant") d)
+    (made_place (file_found filed (told_member told_count (codes "file") d)) (told_member told_count (codes "line") d)) (told_member (told_short told_gen) (codes "gens") d)
     (told_member (told_short as_str) (codes "names") d) (told_member (told_short (told_row nodes)) (codes "rows") d)

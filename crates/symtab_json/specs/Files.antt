@@ -1,5 +1,6 @@
 -- The symbol file of a table's parts.
 use Rattle.std.specs.Prelude.{ℕ, List, map, codes}
+use Rattle.places.specs.Places.{file_of, line_in}
 use Rattle.bv_core.specs.Text.{shown}
 use Rattle.bv_core.specs.declared.Ref.{Ref}
 use Rattle.bv_core.specs.declared.Ref.TheVariants.{Node, Const}
@@ -60,20 +61,21 @@ cell_json Removed = string (codes "removed")
 abbrev pub row_json : Row → Data
 row_json row = object (member (codes "cells") (list_json cell_json row.cells) (member (codes "on") (ref_json row.on) no_members))
 
--- the members of a slot
+-- the members of a slot, which tells its place as the number of a file and a line of it
 abbrev pub slot_members : Slot → Members
 slot_members slot =
+    member (codes "file") (count_json (file_of slot.line)) (
     member (codes "gens") (list_json gen_json slot.gens) (
-    member (codes "line") (count_json slot.line) (
+    member (codes "line") (count_json (line_in slot.line)) (
     member (codes "names") (list_json string slot.names) (
     member (codes "rows") (list_json row_json slot.rows) (
-    member (codes "variant") (count_json slot.variant) no_members))))
+    member (codes "variant") (count_json slot.variant) no_members)))))
 
 -- a slot
 abbrev pub slot_json : Slot → Data
 slot_json slot = object (slot_members slot)
 
--- the members of a symbol file, of version 1
+-- the members of a symbol file, of version 2
 abbrev pub table_members : TableParts → Members
 table_members parts =
     member (codes "instances") (list_json instance_json parts.instances) (
@@ -81,7 +83,7 @@ table_members parts =
     member (codes "slots") (list_json slot_json parts.slots) (
     member (codes "top") (string parts.top) (
     member (codes "variants") (list_json variant_json parts.variants) (
-    member (codes "version") (count_json 1) no_members)))))
+    member (codes "version") (count_json 2) no_members)))))
 
 -- the JSON value that a symbol file is, with the keys of each object in the order of their bytes
 abbrev pub table_json : TableParts → Data

@@ -60,9 +60,10 @@ is_full variants instances slot =
 abbrev pub are_full : ℕ → (ℕ → ℕ) → List SlotEntry → Bool
 are_full variants instances slots = list_all (is_full variants instances) slots
 
-abbrev pub told_slots : Data → List InstanceEntry → List NodeName → Option (List SlotEntry)
-told_slots d instances nodes =
-    kept_if (are_full (variants_len d) (instance_count instances)) (told_member (told_short (told_slot nodes)) (codes "slots") d)
+-- the slots of a file where they have files, or where they have none
+abbrev pub told_slots : Bool → Data → List InstanceEntry → List NodeName → Option (List SlotEntry)
+told_slots filed d instances nodes =
+    kept_if (are_full (variants_len d) (instance_count instances)) (told_member (told_short (told_slot filed nodes)) (codes "slots") d)
 
 -- an instance with this path
 abbrev pub has_path : List ℕ → InstanceEntry → Bool

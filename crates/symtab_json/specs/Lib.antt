@@ -15,3 +15,4 @@ pub mod Fit
 pub mod Sample
 pub mod ReadBack
 pub mod Laws
+pub mod Versions

@@ -4,7 +4,7 @@ use Rattle.std.specs.Option.{option_map_or}
 use Rattle.symtab.specs.declared.parts.NodeName.{NodeName}
 use Rattle.serde_json.specs.Data.{Data, Members}
 use Rattle.serde_json.specs.Find.{as_object, as_str, get_member}
-use Rattle.symtab_json.specs.Entries.{told_cell, told_count, told_gen, told_instance, told_line, told_list, told_member, told_node, told_on, told_row, told_short}
+use Rattle.symtab_json.specs.Entries.{told_cell, told_count, told_gen, told_instance, told_list, told_member, told_node, told_on, told_row, told_short}
 use Rattle.symtab_json.specs.Judged.{list_len, variants_len}
 use Rattle.symtab_json.specs.declared.preface.Preface.{Preface}
 use Rattle.symtab_json.specs.declared.readings.RowFields.{RowFields}
@@ -21,7 +21,8 @@ row_fields nodes ms = record {
 abbrev pub slot_fields : List NodeName → Members → SlotFields
 slot_fields nodes ms = record {
   variant = option_and_then told_count (get_member (codes "variant") ms);
-  line = option_and_then told_line (get_member (codes "line") ms);
+  file = option_and_then told_count (get_member (codes "file") ms);
+  line = option_and_then told_count (get_member (codes "line") ms);
   gens = option_and_then (told_short told_gen) (get_member (codes "gens") ms);
   names = option_and_then (told_short as_str) (get_member (codes "names") ms);
   rows = option_and_then (told_short (told_row nodes)) (get_member (codes "rows") ms);

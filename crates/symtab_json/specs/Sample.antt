@@ -46,7 +46,7 @@ sample_parts = record {
 -- a slot's text, of the digits of its line, its cells, and its enable
 abbrev slot_text : List ℕ → List ℕ → List ℕ → List ℕ
 slot_text line cells on =
-    codes "{\"gens\":[],\"line\":" ++ line ++ codes ",\"names\":[\"en\",\"d\",\"q\",\"t\",\"r\"],\"rows\":[{\"cells\":[" ++ cells ++ codes "],\"on\":" ++ on ++ codes "}],\"variant\":0}"
+    codes "{\"file\":0,\"gens\":[],\"line\":" ++ line ++ codes ",\"names\":[\"en\",\"d\",\"q\",\"t\",\"r\"],\"rows\":[{\"cells\":[" ++ cells ++ codes "],\"on\":" ++ on ++ codes "}],\"variant\":0}"
 
 -- the bytes of the file
 abbrev pub sample_text : List ℕ
@@ -57,7 +57,7 @@ sample_text =
     ++ slot_text (codes "10") (codes "0,2,\"unset\",1,1") (codes "0") ++ codes ","
     ++ slot_text (codes "12") (codes "0,2,\"unset\",4,1") (codes "\"1'h1\"") ++ codes ","
     ++ slot_text (codes "14") (codes "0,2,4,4,1") (codes "\"1'h1\"")
-    ++ codes "],\"top\":\"A\",\"variants\":[[\"A\",[]]],\"version\":1}"
+    ++ codes "],\"top\":\"A\",\"variants\":[[\"A\",[]]],\"version\":2}"
 
 -- the text of the file is these bytes
 abbrev pub sample_is_written : Type 0

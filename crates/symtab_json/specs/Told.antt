@@ -1,5 +1,5 @@
 -- The table that the bytes of a symbol file tell, or the first reason why they tell none.
-use Rattle.std.specs.Prelude.{◌≡◌, ℕ, ◌^◌, ◌==◌, List, length, is_some, nat_lt, codes, Option, Some, None, Result, Ok, Err, if◌then◌else◌}
+use Rattle.std.specs.Prelude.{◌≡◌, ℕ, ◌^◌, ◌==◌, List, length, Bool, true, false, is_some, nat_lt, codes, Option, Some, None, Result, Ok, Err, if◌then◌else◌}
 use Rattle.std.specs.Str.{is_utf8}
 use Rattle.symtab.specs.declared.parts.NodeName.{NodeName}
 use Rattle.symtab.specs.declared.parts.VariantParts.{VariantParts}
@@ -36,19 +36,21 @@ abbrev pub by_slots : Data → List InstanceEntry → List NodeName → Option (
 by_slots d instances nodes None = misshapen part.Slots
 by_slots d instances nodes (Some slots) = by_top d instances nodes slots (told_top d instances)
 
-abbrev pub by_nodes : Data → List InstanceEntry → Option (List NodeName) → Result Entries TableFault
-by_nodes d instances None = misshapen part.Nodes
-by_nodes d instances (Some nodes) = by_slots d instances nodes (told_slots d instances nodes)
+abbrev pub by_nodes : Bool → Data → List InstanceEntry → Option (List NodeName) → Result Entries TableFault
+by_nodes filed d instances None = misshapen part.Nodes
+by_nodes filed d instances (Some nodes) = by_slots d instances nodes (told_slots filed d instances nodes)
 
-abbrev pub by_instances : Data → Option (List InstanceEntry) → Result Entries TableFault
-by_instances d None = misshapen part.Instances
-by_instances d (Some instances) = by_nodes d instances (told_nodes d)
+abbrev pub by_instances : Bool → Data → Option (List InstanceEntry) → Result Entries TableFault
+by_instances filed d None = misshapen part.Instances
+by_instances filed d (Some instances) = by_nodes filed d instances (told_nodes d)
 
--- ---- the version goes before the parts, and the JSON before the version
+-- ---- the version goes before the parts, and the JSON before the version. Slots have files from version 2 on
 
 abbrev pub by_version : Data → Option ℕ → Result Entries TableFault
 by_version d None = misshapen part.Version
-by_version d (Some version) = if version == 1 then by_instances d (told_instances d) else Err (fault.Version version)
+by_version d (Some version) =
+    if version == 1 then by_instances false d (told_instances d)
+    else (if version == 2 then by_instances true d (told_instances d) else Err (fault.Version version))
 
 -- an object
 abbrev pub told_tree : Data → Result Entries TableFault

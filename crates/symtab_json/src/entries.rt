@@ -10,7 +10,7 @@ pub struct InstanceEntry {
     pub variant: u64,
 }
 
-/// A slot: a number for its variant, its line, its generator variables, the names in scope, and its rows, whose numbers of
+/// A slot: a number for its variant, the place of its statement, its generator variables, the names in scope, and its rows, whose numbers of
 /// nodes are of any size too. The statements of a block have one list of names.
 #[derive(Drop)]
 pub struct SlotEntry {

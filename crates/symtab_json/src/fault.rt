@@ -64,8 +64,8 @@ pub enum TableFault {
     /// The first number of a node or a variant that is outside its list, with the size of the list.
     #[error("the number {id} is outside its list, whose size is {size}")]
     BadReference { id: u64, size: u64 },
-    /// The version is not 1.
-    #[error("the version is {found}, where 1 is known")]
+    /// The version is neither 1 nor 2.
+    #[error("the version is {found}, where 1 and 2 are known")]
     Version { found: u64 },
     /// The text has more than 64 MiB.
     #[error("the file is too long")]

@@ -20,7 +20,10 @@ mod told;
 mod written;
 
 pub use fault::{Part, TableFault};
-pub use laws::{files_read_back, literals_are_shown, tables_are_told, writes_the_sample};
+pub use laws::{
+    files_read_back, literals_are_shown, tables_are_told, versions_tell_one_table,
+    writes_the_sample,
+};
 pub use quoted::push_quoted;
 pub use read::read_table;
 pub use written::write_table;

@@ -14,6 +14,7 @@ use crate::quoted::push_quoted;
 use crate::written::{Written, push_comma, push_count, push_list, push_member, push_pair};
 use bv_core::{Binding, Ref, text_of};
 use itoa::Buffer;
+use places::{file_of, line_in};
 use std::alloc::Global;
 use symtab::{
     Cells, GenVariable, InstanceParts, Names, NodeName, Row, Slot, TableParts, VariantParts,
@@ -162,8 +163,9 @@ impl Written for Slot {
 
     fn write(&self, alloc: Global, text: &mut Vec<u8>) -> Result<(), NoMemory> {
         text.push(b'{')?;
-        push_member(alloc, text, false, "gens", &self.gens)?;
-        push_member(alloc, text, true, "line", &self.line)?;
+        push_member(alloc, text, false, "file", &file_of(self.line))?;
+        push_member(alloc, text, true, "gens", &self.gens)?;
+        push_member(alloc, text, true, "line", &line_in(self.line))?;
         push_member(alloc, text, true, "names", &self.names)?;
         push_member(alloc, text, true, "rows", &self.rows)?;
         push_member(alloc, text, true, "variant", &self.variant)?;
@@ -182,7 +184,7 @@ impl Written for TableParts {
         push_member(alloc, text, true, "slots", &self.slots)?;
         push_member(alloc, text, true, "top", &self.top)?;
         push_member(alloc, text, true, "variants", &self.variants)?;
-        push_member(alloc, text, true, "version", &1u32)?;
+        push_member(alloc, text, true, "version", &2u32)?;
         text.push(b'}')?;
         Ok(())
     }

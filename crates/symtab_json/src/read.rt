@@ -3,7 +3,7 @@
 //! names, and the numbers of nodes and variants last. So nothing is kept of a file but its table: no tree of it is made, and what is passed over takes
 //! no room.
 
-ghost use Rattle.std.specs.Prelude.{◌≡◌, Ok, IfOk, IfErr, Option, Some, codes, option_map};
+ghost use Rattle.std.specs.Prelude.{◌≡◌, true, false, Ok, IfOk, IfErr, Option, Some, codes, option_map};
 ghost use Rattle.std.specs.Option.{option_map_or};
 ghost use Rattle.symtab_json.specs.Entries.{kept_if, told_list, told_member, told_node, told_short, told_slot};
 ghost use Rattle.symtab_json.specs.Judged.{names_of_nodes_differ, paths_differ, told_instances, told_slots, told_top, variants_len, told_parts};
@@ -19,7 +19,7 @@ use crate::first_pass::json_text;
 use crate::judged::{are_apart, are_full, counts_of, is_first};
 use crate::numbers::{entries_outside, instance_parts, slot_parts};
 use crate::preface::{Preface, preface_in};
-use crate::readings::SlotList;
+use crate::readings::{FiledSlots, PlainSlots};
 use crate::told::{ListLen, LongList, Told};
 use json::{Reader, Scratch};
 use std::alloc::Global;
@@ -88,20 +88,55 @@ fn count_of(list: Option<ListLen>) -> usize
     }
 }
 
-/// The list of the slots of a file with these nodes.
-fn slot_list(
+/// The list of the slots of a file with these nodes, each with its file.
+fn filed_slots(
     alloc: Global,
     scratch: &mut Scratch,
     text: &str,
     nodes: &[NodeName],
 ) -> Result<Option<Listed<SlotEntry>>, NoMemory>
     requires { IsJson text.now }
-    ensures { IfOk result (λ found. found ≡ told_member (told_short (told_slot nodes.now)) (codes "slots") (value_of text.now)) }
+    ensures { IfOk result (λ found. found ≡ told_member (told_short (told_slot true nodes.now)) (codes "slots") (value_of text.now)) }
 {
-    let found: Option<SlotList> = part(alloc, scratch, text, nodes, "slots")?;
+    let found: Option<FiledSlots> = part(alloc, scratch, text, nodes, "slots")?;
     match found {
         Some(list) => Ok(Some(list.slots)),
         None => Ok(None),
+    }
+}
+
+/// The list of the slots of a file with these nodes, all of file 0.
+fn plain_slots(
+    alloc: Global,
+    scratch: &mut Scratch,
+    text: &str,
+    nodes: &[NodeName],
+) -> Result<Option<Listed<SlotEntry>>, NoMemory>
+    requires { IsJson text.now }
+    ensures { IfOk result (λ found. found ≡ told_member (told_short (told_slot false nodes.now)) (codes "slots") (value_of text.now)) }
+{
+    let found: Option<PlainSlots> = part(alloc, scratch, text, nodes, "slots")?;
+    match found {
+        Some(list) => Ok(Some(list.slots)),
+        None => Ok(None),
+    }
+}
+
+/// The list of the slots of a file with these nodes, whose slots have files or have none.
+fn slot_list(
+    alloc: Global,
+    scratch: &mut Scratch,
+    text: &str,
+    filed: bool,
+    nodes: &[NodeName],
+) -> Result<Option<Listed<SlotEntry>>, NoMemory>
+    requires { IsJson text.now }
+    ensures { IfOk result (λ found. found ≡ told_member (told_short (told_slot filed nodes.now)) (codes "slots") (value_of text.now)) }
+{
+    if filed {
+        filed_slots(alloc, scratch, text, nodes)
+    } else {
+        plain_slots(alloc, scratch, text, nodes)
     }
 }
 
@@ -110,16 +145,17 @@ fn slots(
     alloc: Global,
     scratch: &mut Scratch,
     text: &str,
+    filed: bool,
     variants: usize,
     instances: &[InstanceEntry],
     nodes: &[NodeName],
 ) -> Result<Option<Listed<SlotEntry>>, NoMemory>
     requires json { IsJson text.now }
     requires variants { variants ≡ variants_len (value_of text.now) }
-    ensures { IfOk result (λ found. found ≡ told_slots (value_of text.now) instances.now nodes.now) }
+    ensures { IfOk result (λ found. found ≡ told_slots filed (value_of text.now) instances.now nodes.now) }
 {
     let counts = counts_of(alloc, instances)?;
-    let Some(slots) = slot_list(alloc, scratch, text, nodes)? else {
+    let Some(slots) = slot_list(alloc, scratch, text, filed, nodes)? else {
         return Ok(None);
     };
     if are_full(alloc, variants, &counts, slots.items())? {
@@ -186,6 +222,7 @@ fn with_instances(
     alloc: Global,
     scratch: &mut Scratch,
     text: &str,
+    filed: bool,
     instances: Listed<InstanceEntry>,
     nodes: Option<LongList<NodeName>>,
     variants: Option<ListLen>,
@@ -193,8 +230,8 @@ fn with_instances(
     requires json { IsJson text.now }
     requires nodes { option_map (λ list. list.items) nodes ≡ told_member (told_list told_node) (codes "nodes") (value_of text.now) }
     requires variants { option_map_or (λ n. n.0) variants 0 ≡ variants_len (value_of text.now) }
-    ensures ok { IfOk result (λ entries. by_instances (value_of text.now) (Some instances) ≡ Ok entries) }
-    ensures err { IfErr result (IsFaultOf (by_instances (value_of text.now) (Some instances))) }
+    ensures ok { IfOk result (λ entries. by_instances filed (value_of text.now) (Some instances) ≡ Ok entries) }
+    ensures err { IfErr result (IsFaultOf (by_instances filed (value_of text.now) (Some instances))) }
 {
     let Some(nodes) = apart_nodes(alloc, nodes)? else {
         return Err(TableFault::BadShape { path: Part::Nodes });
@@ -204,6 +241,7 @@ fn with_instances(
         alloc,
         scratch,
         text,
+        filed,
         variants,
         instances.items(),
         nodes.items(),
@@ -214,23 +252,25 @@ fn with_instances(
     with_slots(alloc, scratch, text, instances, nodes, slots)
 }
 
-/// The entries of a file of version 1, of which this was read.
+/// The entries of a file whose slots have files or have none, of which this was read.
 fn parts_in(
     alloc: Global,
     scratch: &mut Scratch,
     text: &str,
+    filed: bool,
     preface: Preface,
 ) -> Result<Entries, TableFault>
     requires json { IsJson text.now }
     requires preface { IsPreface (value_of text.now) preface }
-    ensures ok { IfOk result (λ entries. by_instances (value_of text.now) (told_instances (value_of text.now)) ≡ Ok entries) }
-    ensures err { IfErr result (IsFaultOf (by_instances (value_of text.now) (told_instances (value_of text.now)))) }
+    ensures ok { IfOk result (λ entries. by_instances filed (value_of text.now) (told_instances (value_of text.now)) ≡ Ok entries) }
+    ensures err { IfErr result (IsFaultOf (by_instances filed (value_of text.now) (told_instances (value_of text.now)))) }
 {
     match apart_instances(alloc, preface.instances)? {
         Some(instances) => with_instances(
             alloc,
             scratch,
             text,
+            filed,
             instances,
             preface.nodes,
             preface.variants,
@@ -255,10 +295,13 @@ fn entries_in(alloc: Global, scratch: &mut Scratch, text: &str) -> Result<Entrie
             path: Part::Version,
         });
     };
-    if found != 1 {
-        return Err(TableFault::Version { found });
+    if found == 1 {
+        return parts_in(alloc, scratch, text, false, preface);
     }
-    parts_in(alloc, scratch, text, preface)
+    if found == 2 {
+        return parts_in(alloc, scratch, text, true, preface);
+    }
+    Err(TableFault::Version { found })
 }
 
 /// The entries of the file that bytes are.

@@ -1,12 +1,12 @@
 //! What each entry of a symbol file tells.
 
-ghost use Rattle.std.specs.Prelude.{◌≡◌, ◌∷◌, ◌++◌, [], IfOk, OnOk, None, Some, option_map};
+ghost use Rattle.std.specs.Prelude.{◌≡◌, ◌∷◌, ◌++◌, [], true, false, IfOk, OnOk, None, Some, option_map};
 ghost use Rattle.std.specs.Bool.{MatchBool};
 ghost use Rattle.bv_core.specs.declared.Binding.{Binding};
 ghost use Rattle.serde_json.specs.Data.{Data};
 ghost use Rattle.serde_json.specs.Find.{as_str};
 ghost use Rattle.symtab_json.specs.Begun.{IsScalar};
-ghost use Rattle.symtab_json.specs.Entries.{made_row, made_slot, told_short, told_mark, told_cell, told_gen, told_instance, told_items, told_node, told_on, told_ref, told_row, told_slot, told_variant, told_width_at};
+ghost use Rattle.symtab_json.specs.Entries.{made_row, made_slot, told_short, told_mark, told_cell, told_gen, told_instance, told_items, told_node, told_on, told_ref, told_row, told_slot, told_variant, told_width_at, file_found, made_place};
 ghost use Rattle.symtab_json.specs.Standing.{head_items, head_value, past_items, past_value, AreItems, IsValue};
 
 use crate::entries::{InstanceEntry, SlotEntry};
@@ -17,6 +17,7 @@ use crate::tokens::{Scalar, opens_list, pass_items, pass_value, read_scalar};
 use crate::told::{Told, pair, push_item};
 use bv_core::{Binding, NodeId, Ref};
 use json::Reader;
+use places::{FILES_MAX, place};
 use std::alloc::Global;
 use symtab::{Cells, GenVariable, Names, NodeName, Row, VariantParts};
 use text_core::{Listed, NoMemory, Text};
@@ -298,7 +299,8 @@ impl Told for Names {
 #[derive(Drop)]
 pub struct SlotFields {
     variant: Option<u64>,
-    line: Option<u32>,
+    file: Option<u64>,
+    line: Option<u64>,
     gens: Option<Listed<GenVariable>>,
     names: Option<Names>,
     rows: Option<Listed<Row>>,
@@ -312,6 +314,7 @@ impl Fields for SlotFields {
     fn empty() -> Self {
         SlotFields {
             variant: None,
+            file: None,
             line: None,
             gens: None,
             names: None,
@@ -337,6 +340,8 @@ impl Fields for SlotFields {
             self.names = Told::read(alloc, nodes, reader)?;
         } else if key == "rows" {
             self.rows = Told::read(alloc, nodes, reader)?;
+        } else if key == "file" {
+            self.file = Told::read(alloc, nodes, reader)?;
         } else {
             pass_value(reader);
         }
@@ -344,29 +349,55 @@ impl Fields for SlotFields {
     }
 }
 
+/// The file of a slot, where slots have files; 0 where they have none.
+fn file_found(filed: bool, file: Option<u64>) -> Option<u64>
+    ensures { result ≡ file_found filed file }
+{
+    if filed { file } else { Some(0) }
+}
+
+/// The place of a line in a file. None where one is missing or too large.
+fn made_place(file: Option<u64>, line: Option<u64>) -> Option<u32>
+    ensures { result ≡ made_place file line }
+{
+    let file = file?;
+    let line = line?;
+    if file < u64::from(FILES_MAX) && line < 1 << 24 {
+        Some(place(file as u32, line as u32))
+    } else {
+        None
+    }
+}
+
 /// The slot that members are, where none is missing or wrong.
-fn slot_of(fields: SlotFields) -> Option<SlotEntry>
-    ensures { result ≡ made_slot fields.variant fields.line fields.gens fields.names fields.rows }
+fn slot_of(filed: bool, fields: SlotFields) -> Option<SlotEntry>
+    ensures { result ≡ made_slot fields.variant (made_place (file_found filed fields.file) fields.line) fields.gens fields.names fields.rows }
 {
     Some(SlotEntry {
         variant: fields.variant?,
-        line: fields.line?,
+        line: made_place(file_found(filed, fields.file), fields.line)?,
         gens: fields.gens?,
         names: fields.names?,
         rows: fields.rows?,
     })
 }
 
-impl Told for SlotEntry {
-    ghost told = { told_slot };
-
-    fn read(
-        alloc: Global,
-        nodes: &[NodeName],
-        reader: &mut Reader<'_>,
-    ) -> Result<Option<Self>, NoMemory> {
-        let found: Option<SlotFields> = object(alloc, nodes, reader)?;
-        Ok(found.and_then(slot_of))
+/// A slot, of a file whose slots have files or of one where they have none.
+#[tactic(auto, using(crate::proofs::Objects::slot_found, crate::proofs::Objects::no_slot))]
+fn read_slot(
+    alloc: Global,
+    filed: bool,
+    nodes: &[NodeName],
+    reader: &mut Reader<'_>,
+) -> Result<Option<SlotEntry>, NoMemory>
+    requires { IsValue reader.old }
+    ensures told { IfOk result (λ found. found ≡ told_slot filed nodes.now (head_value reader.old)) }
+    ensures passed { OnOk result (reader.new ≡ past_value reader.old) }
+{
+    let found: Option<SlotFields> = object(alloc, nodes, reader)?;
+    match found {
+        Some(fields) => Ok(slot_of(filed, fields)),
+        None => Ok(None),
     }
 }
 
@@ -386,16 +417,17 @@ fn with_names_of(before: Option<&SlotEntry>, mut slot: SlotEntry) -> Result<Slot
 #[tactic(auto, using(crate::proofs::Heads::item_value, crate::proofs::Heads::items_left, crate::proofs::Heads::items_past, crate::proofs::Heads::items_head, crate::proofs::Heads::items_shorter, crate::proofs::Heads::items_end_past, crate::proofs::Heads::items_end_head, crate::proofs::Behind::behind_first, crate::proofs::Behind::behind_none, crate::proofs::Behind::behind_end))]
 fn slots(
     alloc: Global,
+    filed: bool,
     nodes: &[NodeName],
     reader: &mut Reader<'_>,
 ) -> Result<Option<Vec<SlotEntry>>, NoMemory>
     requires { AreItems reader.old }
-    ensures told { IfOk result (λ found. option_map (λ slots. slots.items) found ≡ told_items (told_slot nodes.now) (head_items reader.old)) }
+    ensures told { IfOk result (λ found. option_map (λ slots. slots.items) found ≡ told_items (told_slot filed nodes.now) (head_items reader.old)) }
     ensures passed { OnOk result (reader.new ≡ past_items reader.old) }
 {
     let mut slots: Vec<SlotEntry> = Vec::new(alloc);
     'items: while !reader.take_end_array() {
-        let Some(slot) = SlotEntry::read(alloc, nodes, reader)? else {
+        let Some(slot) = read_slot(alloc, filed, nodes, reader)? else {
             pass_items(reader);
             return Ok(None);
         };
@@ -406,27 +438,63 @@ fn slots(
 }
 
 /// A list of fewer than 2^32 slots.
+fn slot_list(
+    alloc: Global,
+    filed: bool,
+    nodes: &[NodeName],
+    reader: &mut Reader<'_>,
+) -> Result<Option<Listed<SlotEntry>>, NoMemory>
+    requires { IsValue reader.old }
+    ensures told { IfOk result (λ found. found ≡ told_short (told_slot filed nodes.now) (head_value reader.old)) }
+    ensures passed { OnOk result (reader.new ≡ past_value reader.old) }
+{
+    if !opens_list(reader) {
+        return Ok(None);
+    }
+    match slots(alloc, filed, nodes, reader)? {
+        Some(slots) if slots.len() < 1 << 32 => Ok(Some(Listed::new(slots))),
+        _ => Ok(None),
+    }
+}
+
+/// A list of fewer than 2^32 slots, each with its file.
 #[derive(Drop)]
-pub struct SlotList {
+pub struct FiledSlots {
     pub slots: Listed<SlotEntry>,
 }
 
-impl Told for SlotList {
-    ghost told = { λ nodes d. option_map (λ slots. record { slots = slots }) (told_short (told_slot nodes) d) };
+impl Told for FiledSlots {
+    ghost told = { λ nodes d. option_map (λ slots. record { slots = slots }) (told_short (told_slot true nodes) d) };
 
     fn read(
         alloc: Global,
         nodes: &[NodeName],
         reader: &mut Reader<'_>,
     ) -> Result<Option<Self>, NoMemory> {
-        if !opens_list(reader) {
-            return Ok(None);
+        match slot_list(alloc, true, nodes, reader)? {
+            Some(slots) => Ok(Some(FiledSlots { slots })),
+            None => Ok(None),
         }
-        match slots(alloc, nodes, reader)? {
-            Some(slots) if slots.len() < 1 << 32 => Ok(Some(SlotList {
-                slots: Listed::new(slots),
-            })),
-            _ => Ok(None),
+    }
+}
+
+/// A list of fewer than 2^32 slots, all of file 0: a `file` of theirs is passed over.
+#[derive(Drop)]
+pub struct PlainSlots {
+    pub slots: Listed<SlotEntry>,
+}
+
+impl Told for PlainSlots {
+    ghost told = { λ nodes d. option_map (λ slots. record { slots = slots }) (told_short (told_slot false nodes) d) };
+
+    fn read(
+        alloc: Global,
+        nodes: &[NodeName],
+        reader: &mut Reader<'_>,
+    ) -> Result<Option<Self>, NoMemory> {
+        match slot_list(alloc, false, nodes, reader)? {
+            Some(slots) => Ok(Some(PlainSlots { slots })),
+            None => Ok(None),
         }
     }
 }

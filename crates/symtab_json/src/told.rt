@@ -6,7 +6,7 @@ ghost use Rattle.symtab.specs.declared.parts.NodeName.{NodeName};
 ghost use Rattle.serde_json.specs.Data.{Data};
 ghost use Rattle.serde_json.specs.Events.{items_len};
 ghost use Rattle.serde_json.specs.Find.{as_str};
-ghost use Rattle.symtab_json.specs.Entries.{told_count, told_gen_number, told_items, told_line, told_list, told_short, told_width};
+ghost use Rattle.symtab_json.specs.Entries.{told_count, told_gen_number, told_items, told_list, told_short, told_width};
 ghost use Rattle.symtab_json.specs.Judged.{list_len};
 ghost use Rattle.symtab_json.specs.Pairs.{told_both, told_pair};
 ghost use Rattle.symtab_json.specs.Standing.{head_items, head_value, past_items, past_value, AreItems, IsValue};
@@ -59,20 +59,6 @@ fn width(reader: &mut Reader<'_>) -> Option<u8>
     }
 }
 
-/// A line: a whole number below 2^30.
-fn line(reader: &mut Reader<'_>) -> Option<u32>
-    requires { IsValue reader.old }
-    ensures told { result ≡ told_line (head_value reader.old) }
-    ensures passed { reader.new ≡ past_value reader.old }
-{
-    let number = count(reader)?;
-    if number < 1 << 30 {
-        Some(number as u32)
-    } else {
-        None
-    }
-}
-
 /// The number of a generator variable: a whole number from -2^62 to 2^62.
 fn gen_number(reader: &mut Reader<'_>) -> Option<i64>
     requires { IsValue reader.old }
@@ -110,19 +96,6 @@ impl Told for u8 {
         reader: &mut Reader<'_>,
     ) -> Result<Option<Self>, NoMemory> {
         Ok(width(reader))
-    }
-}
-
-/// A line.
-impl Told for u32 {
-    ghost told = { λ nodes d. told_line d };
-
-    fn read(
-        _alloc: Global,
-        _nodes: &[NodeName],
-        reader: &mut Reader<'_>,
-    ) -> Result<Option<Self>, NoMemory> {
-        Ok(line(reader))
     }
 }
 

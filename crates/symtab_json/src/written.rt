@@ -101,7 +101,7 @@ pub(crate) fn push_list<T: Written>(
     push_items(alloc, text, items)
 }
 
-/// The symbol file of a table: the compact JSON of its parts, of version 1. Fails only where memory runs out.
+/// The symbol file of a table: the compact JSON of its parts, of version 2. Fails only where memory runs out.
 pub fn write_table(alloc: Global, table: &Table) -> Result<Vec<u8>, NoMemory>
     ensures { IfOk result (λ text. text.items ≡ symbols_text table.now) }
 {

@@ -38,7 +38,7 @@ behind parts =
     member (codes "slots") (list_json slot_json parts.slots) (
     member (codes "top") (string parts.top) (
     member (codes "variants") (list_json variant_json parts.variants) (
-    member (codes "version") (count_json 1) no_members)))
+    member (codes "version") (count_json 2) no_members)))
 
 pub nodes_few : (parts : TableParts) → length parts.nodes ≤ length (symbols_text parts)
 nodes_few parts = omega (arith, nodes_within (list_json instance_json parts.instances) parts.nodes (behind parts))

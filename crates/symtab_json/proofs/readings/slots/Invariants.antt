@@ -8,7 +8,7 @@ use Rattle.symtab_json.proofs.readings.slots.Given as goal
 abbrev pub invariant-items : goal.invariant-items
 invariant-items l =
     AreItems l.reader
-    × (behind l.slots.items (told_items (told_slot l.nodes) (head_items l.reader)) ≡ told_items (told_slot l.nodes) (head_items l.initial.reader))
+    × (behind l.slots.items (told_items (told_slot l.filed l.nodes) (head_items l.reader)) ≡ told_items (told_slot l.filed l.nodes) (head_items l.initial.reader))
     × (past_items l.reader ≡ past_items l.initial.reader)
 
 abbrev pub decreases-items : goal.decreases-items

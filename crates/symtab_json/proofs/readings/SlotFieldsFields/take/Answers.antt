@@ -1,5 +1,5 @@
 use Rattle.std.proofs.Common.{sym, ◌∙◌}
-use Rattle.symtab_json.proofs.Objects.{slot_variant_taken, slot_line_taken, slot_gens_taken, slot_names_taken, slot_rows_taken}
+use Rattle.symtab_json.proofs.Objects.{slot_variant_taken, slot_line_taken, slot_gens_taken, slot_names_taken, slot_rows_taken, slot_file_taken}
 use Rattle.symtab_json.proofs.readings.SlotFieldsFields.take.Goals as goal
 
 pub returns-in_ok-self-clause-more : goal.returns-in_ok-self-clause-more
@@ -16,3 +16,6 @@ returns-in_ok-self-4-clause-more c = λ known are. slot_names_taken _ _ _ known 
 
 pub returns-in_ok-self-5-clause-more : goal.returns-in_ok-self-5-clause-more
 returns-in_ok-self-5-clause-more c = λ known are. slot_rows_taken _ _ _ known _ _ (sym c.eq-else-eq-4.ensures ∙ c.if-eq-5.true) are c.in_ok-self-5.ensures.told
+
+pub returns-in_ok-self-6-clause-more : goal.returns-in_ok-self-6-clause-more
+returns-in_ok-self-6-clause-more c = λ known are. slot_file_taken _ _ _ known _ _ (sym c.eq-else-eq-5.ensures ∙ c.if-eq-6.true) are c.in_ok-self-6.ensures.told
