@@ -132,7 +132,7 @@ def bent(value):
     """What is no line of a session, made of one: without a key that it needs, with one more, and with a value of another kind."""
     for name in value:
         less = {key: each for key, each in value.items() if key != name}
-        if name not in ("id", "watches") and set(less) - {"id"} != {"ok", "seq"}:
+        if name not in ("id", "file", "watches") and set(less) - {"id"} != {"ok", "seq"}:
             yield less
         yield {**value, name: {"": 0}}
     yield {**value, "more": 0}

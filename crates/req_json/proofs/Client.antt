@@ -1,6 +1,9 @@
 -- A client reads from a reply what was answered.
-use Rattle.std.proofs.Common.{◌≡◌, ℕ, ◌<◌, ◌^◌, ℤ, pos, negsuc, cond, List, codes, Option, Some, None, option_map, option_and_then, refl, sym, ap, ◌∙◌, lt-ltb}
+use Rattle.std.proofs.Common.{◌≡◌, ℕ, ◌<◌, ◌^◌, ◌==◌, ℤ, pos, negsuc, Bool, true, false, cond, List, codes, Option, Some, None, option_map, option_and_then, refl, sym, ap, ◌∙◌, lt-ltb}
 use Rattle.std.specs.Int.Signed.{mag}
+use Rattle.std.proofs.lemmas.Bool.{eqb-true}
+use Rattle.places.specs.Places.{place, file_of, line_in}
+use Rattle.places.proofs.Places.{is_of}
 use Rattle.std.specs.List.{AllByRecursion}
 use Rattle.std.specs.Option.{option_or}
 use Rattle.bv_core.specs.Text.{shown}
@@ -15,7 +18,7 @@ use Rattle.machine_core.specs.declared.reply.Shown.TheVariants as shows
 use Rattle.machine_core.specs.declared.reply.Body.{Body}
 use Rattle.machine_core.specs.declared.reply.Body.TheVariants as body
 use Rattle.machine_core.specs.declared.reply.Reply.{Reply}
-use Rattle.serde_json.specs.Data.{object, string}
+use Rattle.serde_json.specs.Data.{Data, no_members, object, string}
 use Rattle.serde_json.specs.Find.{as_i64, as_str, get, of_integer}
 use Rattle.serde_json.proofs.Views.{get_member-put, get_member-put_other}
 use Rattle.symtab_json.specs.Entries.{told_count, told_member, two_found}
@@ -23,20 +26,20 @@ use Rattle.symtab_json.specs.Files.{count_json}
 use Rattle.symtab_json.specs.Told.{json_of}
 use Rattle.symtab_json.proofs.Backs.{each, every, list_same}
 use Rattle.symtab_json.proofs.Shown.{literal_back}
-use Rattle.req_json.specs.Objects.{with_member}
-use Rattle.req_json.specs.Values.{at_json, counts_json, gens_json, going_json, named_json, names_json, row_pair_json, rows_json, sample_json, shown_json, values_json, variable_json}
-use Rattle.req_json.specs.Replies.{body_members, reply_json, with_id}
+use Rattle.req_json.specs.Objects.{two_members, with_member}
+use Rattle.req_json.specs.Values.{at_json, counts_json, file_unless, with_place, gens_json, going_json, named_json, names_json, row_pair_json, rows_json, sample_json, shown_json, values_json, variable_json}
+use Rattle.req_json.specs.Replies.{body_members, reply_json, with_id, with_mark}
 use Rattle.req_json.specs.ReadBack.{VariablesFit, BodyIsText, IsNamedValue, IsSampleValue, IsShownValue, VariableFits, ReplyIsText}
 use Rattle.req_json.specs.Fields.{optional}
 use Rattle.req_json.specs.Client.{RepliesAreTold, TextsTellApart, heard_body, heard_reply, if_word, made_break, made_reply, made_watch, made_status, made_threads, told_body, told_counts, told_going, told_integer, told_names, told_pair, told_place, told_reply, told_rows, told_sample, told_shown, told_values, told_variables}
-use Rattle.req_json.proofs.ReadBack.{replies_read_back}
+use Rattle.req_json.proofs.ReadBack.{replies_read_back, site_members, stop_members}
 
 -- ---- values
 
-counts_told : (ns : List ℕ) → told_counts (counts_json ns) ≡ Some ns
+pub counts_told : (ns : List ℕ) → told_counts (counts_json ns) ≡ Some ns
 counts_told ns = list_same told_count count_json ns (each (λ n. told_count (count_json n) ≡ Some n) (λ n. refl) ns)
 
-names_told : (names : List (List ℕ)) → told_names (names_json names) ≡ Some names
+pub names_told : (names : List (List ℕ)) → told_names (names_json names) ≡ Some names
 names_told names = list_same as_str string names (each (λ s. as_str (string s) ≡ Some s) (λ s. refl) names)
 
 integer_told : (z : ℤ) → mag z < 2 ^ 63 → as_i64 (of_integer z) ≡ Some z
@@ -46,10 +49,10 @@ integer_told (negsuc n) h = refl
 variable_told : (v : List ℕ × ℤ) → VariableFits v → told_pair as_str told_integer (variable_json v) ≡ Some v
 variable_told v h = ap (two_found (Some v.0)) (integer_told v.1 h.1)
 
-gens_told : (gens : List (List ℕ × ℤ)) → VariablesFit gens → told_variables (gens_json gens) ≡ Some gens
+pub gens_told : (gens : List (List ℕ × ℤ)) → VariablesFit gens → told_variables (gens_json gens) ≡ Some gens
 gens_told gens h = list_same (told_pair as_str told_integer) variable_json gens (every VariableFits (λ v. told_pair as_str told_integer (variable_json v) ≡ Some v) variable_told gens h)
 
-rows_told : (rows : List (ℕ × ℕ)) → told_rows (rows_json rows) ≡ Some rows
+pub rows_told : (rows : List (ℕ × ℕ)) → told_rows (rows_json rows) ≡ Some rows
 rows_told rows = list_same (told_pair told_count told_count) row_pair_json rows (each (λ row. told_pair told_count told_count (row_pair_json row) ≡ Some row) (λ row. refl) rows)
 
 sample_told : (s : Sample) → IsSampleValue s → told_sample (sample_json s) ≡ Some s
@@ -96,10 +99,30 @@ status_told a bps listeners mode =
     ∙ ap (λ l. made_status (Some a) (Some bps) l (told_going (going_json mode))) (counts_told listeners)
     ∙ ap (made_status (Some a) (Some bps) (Some listeners)) (going_told mode)
 
+-- ---- places
+
+pub first_site : (file : ℕ) (line : ℕ) → (file == 0) ≡ true → place 0 line ≡ place file line
+first_site file line is = ap (λ n. place n line) (sym (eqb-true file 0 is))
+
+site_at : (seq : ℕ) (id : Option ℕ) (first : Bool) (file line : ℕ) → (file == 0) ≡ first → told_body (object (site_members seq id first file line)) ≡ Some (body.NoSite (place file line))
+unfolding with_member
+site_at seq None true file line is = ap (λ n. Some (body.NoSite n)) (first_site file line is)
+site_at seq None false file line is = refl
+site_at seq (Some id) true file line is = ap (λ n. Some (body.NoSite n)) (first_site file line is)
+site_at seq (Some id) false file line is = refl
+
+stop_at : (seq : ℕ) (id : Option ℕ) (first : Bool) (file line : ℕ) (a : At) (gens : List (List ℕ × ℤ)) (threads : List (List ℕ)) → (file == 0) ≡ first → VariablesFit gens →
+    told_body (object (stop_members seq id first file line (at_json a) (gens_json gens) (names_json threads))) ≡ Some (body.Threads a gens (place file line) threads)
+unfolding with_member
+stop_at seq None true file line a gens threads is h = threads_told a gens (place 0 line) threads h ∙ ap (λ n. Some (body.Threads a gens n threads)) (first_site file line is)
+stop_at seq None false file line a gens threads is h = threads_told a gens (place file line) threads h
+stop_at seq (Some id) true file line a gens threads is h = threads_told a gens (place 0 line) threads h ∙ ap (λ n. Some (body.Threads a gens n threads)) (first_site file line is)
+stop_at seq (Some id) false file line a gens threads is h = threads_told a gens (place file line) threads h
+
 -- ---- the whole
 
 body_at : (seq : ℕ) (id : Option ℕ) (b : Body) → BodyIsText b → told_body (object (with_member (codes "seq") (count_json seq) (with_id id (body_members b)))) ≡ Some (heard_body b)
-unfolding with_member
+unfolding with_member with_place
 body_at seq None body.Delete h = refl
 body_at seq None body.Unwatch h = refl
 body_at seq None body.Continue h = refl
@@ -112,7 +135,7 @@ body_at seq None body.NotJson h = refl
 body_at seq None body.UnknownCmd h = refl
 body_at seq None body.NotRunning h = refl
 body_at seq None (body.BadShape field) h = refl
-body_at seq None (body.NoSite line) h = refl
+body_at seq None (body.NoSite line) h = site_at seq None (file_of line == 0) (file_of line) (line_in line) refl ∙ ap (λ n. Some (body.NoSite n)) (is_of line).0
 body_at seq None (body.NoInstance instance) h = refl
 body_at seq None (body.BadCondAt offset) h = refl
 body_at seq None (body.BadCondName name) h = refl
@@ -131,7 +154,8 @@ body_at seq None (body.Busy mode) h = ap (option_map body.Busy) (going_told mode
 body_at seq None (body.Eval value) h = ap (option_map body.Eval) (sample_told value h)
 body_at seq None (body.Values values) h = ap (option_map body.Values) (values_told values h)
 body_at seq None (body.Drop rows) h = ap (option_map body.Drop) (rows_told rows)
-body_at seq None (body.Threads at gens line threads) h = threads_told at gens line threads h.0.1
+body_at seq None (body.Threads at gens line threads) h =
+    stop_at seq None (file_of line == 0) (file_of line) (line_in line) at gens threads refl h.0.1 ∙ ap (λ n. Some (body.Threads at gens n threads)) (is_of line).0
 body_at seq None (body.Status at bps listeners mode) h = status_told at bps listeners mode
 body_at seq (Some id) body.Delete h = refl
 body_at seq (Some id) body.Unwatch h = refl
@@ -145,7 +169,7 @@ body_at seq (Some id) body.NotJson h = refl
 body_at seq (Some id) body.UnknownCmd h = refl
 body_at seq (Some id) body.NotRunning h = refl
 body_at seq (Some id) (body.BadShape field) h = refl
-body_at seq (Some id) (body.NoSite line) h = refl
+body_at seq (Some id) (body.NoSite line) h = site_at seq (Some id) (file_of line == 0) (file_of line) (line_in line) refl ∙ ap (λ n. Some (body.NoSite n)) (is_of line).0
 body_at seq (Some id) (body.NoInstance instance) h = refl
 body_at seq (Some id) (body.BadCondAt offset) h = refl
 body_at seq (Some id) (body.BadCondName name) h = refl
@@ -164,11 +188,23 @@ body_at seq (Some id) (body.Busy mode) h = ap (option_map body.Busy) (going_told
 body_at seq (Some id) (body.Eval value) h = ap (option_map body.Eval) (sample_told value h)
 body_at seq (Some id) (body.Values values) h = ap (option_map body.Values) (values_told values h)
 body_at seq (Some id) (body.Drop rows) h = ap (option_map body.Drop) (rows_told rows)
-body_at seq (Some id) (body.Threads at gens line threads) h = threads_told at gens line threads h.0.1
+body_at seq (Some id) (body.Threads at gens line threads) h =
+    stop_at seq (Some id) (file_of line == 0) (file_of line) (line_in line) at gens threads refl h.0.1 ∙ ap (λ n. Some (body.Threads at gens n threads)) (is_of line).0
 body_at seq (Some id) (body.Status at bps listeners mode) h = status_told at bps listeners mode
 
-no_id : (b : Body) → get (codes "id") (object (body_members b)) ≡ None
+no_site_id : (first : Bool) (file line : ℕ) → get (codes "id") (object (with_mark (Some (5, codes "NoSite")) (file_unless first file (with_member (codes "line") (count_json line) no_members)))) ≡ None
 unfolding with_member
+no_site_id true file line = refl
+no_site_id false file line = refl
+
+no_stop_id : (first : Bool) (file line : ℕ) (at gens threads : Data) →
+    get (codes "id") (object (with_mark None (with_member (codes "threads") threads (file_unless first file (with_member (codes "line") (count_json line) (two_members (codes "at") at (codes "gens") gens)))))) ≡ None
+unfolding with_member
+no_stop_id true file line at gens threads = refl
+no_stop_id false file line at gens threads = refl
+
+no_id : (b : Body) → get (codes "id") (object (body_members b)) ≡ None
+unfolding with_member with_place
 no_id body.Delete = refl
 no_id body.Unwatch = refl
 no_id (body.Watch slots wp) = refl
@@ -182,7 +218,7 @@ no_id body.NotJson = refl
 no_id body.UnknownCmd = refl
 no_id body.NotRunning = refl
 no_id (body.BadShape field) = refl
-no_id (body.NoSite line) = refl
+no_id (body.NoSite line) = no_site_id (file_of line == 0) (file_of line) (line_in line)
 no_id (body.NoInstance instance) = refl
 no_id (body.BadCondAt offset) = refl
 no_id (body.BadCondName name) = refl
@@ -200,7 +236,7 @@ no_id (body.Busy mode) = refl
 no_id (body.Eval value) = refl
 no_id (body.Values values) = refl
 no_id (body.Drop rows) = refl
-no_id (body.Threads at gens line threads) = refl
+no_id (body.Threads at gens line threads) = no_stop_id (file_of line == 0) (file_of line) (line_in line) (at_json at) (gens_json gens) (names_json threads)
 no_id (body.Status at bps listeners mode) = refl
 
 seq_told : (r : Reply) → told_member told_count (codes "seq") (reply_json r) ≡ Some r.seq

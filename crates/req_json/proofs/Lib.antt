@@ -5,3 +5,4 @@ pub mod Round
 pub mod ReadBack
 pub mod Client
 pub mod Requests
+pub mod Hearing

@@ -1,11 +1,14 @@
 -- Members that are kept as texts are those of the object that is written.
-use Rattle.std.proofs.Common.{◌≡◌, ℕ, List, [], ◌∷◌, ◌++◌, Bool, true, false, String, Global, string_bytes, string_cmp, nat_cmp, Ordering, Less, Equal, Greater, refl, ap, ◌∙◌}
+use Rattle.std.proofs.Common.{◌≡◌, ℕ, ◌==◌, codes, List, [], ◌∷◌, ◌++◌, Bool, true, false, String, Global, string_bytes, string_cmp, nat_cmp, Ordering, Less, Equal, Greater, refl, ap, ◌∙◌}
 use Rattle.std.specs.Ordering.{match_ordering}
 use Rattle.std.specs.BTreeMap.{insert_entry}
 use Rattle.std.specs.Cmp.Lexicographic.{slice_cmp}
 use Rattle.json.specs.Print.{quoted}
 use Rattle.serde_json.specs.Data.{Data, Members, member, no_members, object}
 use Rattle.serde_json.specs.Written.{comma_if, compact_text, members_text}
+use Rattle.places.specs.Places.{file_of, line_in}
+use Rattle.symtab_json.specs.Files.{count_json}
+use Rattle.req_json.specs.Values.{file_texts_unless, file_unless, place_texts, with_place}
 use Rattle.req_json.specs.Objects.{member_texts, object_text, pairs_text, put_text, text_in, texts_in, with_member}
 
 abbrev Entry : Type 0
@@ -41,6 +44,17 @@ texts_with key value no_members = refl
 texts_with key value (member k d ms) =
     texts_at (slice_cmp nat_cmp key k) _ _ _
     ∙ ap (λ rest. match_ordering (slice_cmp nat_cmp key k) ((key, compact_text value) ∷ (k, compact_text d) ∷ member_texts ms) ((k, compact_text value) ∷ member_texts ms) ((k, compact_text d) ∷ rest)) (texts_with key value ms)
+
+-- with a place
+file_texts : (first : Bool) (file : ℕ) (ms : Members) → member_texts (file_unless first file ms) ≡ file_texts_unless first file (member_texts ms)
+file_texts true file ms = refl
+file_texts false file ms = texts_with (codes "file") (count_json file) ms
+
+pub texts_place : (at : ℕ) (ms : Members) → member_texts (with_place at ms) ≡ place_texts at (member_texts ms)
+unfolding with_place place_texts
+texts_place at ms =
+    file_texts (file_of at == 0) (file_of at) (with_member (codes "line") (count_json (line_in at)) ms)
+    ∙ ap (file_texts_unless (file_of at == 0) (file_of at)) (texts_with (codes "line") (count_json (line_in at)) ms)
 
 -- ---- what is written
 

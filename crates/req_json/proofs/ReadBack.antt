@@ -1,5 +1,5 @@
 -- Replies and notices are read back.
-use Rattle.std.proofs.Common.{◌≡◌, ℕ, ◌<◌, ◌^◌, ℤ, Bool, true, false, List, [], ◌∷◌, codes, Option, Some, None, IfSome, IsUtf8, refl, arith}
+use Rattle.std.proofs.Common.{◌≡◌, ℕ, ◌<◌, ◌^◌, ◌==◌, ℤ, Bool, true, false, List, [], ◌∷◌, codes, Option, Some, None, IfSome, IsUtf8, refl, arith}
 use Rattle.json.proofs.Printed.Utf8.{IsUtf8-are_ascii, are_ascii}
 use Rattle.bv_core.specs.declared.reference.Sample.{Sample}
 use Rattle.bv_core.specs.declared.reference.Sample.TheVariants as sample
@@ -14,11 +14,12 @@ use Rattle.machine_core.specs.declared.reply.Body.TheVariants as body
 use Rattle.machine_core.specs.declared.reply.Reply.{Reply}
 use Rattle.machine_core.specs.declared.turn.Notice.{Notice}
 use Rattle.machine_core.specs.declared.turn.Notice.TheVariants as notice
-use Rattle.serde_json.specs.Data.{Members, boolean, no_members, string}
+use Rattle.places.specs.Places.{file_of, line_in}
+use Rattle.serde_json.specs.Data.{Data, Members, boolean, no_members, string}
 use Rattle.symtab_json.specs.Files.{count_json}
 use Rattle.symtab_json.proofs.Rounds.{Round, round_count, round_integer, round_pair, round_string}
 use Rattle.req_json.specs.Objects.{two_members, with_member}
-use Rattle.req_json.specs.Values.{at_json, counts_json, gens_json, going_json, named_json, names_json, position_members, row_pair_json, rows_json, sample_json, shown_json, values_json, variable_json}
+use Rattle.req_json.specs.Values.{at_json, counts_json, file_unless, with_place, gens_json, going_json, named_json, names_json, position_members, row_pair_json, rows_json, sample_json, shown_json, values_json, variable_json}
 use Rattle.req_json.specs.Replies.{body_members, with_mark, own_members, body_refusal, reply_members, with_id}
 use Rattle.req_json.specs.Notices.{notice_members, notice_word, told_members, with_watches}
 use Rattle.req_json.specs.ReadBack.{AreCounts, AreNames, RowPairsFit, VariablesFit, BodyIsText, IsCount, IsNamedValue, AtFits, RowPairFits, IsSampleValue, IsShownValue, VariableFits, NoticeIsText, NoticesReadBack, RepliesReadBack, ReplyIsText}
@@ -77,6 +78,19 @@ boolean_round : (b : Bool) → Round 3 (boolean b)
 boolean_round true = record { back = refl; numbers = tt; utf8 = IsUtf8-are_ascii _ refl; deep = omega arith }
 boolean_round false = record { back = refl; numbers = tt; utf8 = IsUtf8-are_ascii _ refl; deep = omega arith }
 
+-- ---- places
+
+file_round : (first : Bool) (file : ℕ) (ms : Members) → IsCount file → AllRound 3 ms → AllRound 3 (file_unless first file ms)
+file_round true file ms f h = h
+file_round false file ms f h = all_with 3 (codes "file") (count_json file) ms refl (round_count 3 file f) h
+
+pub place_round : (at : ℕ) (ms : Members) → IsCount at → AllRound 3 ms → AllRound 3 (with_place at ms)
+unfolding with_place
+place_round at ms f h =
+    let whole : (file_of at < 2 ^ 64) × (line_in at < 2 ^ 64) = (omega (arith, f), omega (arith, f)) in
+    file_round (file_of at == 0) (file_of at) (with_member (codes "line") (count_json (line_in at)) ms) whole.0
+    (all_with 3 (codes "line") (count_json (line_in at)) ms refl (round_count 3 (line_in at) whole.1) h)
+
 -- ---- what a reply has
 
 own_round : (b : Body) → BodyIsText b → AllRound 3 (own_members b)
@@ -91,8 +105,8 @@ own_round body.Back h = tt
 own_round (body.Pause at) h = all_one 3 (codes "at") (at_json at) refl (at_round at h)
 own_round (body.Threads at gens line threads) h =
     let first = two_members (codes "at") (at_json at) (codes "gens") (gens_json gens) in
-    all_with 3 (codes "threads") (names_json threads) (with_member (codes "line") (count_json line) first) refl (names_round threads h.1.1)
-    (all_with 3 (codes "line") (count_json line) first refl (round_count 3 line h.1.0)
+    all_with 3 (codes "threads") (names_json threads) (with_place line first) refl (names_round threads h.1.1)
+    (place_round line first h.1.0
     (all_two 3 (codes "at") (at_json at) (codes "gens") (gens_json gens) refl (at_round at h.0.0) refl (gens_round gens h.0.1)))
 own_round (body.Values values) h = all_one 3 (codes "values") (values_json values) refl (each_round 2 IsNamedValue named_json named_round values h)
 own_round (body.Eval value) h = all_one 3 (codes "value") (sample_json value) refl (sample_round value h)
@@ -107,7 +121,7 @@ own_round body.TooLong h = tt
 own_round body.NotJson h = tt
 own_round (body.BadShape field) h = all_one 3 (codes "field") (string field) refl (round_string 3 field h)
 own_round body.UnknownCmd h = tt
-own_round (body.NoSite line) h = all_one 3 (codes "line") (count_json line) refl (round_count 3 line h)
+own_round (body.NoSite line) h = place_round line no_members h tt
 own_round (body.NoInstance instance) h = all_one 3 (codes "instance") (string instance) refl (round_string 3 instance h)
 own_round (body.BadCondAt offset) h = all_one 3 (codes "offset") (count_json offset) refl (round_count 3 offset h)
 own_round (body.BadCondName name) h = all_one 3 (codes "name") (string name) refl (round_string 3 name h)
@@ -181,9 +195,41 @@ reply_round r h =
 
 -- ---- the keys of a reply stand in order already
 
+abbrev AreInOrder : Members → Type 0
+AreInOrder ms = put_all ms no_members ≡ ms
+
+-- the members of a refusal that tells a place, and those of a reply and a notice that tell the place of a stop
+abbrev pub site_members : (seq : ℕ) (id : Option ℕ) (first : Bool) (file line : ℕ) → Members
+site_members seq id first file line =
+    with_member (codes "seq") (count_json seq) (with_id id (with_mark (Some (5, codes "NoSite")) (file_unless first file (with_member (codes "line") (count_json line) no_members))))
+
+abbrev pub stop_members : (seq : ℕ) (id : Option ℕ) (first : Bool) (file line : ℕ) (at gens threads : Data) → Members
+stop_members seq id first file line at gens threads =
+    with_member (codes "seq") (count_json seq) (with_id id (with_mark None (with_member (codes "threads") threads
+    (file_unless first file (with_member (codes "line") (count_json line) (two_members (codes "at") at (codes "gens") gens))))))
+
+abbrev pub stopped_members : (first : Bool) (file line : ℕ) (cycle slot gens paths : Data) (watches : List ℕ) → Members
+stopped_members first file line cycle slot gens paths watches =
+    with_member (codes "notice") (string (codes "stopped")) (with_watches watches (with_member (codes "threads") paths (with_member (codes "gens") gens
+    (file_unless first file (with_member (codes "line") (count_json line) (two_members (codes "cycle") cycle (codes "slot") slot))))))
+
+site_again : (seq : ℕ) (id : Option ℕ) (first : Bool) (file line : ℕ) → AreInOrder (site_members seq id first file line)
+unfolding with_member
+site_again seq None true file line = refl
+site_again seq None false file line = refl
+site_again seq (Some id) true file line = refl
+site_again seq (Some id) false file line = refl
+
+threads_again : (seq : ℕ) (id : Option ℕ) (first : Bool) (file line : ℕ) (at gens threads : Data) → AreInOrder (stop_members seq id first file line at gens threads)
+unfolding with_member
+threads_again seq None true file line at gens threads = refl
+threads_again seq None false file line at gens threads = refl
+threads_again seq (Some id) true file line at gens threads = refl
+threads_again seq (Some id) false file line at gens threads = refl
+
 again_at : (seq : ℕ) (id : Option ℕ) (b : Body) →
     put_all (with_member (codes "seq") (count_json seq) (with_id id (body_members b))) no_members ≡ with_member (codes "seq") (count_json seq) (with_id id (body_members b))
-unfolding with_member
+unfolding with_member with_place
 again_at seq None (body.Break bp slots) = refl
 again_at seq None body.Delete = refl
 again_at seq None (body.Watch slots wp) = refl
@@ -193,7 +239,7 @@ again_at seq None body.Reverse = refl
 again_at seq None body.Step = refl
 again_at seq None body.Back = refl
 again_at seq None (body.Pause at) = refl
-again_at seq None (body.Threads at gens line threads) = refl
+again_at seq None (body.Threads at gens line threads) = threads_again seq None (file_of line == 0) (file_of line) (line_in line) (at_json at) (gens_json gens) (names_json threads)
 again_at seq None (body.Values values) = refl
 again_at seq None (body.Eval value) = refl
 again_at seq None (body.Drop rows) = refl
@@ -203,7 +249,7 @@ again_at seq None body.TooLong = refl
 again_at seq None body.NotJson = refl
 again_at seq None (body.BadShape field) = refl
 again_at seq None body.UnknownCmd = refl
-again_at seq None (body.NoSite line) = refl
+again_at seq None (body.NoSite line) = site_again seq None (file_of line == 0) (file_of line) (line_in line)
 again_at seq None (body.NoInstance instance) = refl
 again_at seq None (body.BadCondAt offset) = refl
 again_at seq None (body.BadCondName name) = refl
@@ -226,7 +272,7 @@ again_at seq (Some id) body.Reverse = refl
 again_at seq (Some id) body.Step = refl
 again_at seq (Some id) body.Back = refl
 again_at seq (Some id) (body.Pause at) = refl
-again_at seq (Some id) (body.Threads at gens line threads) = refl
+again_at seq (Some id) (body.Threads at gens line threads) = threads_again seq (Some id) (file_of line == 0) (file_of line) (line_in line) (at_json at) (gens_json gens) (names_json threads)
 again_at seq (Some id) (body.Values values) = refl
 again_at seq (Some id) (body.Eval value) = refl
 again_at seq (Some id) (body.Drop rows) = refl
@@ -236,7 +282,7 @@ again_at seq (Some id) body.TooLong = refl
 again_at seq (Some id) body.NotJson = refl
 again_at seq (Some id) (body.BadShape field) = refl
 again_at seq (Some id) body.UnknownCmd = refl
-again_at seq (Some id) (body.NoSite line) = refl
+again_at seq (Some id) (body.NoSite line) = site_again seq (Some id) (file_of line == 0) (file_of line) (line_in line)
 again_at seq (Some id) (body.NoInstance instance) = refl
 again_at seq (Some id) (body.BadCondAt offset) = refl
 again_at seq (Some id) (body.BadCondName name) = refl
@@ -263,11 +309,11 @@ watched_round (wp ∷ watches) ms w h = all_with 3 (codes "watches") (counts_jso
 told_round : (n : Notice) → NoticeIsText n → AllRound 3 (told_members n)
 told_round (notice.Stopped note gens paths watches) h =
     let first = two_members (codes "cycle") (count_json note.cycle) (codes "slot") (count_json note.slot) in
-    let lined = with_member (codes "line") (count_json note.line) first in
+    let lined = with_place note.line first in
     watched_round watches _ h.1.1
     (all_with 3 (codes "threads") (names_json paths) (with_member (codes "gens") (gens_json gens) lined) refl (names_round paths h.1.0.1)
     (all_with 3 (codes "gens") (gens_json gens) lined refl (gens_round gens h.1.0.0)
-    (all_with 3 (codes "line") (count_json note.line) first refl (round_count 3 note.line h.0.1)
+    (place_round note.line first h.0.1
     (all_two 3 (codes "cycle") (count_json note.cycle) (codes "slot") (count_json note.slot) refl (round_count 3 note.cycle h.0.0.0) refl (round_count 3 note.slot h.0.0.1)))))
 told_round notice.Ended h = tt
 told_round notice.Start h = tt
@@ -282,10 +328,17 @@ word_ascii (notice.Rows k rows) = refl
 notice_round : (n : Notice) → NoticeIsText n → AllRound 3 (notice_members n)
 notice_round n h = all_with 3 (codes "notice") (string (notice_word n)) (told_members n) refl (word_round 3 (notice_word n) (word_ascii n)) (told_round n h)
 
-notice_again : (n : Notice) → put_all (notice_members n) no_members ≡ notice_members n
+stop_again : (first : Bool) (file line : ℕ) (cycle slot gens paths : Data) (watches : List ℕ) → AreInOrder (stopped_members first file line cycle slot gens paths watches)
 unfolding with_member
-notice_again (notice.Stopped note gens paths []) = refl
-notice_again (notice.Stopped note gens paths (wp ∷ watches)) = refl
+stop_again true file line cycle slot gens paths [] = refl
+stop_again false file line cycle slot gens paths [] = refl
+stop_again true file line cycle slot gens paths (wp ∷ watches) = refl
+stop_again false file line cycle slot gens paths (wp ∷ watches) = refl
+
+notice_again : (n : Notice) → put_all (notice_members n) no_members ≡ notice_members n
+unfolding with_member with_place
+notice_again (notice.Stopped note gens paths watches) =
+    stop_again (file_of note.line == 0) (file_of note.line) (line_in note.line) (count_json note.cycle) (count_json note.slot) (gens_json gens) (names_json paths) watches
 notice_again notice.Ended = refl
 notice_again notice.Start = refl
 notice_again (notice.Rows k rows) = refl

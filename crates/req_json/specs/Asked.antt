@@ -17,7 +17,7 @@ use Rattle.req_json.specs.Fields.{field_key, under, optional, with_field, requir
 -- the table of commands: in each row the name of a command, and its fields in their order, each of its kind; no command has another name
 abbrev pub row_in : List ℕ → Data → Option (Result Cmd FieldName)
 row_in name d =
-    if bytes_eq name (codes "break") then Some (with_field (required_count field.Line d) (λ line. with_field (optional_text field.Instance d) (λ instance. with_field (optional_text field.Cond d) (λ cond. Ok (cmd.Break line instance cond))))) else
+    if bytes_eq name (codes "break") then Some (with_field (required_place d) (λ line. with_field (optional_text field.Instance d) (λ instance. with_field (optional_text field.Cond d) (λ cond. Ok (cmd.Break line instance cond))))) else
     if bytes_eq name (codes "delete") then Some (with_field (required_count field.Bp d) (λ bp. Ok (cmd.Delete bp))) else
     if bytes_eq name (codes "watch") then Some (with_field (required_place d) (λ line. with_field (required_text field.Instance d) (λ instance. with_field (required_text field.Expr d) (λ expr. Ok (cmd.Watch line instance expr))))) else
     if bytes_eq name (codes "unwatch") then Some (with_field (required_count field.Wp d) (λ wp. Ok (cmd.Unwatch wp))) else

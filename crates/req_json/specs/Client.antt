@@ -1,6 +1,7 @@
 -- What a client reads from a reply: from the text the JSON value, and from that what was answered. None is for a value that no reply is.
-use Rattle.std.specs.Prelude.{◌≡◌, ℕ, ◌==◌, ℤ, List, is_some, codes, bytes_eq, Option, Some, None, option_map, option_and_then, if◌then◌else◌}
+use Rattle.std.specs.Prelude.{◌≡◌, ℕ, ◌==◌, ℤ, List, is_some, codes, bytes_eq, Option, Some, None, option_map, option_and_then, unwrap_or, if◌then◌else◌}
 use Rattle.std.specs.Option.{option_or}
+use Rattle.places.specs.Places.{place}
 use Rattle.bv_core.specs.declared.reference.Sample.{Sample}
 use Rattle.bv_core.specs.declared.reference.Sample.TheVariants as sample
 use Rattle.machine_core.specs.declared.reply.At.{At}
@@ -79,6 +80,15 @@ told_values d = told_list (told_pair as_str told_shown) d
 abbrev pub told_rows : Data → Option (List (ℕ × ℕ))
 told_rows d = told_list (told_pair told_count told_count) d
 
+-- a place: the line, and the file unless it is file 0
+abbrev pub made_site : Option (Option ℕ) → Option ℕ → Option ℕ
+made_site None line = None
+made_site (Some file) None = None
+made_site (Some file) (Some line) = Some (place (unwrap_or file 0) line)
+
+abbrev pub told_site : Data → Option ℕ
+told_site d = made_site (optional told_count (get (codes "file") d)) (told_member told_count (codes "line") d)
+
 -- ---- what was accepted, by the fields that are there
 
 abbrev pub made_break : Option ℕ → Option (List ℕ) → Option Body
@@ -111,7 +121,7 @@ told_accepted d =
     if is_some (get (codes "wp") d) then made_watch (told_member told_counts (codes "slots") d) (told_member told_count (codes "wp") d) else
     (if is_some (get (codes "bp") d) then made_break (told_member told_count (codes "bp") d) (told_member told_counts (codes "slots") d) else
     (if is_some (get (codes "gens") d) then
-    made_threads (told_member told_place (codes "at") d) (told_member told_variables (codes "gens") d) (told_member told_count (codes "line") d) (told_member told_names (codes "threads") d) else
+    made_threads (told_member told_place (codes "at") d) (told_member told_variables (codes "gens") d) (told_site d) (told_member told_names (codes "threads") d) else
     (if is_some (get (codes "values") d) then option_map body.Values (told_member told_values (codes "values") d) else
     (if is_some (get (codes "value") d) then option_map body.Eval (told_member told_sample (codes "value") d) else
     (if is_some (get (codes "rows") d) then option_map body.Drop (told_member told_rows (codes "rows") d) else
@@ -137,7 +147,7 @@ told_refused code d =
     (if code == 2 then Some body.NotJson else
     (if code == 3 then option_map body.BadShape (told_member as_str (codes "field") d) else
     (if code == 4 then Some body.UnknownCmd else
-    (if code == 5 then option_map body.NoSite (told_member told_count (codes "line") d) else
+    (if code == 5 then option_map body.NoSite (told_site d) else
     (if code == 6 then option_map body.NoInstance (told_member as_str (codes "instance") d) else
     (if code == 7 then option_or (option_map body.BadCondAt (told_member told_count (codes "offset") d)) (option_map body.BadCondName (told_member as_str (codes "name") d)) else
     (if code == 8 then made_removed (told_member as_str (codes "name") d) (told_member told_count (codes "slot") d) else

@@ -1,8 +1,9 @@
 -- The fields of requests: their keys, and what each kind of field tells.
-use Rattle.std.specs.Prelude.{◌≡◌, ℕ, ◌+◌, ◌-◌, ◌*◌, ◌^◌, ◌==◌, min, nat_lt, List, is_some, codes, Option, Some, None, Result, Ok, Err, option_map, option_and_then, if◌then◌else◌, ⊤}
+use Rattle.std.specs.Prelude.{◌≡◌, ℕ, ◌^◌, Bool, nat_lt, List, is_some, codes, Option, Some, None, Result, Ok, Err, option_map, option_and_then, if◌then◌else◌, ⊤}
 use Rattle.serde_json.specs.Data.{Data}
 use Rattle.serde_json.specs.Find.{get, as_null, as_str}
-use Rattle.symtab_json.specs.Entries.{told_count}
+use Rattle.places.specs.Places.{place}
+use Rattle.symtab_json.specs.Entries.{kept_if, told_count}
 use Rattle.req_json.specs.declared.field.FieldName.{FieldName}
 use Rattle.req_json.specs.declared.field.FieldName.TheVariants as field
 use Rattle.req_json.specs.declared.field.FieldFault.{FieldFault}
@@ -46,13 +47,20 @@ optional told (Some d) = if is_some (as_null d) then Some None else option_map S
 abbrev pub required_count : FieldName → Data → Result ℕ FieldName
 required_count f d = unless_wrong f (option_and_then told_count (under f d))
 
+-- one that is below a bound
+abbrev pub is_below : ℕ → ℕ → Bool
+is_below most n = nat_lt n most
+
+abbrev pub required_below : ℕ → FieldName → Data → Result ℕ FieldName
+required_below most f d = unless_wrong f (kept_if (is_below most) (option_and_then told_count (under f d)))
+
 abbrev pub required_text : FieldName → Data → Result (List ℕ) FieldName
 required_text f d = unless_wrong f (option_and_then as_str (under f d))
 
 abbrev pub optional_text : FieldName → Data → Result (Option (List ℕ)) FieldName
 optional_text f d = unless_wrong f (optional as_str (under f d))
 
--- ---- a place in the source: the number of a file, below 64, or 0 where it is left out; and a line of it
+-- ---- a place in the source: the number of a file, below 64, or 0 where it is left out; and a line of it, below 2^24
 
 abbrev pub file_told : Option (Option ℕ) → Result ℕ FieldName
 file_told None = Err field.File
@@ -62,12 +70,9 @@ file_told (Some (Some file)) = if nat_lt file 64 then Ok file else Err field.Fil
 abbrev pub file_number : Data → Result ℕ FieldName
 file_number d = file_told (optional told_count (under field.File d))
 
--- as one number: lines of file 0 stand for themselves, and those of the others for numbers that no line of it has
-abbrev pub place_in : (file line : ℕ) → ℕ
-place_in file line = if file == 0 then line else min (file * 2 ^ 24 + line) (2 ^ 64 - 1)
-
+-- as one number
 abbrev pub required_place : Data → Result ℕ FieldName
-required_place d = with_field (file_number d) (λ file. with_field (required_count field.Line d) (λ line. Ok (place_in file line)))
+required_place d = with_field (file_number d) (λ file. with_field (required_below (2 ^ 24) field.Line d) (λ line. Ok (place file line)))
 
 -- the field that is wrong, unless memory ran out
 abbrev pub IsWrong : {A : Type 0} → Result A FieldName → FieldFault → Type 0

@@ -7,3 +7,4 @@ pub mod Notices
 pub mod ReadBack
 pub mod Client
 pub mod Requests
+pub mod Hearing

@@ -6,7 +6,7 @@ use Rattle.machine_core.specs.declared.turn.Notice.{Notice}
 use Rattle.machine_core.specs.declared.turn.Notice.TheVariants as notice
 use Rattle.symtab_json.specs.Files.{count_json}
 use Rattle.req_json.specs.Objects.{two_members, with_member}
-use Rattle.req_json.specs.Values.{counts_json, gens_json, names_json, rows_json}
+use Rattle.req_json.specs.Values.{counts_json, gens_json, names_json, rows_json, with_place}
 
 -- the numbers of the watches that match, where there are some
 abbrev pub with_watches : List ℕ → Members → Members
@@ -17,7 +17,7 @@ with_watches (wp ∷ watches) ms = with_member (codes "watches") (counts_json (w
 abbrev pub told_members : Notice → Members
 told_members (notice.Stopped note gens paths watches) =
     with_watches watches (with_member (codes "threads") (names_json paths) (with_member (codes "gens") (gens_json gens)
-    (with_member (codes "line") (count_json note.line) (two_members (codes "cycle") (count_json note.cycle) (codes "slot") (count_json note.slot)))))
+    (with_place note.line (two_members (codes "cycle") (count_json note.cycle) (codes "slot") (count_json note.slot)))))
 told_members notice.Ended = no_members
 told_members notice.Start = no_members
 told_members (notice.Rows k rows) = two_members (codes "k") (count_json k) (codes "rows") (rows_json rows)

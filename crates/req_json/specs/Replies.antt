@@ -7,7 +7,7 @@ use Rattle.machine_core.specs.declared.reply.Body.TheVariants as body
 use Rattle.machine_core.specs.declared.reply.Reply.{Reply}
 use Rattle.symtab_json.specs.Files.{count_json}
 use Rattle.req_json.specs.Objects.{one_member, two_members, with_member}
-use Rattle.req_json.specs.Values.{at_json, counts_json, gens_json, going_json, names_json, rows_json, sample_json, values_json}
+use Rattle.req_json.specs.Values.{at_json, counts_json, gens_json, going_json, names_json, rows_json, sample_json, values_json, with_place}
 
 -- ---- what each answer has of its own
 
@@ -22,7 +22,7 @@ own_members body.Step = no_members
 own_members body.Back = no_members
 own_members (body.Pause at) = one_member (codes "at") (at_json at)
 own_members (body.Threads at gens line threads) =
-    with_member (codes "threads") (names_json threads) (with_member (codes "line") (count_json line) (two_members (codes "at") (at_json at) (codes "gens") (gens_json gens)))
+    with_member (codes "threads") (names_json threads) (with_place line (two_members (codes "at") (at_json at) (codes "gens") (gens_json gens)))
 own_members (body.Values values) = one_member (codes "values") (values_json values)
 own_members (body.Eval value) = one_member (codes "value") (sample_json value)
 own_members (body.Drop rows) = one_member (codes "rows") (rows_json rows)
@@ -33,7 +33,7 @@ own_members body.TooLong = no_members
 own_members body.NotJson = no_members
 own_members (body.BadShape field) = one_member (codes "field") (string field)
 own_members body.UnknownCmd = no_members
-own_members (body.NoSite line) = one_member (codes "line") (count_json line)
+own_members (body.NoSite line) = with_place line no_members
 own_members (body.NoInstance instance) = one_member (codes "instance") (string instance)
 own_members (body.BadCondAt offset) = one_member (codes "offset") (count_json offset)
 own_members (body.BadCondName name) = one_member (codes "name") (string name)

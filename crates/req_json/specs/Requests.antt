@@ -1,5 +1,5 @@
 -- Requests as a client writes them.
-use Rattle.std.specs.Prelude.{◌≡◌, ℕ, ◌≤◌, List, length, codes, Option, Some, None, IfSome, IsUtf8, ⊤}
+use Rattle.std.specs.Prelude.{◌≡◌, ℕ, ◌≤◌, ◌<◌, ◌^◌, List, length, codes, Option, Some, None, IfSome, IsUtf8, ⊤}
 use Rattle.machine_core.specs.declared.request.Asked.TheVariants.{Good}
 use Rattle.machine_core.specs.declared.request.Cmd.{Cmd}
 use Rattle.machine_core.specs.declared.request.Cmd.TheVariants as cmd
@@ -11,6 +11,7 @@ use Rattle.req_json.specs.Asked.{asked, most_bytes}
 use Rattle.req_json.specs.Objects.{one_member, two_members, with_member}
 use Rattle.req_json.specs.ReadBack.{IsCount}
 use Rattle.req_json.specs.Replies.{with_id}
+use Rattle.req_json.specs.Values.{with_place}
 
 -- a text that may be left out
 abbrev pub with_optional : List ℕ → Option (List ℕ) → Members → Members
@@ -19,9 +20,9 @@ with_optional key (Some text) ms = with_member key (string text) ms
 
 -- the fields of a command
 abbrev pub cmd_fields : Cmd → Members
-cmd_fields (cmd.Break line instance condition) = with_optional (codes "cond") condition (with_optional (codes "instance") instance (one_member (codes "line") (count_json line)))
+cmd_fields (cmd.Break line instance condition) = with_optional (codes "cond") condition (with_optional (codes "instance") instance (with_place line no_members))
 cmd_fields (cmd.Delete bp) = one_member (codes "bp") (count_json bp)
-cmd_fields (cmd.Watch line instance expr) = with_member (codes "expr") (string expr) (two_members (codes "line") (count_json line) (codes "instance") (string instance))
+cmd_fields (cmd.Watch line instance expr) = with_member (codes "expr") (string expr) (with_member (codes "instance") (string instance) (with_place line no_members))
 cmd_fields (cmd.Unwatch wp) = one_member (codes "wp") (count_json wp)
 cmd_fields cmd.Continue = no_members
 cmd_fields cmd.Reverse = no_members
@@ -63,12 +64,15 @@ request_json r = object (request_members r)
 abbrev pub request_text : Request → List ℕ
 request_text r = compact_text (request_json r)
 
--- ---- its texts are UTF-8, as every `Utf8` is, and its numbers fit 64 bits
+-- ---- its texts are UTF-8, as every `Utf8` is, its numbers fit 64 bits, and its places are those of 64 files
+
+abbrev pub IsPlace : ℕ → Type 0
+IsPlace at = at < 2 ^ 30
 
 abbrev pub CmdIsText : Cmd → Type 0
-CmdIsText (cmd.Break line instance condition) = IsCount line × (IfSome instance IsUtf8 × IfSome condition IsUtf8)
+CmdIsText (cmd.Break line instance condition) = IsPlace line × (IfSome instance IsUtf8 × IfSome condition IsUtf8)
 CmdIsText (cmd.Delete bp) = IsCount bp
-CmdIsText (cmd.Watch line instance expr) = IsCount line × (IsUtf8 instance × IsUtf8 expr)
+CmdIsText (cmd.Watch line instance expr) = IsPlace line × (IsUtf8 instance × IsUtf8 expr)
 CmdIsText (cmd.Unwatch wp) = IsCount wp
 CmdIsText cmd.Continue = ⊤
 CmdIsText cmd.Reverse = ⊤

@@ -1,10 +1,12 @@
 -- What stands in replies and notices under each kind of key.
-use Rattle.std.specs.Prelude.{ℕ, ℤ, List, codes}
+use Rattle.std.specs.Prelude.{ℕ, ◌==◌, ℤ, List, Bool, true, false, codes}
+use Rattle.places.specs.Places.{file_of, line_in}
 use Rattle.bv_core.specs.Text.{shown}
 use Rattle.bv_core.specs.declared.reference.Sample.{Sample}
 use Rattle.bv_core.specs.declared.reference.Sample.TheVariants as sample
 use Rattle.serde_json.specs.Data.{Data, Members, number, object, string}
 use Rattle.serde_json.specs.Find.{of_integer}
+use Rattle.serde_json.specs.Written.{compact_text}
 use Rattle.machine_core.specs.declared.reply.At.{At}
 use Rattle.machine_core.specs.declared.reply.At.TheVariants as at
 use Rattle.machine_core.specs.declared.reply.Going.{Going}
@@ -12,7 +14,26 @@ use Rattle.machine_core.specs.declared.reply.Going.TheVariants as going
 use Rattle.machine_core.specs.declared.reply.Shown.{Shown}
 use Rattle.machine_core.specs.declared.reply.Shown.TheVariants as shows
 use Rattle.symtab_json.specs.Files.{count_json, list_json, pair_json}
-use Rattle.req_json.specs.Objects.{two_members}
+use Rattle.req_json.specs.Objects.{MemberTexts, put_text, two_members, with_member}
+
+-- ---- places in the source: the line in its file, and the number of the file unless it is file 0
+
+abbrev pub file_unless : Bool → ℕ → Members → Members
+file_unless true file ms = ms
+file_unless false file ms = with_member (codes "file") (count_json file) ms
+
+unfoldable pub with_place : ℕ → Members → Members
+with_place at ms = file_unless (file_of at == 0) (file_of at) (with_member (codes "line") (count_json (line_in at)) ms)
+
+-- the same of members that are kept as texts
+abbrev pub file_texts_unless : Bool → ℕ → MemberTexts → MemberTexts
+file_texts_unless true file ms = ms
+file_texts_unless false file ms = put_text (codes "file") (compact_text (count_json file)) ms
+
+unfoldable pub place_texts : ℕ → MemberTexts → MemberTexts
+place_texts at ms = file_texts_unless (file_of at == 0) (file_of at) (put_text (codes "line") (compact_text (count_json (line_in at))) ms)
+
+-- ---- positions, values
 
 -- a position
 abbrev pub position_members : (cycle slot : ℕ) → Members

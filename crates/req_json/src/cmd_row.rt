@@ -20,7 +20,7 @@ pub(crate) fn row_in(alloc: Global, name: &str, value: &Value) -> Result<Option<
 {
     Ok(Some(match name {
         "break" => Cmd::Break {
-            line: required_count(value, FieldName::Line)?,
+            line: required_place(value)?,
             instance: optional_text(alloc, value, FieldName::Instance)?,
             cond: optional_text(alloc, value, FieldName::Cond)?,
         },

@@ -5,17 +5,18 @@ ghost use Rattle.serde_json.specs.Find.{get};
 ghost use Rattle.serde_json.specs.View.{view};
 ghost use Rattle.symtab_json.specs.Entries.{told_count};
 ghost use Rattle.req_json.specs.declared.field.FieldFault.TheVariants.{NoMemory};
-ghost use Rattle.req_json.specs.Fields.{field_key, file_number, IsWrong, optional, optional_text, place_in, required_text, under, required_count, required_place};
+ghost use Rattle.req_json.specs.Fields.{field_key, file_number, IsWrong, optional, optional_text, required_below, required_text, under, required_count, required_place};
 
 use machine_core::Utf8;
+use places::{FILES_MAX, place};
 use serde_json::Value;
 use std::alloc::{AllocError, Global};
 
 /// So many files may be named.
-const MOST_FILES: u64 = 64;
+const MOST_FILES: u64 = FILES_MAX as u64;
 
-/// The lines of a file are fewer than this.
-const FILE_LINES: u64 = 1 << 24;
+/// The lines of a file are below this.
+const MOST_LINES: u64 = 1 << 24;
 
 /// A field of a request; or the whole of it.
 #[derive(Clone, Copy, PartialEq, Eq)]
@@ -81,6 +82,18 @@ pub(crate) fn required_count(value: &Value, field: FieldName) -> Result<u64, Fie
         .ok_or(FieldFault::Wrong(field))
 }
 
+/// A whole number below a bound that must be there.
+fn required_below(value: &Value, most: u64, field: FieldName) -> Result<u64, FieldFault>
+    ensures ok { IfOk result (λ number. required_below most field (view value.now) ≡ Ok number) }
+    ensures err { IfErr result (IsWrong (required_below most field (view value.now))) }
+    ensures below { IfOk result (λ number. number < most) }
+{
+    match value.get(field.text()).and_then(Value::as_u64) {
+        Some(number) if number < most => Ok(number),
+        _ => Err(FieldFault::Wrong(field)),
+    }
+}
+
 /// A whole number that may be left out; None where it is wrong.
 pub(crate) fn optional_whole(value: &Value, field: FieldName) -> Option<Option<u64>>
     ensures { result ≡ optional told_count (under field (view value.now)) }
@@ -110,26 +123,14 @@ fn file_number(value: &Value) -> Result<u64, FieldFault>
     }
 }
 
-/// A line of a file, as one number: its place, as long as lines are below 2^24.
-fn place_in(file: u64, line: u64) -> u64
-    requires { file < 64 }
-    ensures { result ≡ place_in file line }
-{
-    if file == 0 {
-        line
-    } else {
-        (file * FILE_LINES).saturating_add(line)
-    }
-}
-
-/// A line that must be there, of a file that may be left out, as one number.
+/// A line that must be there, of a file that may be left out, as one number: a place.
 pub(crate) fn required_place(value: &Value) -> Result<u64, FieldFault>
     ensures ok { IfOk result (λ place. required_place (view value.now) ≡ Ok place) }
     ensures err { IfErr result (IsWrong (required_place (view value.now))) }
 {
     let file = file_number(value)?;
-    let line = required_count(value, FieldName::Line)?;
-    Ok(place_in(file, line))
+    let line = required_below(value, MOST_LINES, FieldName::Line)?;
+    Ok(u64::from(place(file as u32, line as u32)))
 }
 
 /// A text that must be there.

@@ -1,10 +1,12 @@
 //! What holds of requests, replies and notices by their definitions alone.
 
 ghost use Rattle.req_json.specs.Client.{RepliesAreTold, TextsTellApart};
+ghost use Rattle.req_json.specs.Hearing.{NoticesAreTold};
 ghost use Rattle.req_json.specs.ReadBack.{NoticesReadBack, RepliesReadBack};
 ghost use Rattle.req_json.specs.Requests.{RequestsAreAsked};
 
-/// A request that a client writes as compact JSON, in at most 65,536 bytes, is what is asked. Computes nothing.
+/// A request that a client writes as compact JSON, in at most 65,536 bytes, and whose place, if it has one, is below 2^30, is what is
+/// asked. Computes nothing.
 pub fn requests_are_asked()
     ensures { RequestsAreAsked }
 {}
@@ -29,4 +31,10 @@ pub fn replies_are_told()
 /// So replies of one text are one answer. Computes nothing.
 pub fn texts_tell_apart()
     ensures { TextsTellApart }
+{}
+
+/// A client reads from the text of a notice what was told: a stop with its place, its threads and the watches that match there, or
+/// another end of a run, or what a listener counted. Computes nothing.
+pub fn notices_are_told()
+    ensures { NoticesAreTold }
 {}

@@ -15,7 +15,8 @@ mod request;
 mod value;
 
 pub use laws::{
-    notices_read_back, replies_are_told, replies_read_back, requests_are_asked, texts_tell_apart,
+    notices_are_told, notices_read_back, replies_are_told, replies_read_back, requests_are_asked,
+    texts_tell_apart,
 };
 pub use notice::notice_text;
 pub use reply::reply_text;

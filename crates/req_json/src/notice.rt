@@ -24,7 +24,7 @@ fn notice_word(notice: &Notice) -> &'static str
 }
 
 /// What the notice of a stop has of its own, but for watches.
-#[tactic(auto, using(crate::proofs::Objects::texts_with, crate::proofs::Objects::texts_none))]
+#[tactic(auto, using(crate::proofs::Objects::texts_with, crate::proofs::Objects::texts_none, crate::proofs::Objects::texts_place))]
 fn place_members(
     alloc: Global,
     note: StopNote,
@@ -34,7 +34,7 @@ fn place_members(
     ensures { IfOk result (λ object. object ≡ member_texts (told_members (Stopped note gens.now paths.now []))) }
 {
     let mut object = object_of_two(alloc, "cycle", &note.cycle, "slot", &note.slot)?;
-    object.put(alloc, "line", &note.line)?;
+    object.put_place(alloc, u64::from(note.line))?;
     object.put(alloc, "gens", gens)?;
     object.put(alloc, "threads", paths)?;
     Ok(object)

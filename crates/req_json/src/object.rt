@@ -4,6 +4,7 @@ ghost use Rattle.std.specs.Prelude.{◌≡◌, ◌++◌, [], false, IfOk, OnOk};
 ghost use Rattle.serde_json.specs.Data.{string};
 ghost use Rattle.serde_json.specs.Written.{compact_text};
 ghost use Rattle.req_json.specs.Objects.{object_text, pairs_text, put_text, texts_in};
+ghost use Rattle.req_json.specs.Values.{place_texts};
 
 use crate::value::{Compact, push_comma};
 use std::alloc::Global;
@@ -11,6 +12,9 @@ use std::collections::BTreeMap;
 use std::marker::Model;
 use symtab_json::push_quoted;
 use text_core::{Listed, NoMemory};
+
+/// The lines of a file are below this, and a place is so many times its file, and its line.
+const MOST_LINES: u64 = 1 << 24;
 
 /// The members of an object, in the order of the bytes of their keys. Of each value there is its compact text.
 type Members = BTreeMap<String, Listed<u8>>;
@@ -92,6 +96,20 @@ impl Object {
         let mut text = Vec::new(alloc);
         push_quoted(&mut text, word.as_bytes())?;
         put_member(alloc, &mut self.members, key, Listed::new(text))
+    }
+
+    /// Puts a place in: the line in its file, and the number of the file unless it is file 0.
+    #[tactic(auto, unfolding(crate::specs::Values::place_texts))]
+    pub(crate) fn put_place(&mut self, alloc: Global, place: u64) -> Result<(), NoMemory>
+        ensures { OnOk result (self.new ≡ place_texts place self.old) }
+    {
+        let file = place / MOST_LINES;
+        let line = place % MOST_LINES;
+        self.put(alloc, "line", &line)?;
+        if file == 0 {
+            return Ok(());
+        }
+        self.put(alloc, "file", &file)
     }
 
     /// Adds its compact JSON.

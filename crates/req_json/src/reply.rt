@@ -3,7 +3,7 @@
 ghost use Rattle.std.specs.Prelude.{◌≡◌, IfOk, option_map};
 ghost use Rattle.req_json.specs.Objects.{member_texts};
 ghost use Rattle.req_json.specs.Replies.{body_members, own_members, body_refusal, reply_members, reply_text};
-ghost use Rattle.machine_core.specs.declared.reply.Body.TheVariants.{Status, Threads};
+ghost use Rattle.machine_core.specs.declared.reply.Body.TheVariants.{NoSite, Status, Threads};
 
 use crate::object::{Object, object_of_one, object_of_two};
 use machine_core::{At, Body, Going, Reply};
@@ -37,7 +37,7 @@ fn body_refusal(body: &Body) -> Option<(u8, &'static str)>
 }
 
 /// What the answer has that tells of a stop.
-#[tactic(auto, using(crate::proofs::Objects::texts_with, crate::proofs::Objects::texts_none))]
+#[tactic(auto, using(crate::proofs::Objects::texts_with, crate::proofs::Objects::texts_none, crate::proofs::Objects::texts_place))]
 fn threads_members(
     alloc: Global,
     at: At,
@@ -48,7 +48,7 @@ fn threads_members(
     ensures { IfOk result (λ object. object ≡ member_texts (own_members (Threads at gens.now line threads.now))) }
 {
     let mut object = object_of_two(alloc, "at", &at, "gens", gens)?;
-    object.put(alloc, "line", &line)?;
+    object.put_place(alloc, u64::from(line))?;
     object.put(alloc, "threads", threads)?;
     Ok(object)
 }
@@ -67,6 +67,16 @@ fn status_members(
     let mut object = object_of_two(alloc, "at", &at, "bps", bps)?;
     object.put(alloc, "listeners", listeners)?;
     object.put(alloc, "mode", &mode)?;
+    Ok(object)
+}
+
+/// What the answer has that no statement stands at a place.
+#[tactic(auto, using(crate::proofs::Objects::texts_none, crate::proofs::Objects::texts_place))]
+fn site_members(alloc: Global, line: u64) -> Result<Object, NoMemory>
+    ensures { IfOk result (λ object. object ≡ member_texts (own_members (NoSite line))) }
+{
+    let mut object = Object::new(alloc);
+    object.put_place(alloc, line)?;
     Ok(object)
 }
 
@@ -95,7 +105,7 @@ fn own_members(alloc: Global, body: &Body) -> Result<Object, NoMemory>
             mode,
         } => status_members(alloc, *at, bps, listeners, *mode),
         Body::BadShape { field } => object_of_one(alloc, "field", field),
-        Body::NoSite { line } => object_of_one(alloc, "line", line),
+        Body::NoSite { line } => site_members(alloc, *line),
         Body::NoInstance { instance } => object_of_one(alloc, "instance", instance),
         Body::BadCondAt { offset } => object_of_one(alloc, "offset", offset),
         Body::BadCondName { name } => object_of_one(alloc, "name", name),

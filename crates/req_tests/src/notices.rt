@@ -28,8 +28,8 @@ fn stopped(alloc: Global, variable: i64) -> Result<Notice, NoMemory> {
     })
 }
 
-/// The notice of a stop with no generator variable, where these watches match.
-fn stopped_plainly(alloc: Global, matching: &[u64]) -> Result<Notice, NoMemory> {
+/// The notice of a stop at this place with no generator variable, where these watches match.
+fn stopped_plainly(alloc: Global, line: u32, matching: &[u64]) -> Result<Notice, NoMemory> {
     let mut watches = Vec::new(alloc);
     for wp in matching {
         watches.push(*wp)?;
@@ -40,7 +40,7 @@ fn stopped_plainly(alloc: Global, matching: &[u64]) -> Result<Notice, NoMemory> 
         note: StopNote {
             cycle: 2,
             slot: 3,
-            line: 12,
+            line,
             threads: 1,
             watches: u32::try_from(watches.len()).unwrap_or(0),
         },
@@ -62,7 +62,7 @@ fn rows(alloc: Global, k: u32, all: &[(u64, u64)]) -> Result<Notice, NoMemory> {
     })
 }
 
-static NOTICES: [&str; 7] = [
+static NOTICES: [&str; 8] = [
     "{\"cycle\":2,\"gens\":[],\"line\":12,\"notice\":\"stopped\",\"slot\":3,\"threads\":[\"A\"]}",
     "{\"cycle\":2,\"gens\":[[\"W\",-4611686018427387904]],\"line\":8,\"notice\":\"stopped\",\"slot\":5,\"threads\":[\"C.u#0\",\"C.u#1\"]}",
     "{\"notice\":\"ended\"}",
@@ -70,18 +70,20 @@ static NOTICES: [&str; 7] = [
     "{\"k\":0,\"notice\":\"rows\",\"rows\":[[18,4],[39,1]]}",
     "{\"k\":1,\"notice\":\"rows\",\"rows\":[]}",
     "{\"cycle\":2,\"gens\":[],\"line\":12,\"notice\":\"stopped\",\"slot\":3,\"threads\":[\"A\"],\"watches\":[1]}",
+    "{\"cycle\":2,\"file\":1,\"gens\":[],\"line\":13,\"notice\":\"stopped\",\"slot\":3,\"threads\":[\"A\"]}",
 ];
 
 /// A notice, by the place of its text.
 fn notice(alloc: Global, case: usize) -> Result<Notice, NoMemory> {
     match case {
-        0 => stopped_plainly(alloc, &[]),
+        0 => stopped_plainly(alloc, 12, &[]),
         1 => stopped(alloc, -4611686018427387904),
         2 => Ok(Notice::Ended),
         3 => Ok(Notice::Start),
         4 => rows(alloc, 0, &[(18, 4), (39, 1)]),
         5 => rows(alloc, 1, &[]),
-        _ => stopped_plainly(alloc, &[1]),
+        6 => stopped_plainly(alloc, 12, &[1]),
+        _ => stopped_plainly(alloc, 16_777_229, &[]),
     }
 }
 

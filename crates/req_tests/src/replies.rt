@@ -51,7 +51,7 @@ fn listed<T: Copy + Drop>(alloc: Global, all: &[T]) -> Result<Listed<T>, NoMemor
 /// A reply: its number, that of its client, which body it has, and its text.
 type Case = (u64, Option<u64>, u32, &'static str);
 
-static ACCEPTED: [Case; 22] = [
+static ACCEPTED: [Case; 23] = [
     (
         14,
         None,
@@ -144,9 +144,15 @@ static ACCEPTED: [Case; 22] = [
         "{\"ok\":true,\"seq\":1,\"slots\":[3],\"wp\":1}",
     ),
     (2, Some(8), 20, "{\"id\":8,\"ok\":true,\"seq\":2}"),
+    (
+        5,
+        None,
+        21,
+        "{\"at\":{\"cycle\":2,\"slot\":5},\"file\":63,\"gens\":[[\"W\",8],[\"i\",-1]],\"line\":8,\"ok\":true,\"seq\":5,\"threads\":[\"C.u#0\",\"C.u#1\"]}",
+    ),
 ];
 
-static REFUSED: [Case; 20] = [
+static REFUSED: [Case; 21] = [
     (
         9,
         None,
@@ -267,6 +273,12 @@ static REFUSED: [Case; 20] = [
         19,
         "{\"code\":17,\"error\":\"NoWatch\",\"ok\":false,\"seq\":1,\"wp\":9}",
     ),
+    (
+        4,
+        Some(2),
+        20,
+        "{\"code\":5,\"error\":\"NoSite\",\"file\":1,\"id\":2,\"line\":13,\"ok\":false,\"seq\":4}",
+    ),
 ];
 
 /// An armed breakpoint.
@@ -285,12 +297,12 @@ fn watched(alloc: Global, slots: &[u32], wp: u64) -> Result<Body, NoMemory> {
     })
 }
 
-/// What is at a stop.
-fn at_stop(alloc: Global) -> Result<Body, NoMemory> {
+/// What is at a stop at this place.
+fn at_stop(alloc: Global, line: u32) -> Result<Body, NoMemory> {
     Ok(Body::Threads {
         at: At::Position { cycle: 2, slot: 5 },
         gens: gens(alloc, &[("W", 8), ("i", -1)])?,
-        line: 8,
+        line,
         threads: names(alloc, &["C.u#0", "C.u#1"])?,
     })
 }
@@ -353,7 +365,7 @@ fn accepted(alloc: Global, case: u32) -> Result<Body, NoMemory> {
             at: At::Position { cycle: 3, slot: 2 },
         }),
         9 => Ok(Body::Pause { at: At::End }),
-        10 => at_stop(alloc),
+        10 => at_stop(alloc, 8),
         11 => shown(alloc),
         12 => evaluated(),
         13 => Ok(Body::Eval {
@@ -365,7 +377,8 @@ fn accepted(alloc: Global, case: u32) -> Result<Body, NoMemory> {
         17 => status(alloc, At::End, &[1, 3], Going::Backward),
         18 => status(alloc, At::End, &[7], Going::Forward),
         19 => watched(alloc, &[3], 1),
-        _ => Ok(Body::Unwatch),
+        20 => Ok(Body::Unwatch),
+        _ => at_stop(alloc, 1_056_964_616),
     }
 }
 
@@ -430,7 +443,8 @@ fn refused(alloc: Global, case: u32) -> Result<Body, NoMemory> {
         16 => Ok(Body::NoBreakpoint { bp: 7 }),
         17 => Ok(Body::NoListener { k: 2 }),
         18 => Ok(Body::TooManyWatches { limit: 256 }),
-        _ => Ok(Body::NoWatch { wp: 9 }),
+        19 => Ok(Body::NoWatch { wp: 9 }),
+        _ => Ok(Body::NoSite { line: 16_777_229 }),
     }
 }
 

@@ -8,7 +8,7 @@ use text_core::NoMemory;
 
 /// Texts, each with what it is read as: of a request its command and its fields, of any other text the code and the field of its
 /// refusal; in front of both the number of its client.
-static CASES: [(&[u8], &str); 79] = [
+static CASES: [(&[u8], &str); 83] = [
     (b"{\"cmd\":\"break\",\"line\":8}", "break 8 - -"),
     (
         b"{\"cmd\":\"break\",\"line\":8,\"instance\":\"B.x\"}",
@@ -22,6 +22,20 @@ static CASES: [(&[u8], &str); 79] = [
         b"{\"cmd\":\"break\",\"line\":14,\"cond\":null,\"instance\":null,\"id\":null}",
         "break 14 - -",
     ),
+    // a place is the number of its file, and its line; the file is judged first, and then the line
+    (
+        b"{\"cmd\":\"break\",\"file\":63,\"line\":16777215}",
+        "break 1073741823 - -",
+    ),
+    (
+        b"{\"cmd\":\"break\",\"file\":64,\"line\":16777216}",
+        "3 file",
+    ),
+    (
+        b"{\"cmd\":\"break\",\"file\":1,\"line\":16777216}",
+        "3 line",
+    ),
+    (b"{\"cmd\":\"break\",\"line\":16777216}", "3 line"),
     (b"{\"cmd\":\"delete\",\"bp\":7}", "delete 7"),
     (
         b"{\"cmd\":\"watch\",\"line\":12,\"instance\":\"A\",\"expr\":\"t\"}",
