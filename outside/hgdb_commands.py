@@ -6,7 +6,7 @@ for a breakpoint and takes it away. So the listeners of a session count those st
 import re
 
 import hgdb_expr, hgdb_points, hgdb_wave
-from hgdb_prompt import COMMANDS, INFOS, Client, Failed, command_of, counted, formatted, number_of, place_of, rows_of, usage
+from hgdb_prompt import COMMANDS, INFOS, Client, Failed, command_of, counted, formatted, number_of, place_of, rows_of, site_of, usage
 
 # The most statements that `finish` goes over; no design has more.
 MOST = 200_000
@@ -18,18 +18,25 @@ class Commands(Client):
     # Commands: breakpoints
 
     def placed(self, name, words):
-        """A line, an instance or None, and a condition or None."""
-        given = re.fullmatch(r"([0-9]{1,20})(?: at (\S+))?(?: if\b ?(.*))?", " ".join(words))
+        """A file and a line, an instance or None, and a condition or None."""
+        given = re.fullmatch(r"(?:([^\s:]+):)?([0-9]{1,20})(?: at (\S+))?(?: if\b ?(.*))?", " ".join(words))
         if not given:
             raise usage(name)
-        return int(given[1]), given[2], given[3]
+        return (self.file_of(given[1]), int(given[2])), given[3], given[4]
+
+    def file_of(self, word):
+        """The number of the file that a word names: a number, or a name that is known; without a word file 0."""
+        number = 0 if word is None else number_of(word)
+        if number is None and (number := self.source.number(word)) is None:
+            raise Failed(f"No file {word} is known; its number names it too")
+        return number
 
     def do_break(self, words, temporary=False):
-        line, path, cond = self.placed("tbreak" if temporary else "break", words)
-        point = self.points.add(line, path, cond, temporary)
+        at, path, cond = self.placed("tbreak" if temporary else "break", words)
+        point = self.points.add(at, path, cond, temporary)
         slots = f"slot{'s' * (len(point.slots) != 1)} {', '.join(map(str, point.slots))}"
         changed = f" if {point.cond}" if point.cond != cond else ""
-        self.say(f"{'Temporary b' if temporary else 'B'}reakpoint {point.number} at line {line}{changed}, {slots}")
+        self.say(f"{'Temporary b' if temporary else 'B'}reakpoint {point.number} at line {self.spot(*at)}{changed}, {slots}")
 
     def do_watch(self, words):
         if not words:
@@ -37,9 +44,9 @@ class Commands(Client):
         self.idle()
         if not self.stopped():
             self.look("values")
-        point = self.points.watch(self.place["line"], self.here(), " ".join(words), self.place["gens"])
+        point = self.points.watch(site_of(self.place), self.here(), " ".join(words), self.place["gens"])
         slots = f"slot{'s' * (len(point.slots) != 1)} {', '.join(map(str, point.slots))}"
-        self.say(f"Watchpoint {point.number} of {point.cond} at line {point.line} in {point.path}, {slots}")
+        self.say(f"Watchpoint {point.number} of {point.cond} at line {self.spot(point.file, point.line)} in {point.path}, {slots}")
 
     def do_tbreak(self, words):
         self.do_break(words, True)
@@ -111,9 +118,9 @@ class Commands(Client):
         self.do_step(words, "back")
 
     def do_until(self, words):
-        line, path, cond = self.placed("until", words)
+        at, path, cond = self.placed("until", words)
         self.idle()
-        point = self.points.add(line, path, cond, hidden=True)
+        point = self.points.add(at, path, cond, hidden=True)
         try:
             self.go("continue")
         finally:
@@ -124,21 +131,23 @@ class Commands(Client):
         if not self.stopped():
             self.look("values")
         found = self.statement(self.place)
-        block = found.block if found is not None else self.source.block(self.place["line"])
+        block = found.block if found is not None else self.source.file(site_of(self.place)[0]).block(self.place["line"])
         if block is None:
             raise Failed("The source does not tell which block this is")
-        pending, last = self.within(block, self.place["cycle"], self.here())
+        pending, last = self.within(block, self.place, self.here())
         given = self.gives("=", "<=", "let") if last else None
         self.show([it for it in pending if given is None or it[0] != (self.here(), given[0])])
         if given is not None:
             self.say(f"  {given[0]} is assigned {given[1]}", kind="pending")
 
-    def within(self, block, cycle, path):
-        """Goes to the last statement of a block that an instance executes in this cycle. Returns what `walk` does, and whether it came
+    def within(self, block, stop, path):
+        """Goes to the last statement of the block of a stop that an instance executes in that cycle. Returns what `walk` does, and whether it came
         there: a breakpoint and Ctrl-C end it before."""
 
+        cycle, file = stop["cycle"], site_of(stop)[0]
+
         def leaves(place):
-            return place is None or place["cycle"] != cycle or not block.first <= place["line"] <= block.last
+            return place is None or (place["cycle"], site_of(place)[0]) != (cycle, file) or not block.first <= place["line"] <= block.last
 
         self.passing = leaves
         try:
@@ -210,10 +219,10 @@ class Commands(Client):
 
     def reaches(self, path):
         """Whether an instance has a statement on one of the lines that are known."""
-        lines = {it for module in self.source.modules for it in self.source.lines_of(module)}
-        lines |= {self.place["line"]} | {it.line for it in self.points.all.values()}
+        lines = {(number, it.line) for number, file in enumerate(self.source.files) for it in file.statements}
+        lines |= {site_of(self.place)} | {(it.file, it.line) for it in self.points.all.values()}
         with self.on.steady():
-            told = self.on.ask([("break", {"line": line, "instance": path}) for line in sorted(lines)])
+            told = self.on.ask([("break", {**hgdb_points.sited(*at), "instance": path}) for at in sorted(lines)])
             taken = [reply["bp"] for reply, _ in told if reply["ok"]]
             self.on.ask([("delete", {"bp": bp}) for bp in taken])
         return bool(taken)
@@ -309,17 +318,18 @@ class Commands(Client):
 
     def info_line(self, words):
         """Which slots a line has, as a breakpoint there tells them."""
-        line = number_of(words[0]) if words else self.place and self.place["line"]
-        if line is None:
+        given = re.fullmatch(r"(?:([^\s:]+):)?([0-9]{1,20})", words[0]) if words else None
+        if not given and (words or not self.place):
             raise usage("info") if words else Failed("It stands at no line")
+        file, line = (self.file_of(given[1]), int(given[2])) if given else site_of(self.place)
         self.idle()
-        reply = self.asked("break", line=line)
+        reply = self.asked("break", **hgdb_points.sited(file, line))
         self.points.unset(reply["bp"])
-        told = f"Line {line} has slot{'s' * (len(reply['slots']) != 1)} {', '.join(map(str, reply['slots']))}"
-        if (block := self.source.block(line)) is not None:
+        told = f"Line {self.spot(file, line)} has slot{'s' * (len(reply['slots']) != 1)} {', '.join(map(str, reply['slots']))}"
+        if (block := self.source.file(file).block(line)) is not None:
             told += f", in the {block.kind} of {block.module}, lines {block.first} to {block.last}"
-        points = [str(it.number) for it in self.points.breakpoints() if it.line == line]
-        self.say(told, *[f"Breakpoint{'s' * (len(points) != 1)} {', '.join(points)}"] * bool(points), *self.listing(line, line))
+        points = [str(it.number) for it in self.points.breakpoints() if (it.file, it.line) == (file, line)]
+        self.say(told, *[f"Breakpoint{'s' * (len(points) != 1)} {', '.join(points)}"] * bool(points), *self.listing(file, line, line))
 
     def info_threads(self, _):
         self.do_threads([])
@@ -337,21 +347,24 @@ class Commands(Client):
             self.hits = []
             self.tell_place()
 
-    def listing(self, first, last):
-        """Lines of the source with marks: `B` for a breakpoint, `b` for a disabled one, `>` for the stop."""
-        marks, stop = {}, self.place and self.place["line"]
-        for point in self.points.breakpoints():
+    def listing(self, file, first, last):
+        """Lines of a file with marks: `B` for a breakpoint, `b` for a disabled one, `>` for the stop."""
+        marks, stop = {}, self.place["line"] if self.place and site_of(self.place)[0] == file else None
+        for point in (it for it in self.points.breakpoints() if it.file == file):
             marks[point.line] = "B" if point.bp is not None or marks.get(point.line) == "B" else "b"
-        told = [f"{marks.get(number, ' ')}{'>' if number == stop else ' '} {number}\t{text}" for number, text in self.lines(first, last)]
+        told = [f"{marks.get(number, ' ')}{'>' if number == stop else ' '} {number}\t{text}" for number, text in self.lines(file, first, last)]
         return [self.paint("place", it) if it[1] == ">" else it for it in told]
 
     def do_list(self, words):
         if not self.source.lines:
             raise Failed("No source is known")
-        given = re.fullmatch(r"(?:([0-9]{1,9})(?: ?, ?([0-9]{1,9}))?|(-))?", " ".join(words))
+        word, given = re.fullmatch(r"(?:([^\s:]+):(?=[0-9]))?(.*)", " ".join(words)).groups()
+        given = re.fullmatch(r"(?:([0-9]{1,9})(?: ?, ?([0-9]{1,9}))?|(-))?", given)
         if not given:
             raise usage("list")
         size, before = self.listsize, self.listed
+        here = self.listed_file if before is not None else site_of(self.place)[0] if self.place else 0
+        file = here if word is None else self.file_of(word)
         if given[2]:
             first, last = int(given[1]), int(given[2])
         elif given[3] and before is not None:
@@ -362,10 +375,10 @@ class Commands(Client):
             last = first + size - 1
         else:
             first, last = before[1] + 1, before[1] + size
-        told = self.listing(first, last)
+        told = self.listing(file, first, last)
         if not told:
-            raise Failed(f"The source has {len(self.source.lines)} lines" if last > 0 else "The source begins with line 1")
-        self.listed = max(1, first), last
+            raise Failed(f"The source has {len(self.source.file(file).lines)} lines" if last > 0 else "The source begins with line 1")
+        self.listed, self.listed_file = (max(1, first), last), file
         self.say(*told)
 
     def do_set(self, words):

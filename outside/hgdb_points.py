@@ -15,23 +15,28 @@ BACK = 16
 
 
 class Point:
-    """A breakpoint: its number, where it is set, its number in the session or None where it is disabled, the slots that it waits at,
+    """A breakpoint: its number, where it is set (a line in a file, and an instance), its number in the session or None where it is disabled, the slots that it waits at,
     its hits, how many of the next ones are to be ignored, and whether it is taken away at its first stop."""
 
     WORD, SET, TEXT, UNSET, NUMBER = "breakpoint", "break", "cond", "delete", "bp"
 
-    def __init__(self, number, line, path, cond, temporary):
-        self.number, self.line, self.path, self.cond, self.temporary = number, line, path, cond, temporary
+    def __init__(self, number, at, path, cond, temporary):
+        self.number, self.path, self.cond, self.temporary = number, path, cond, temporary
+        self.file, self.line = at
         self.bp, self.slots, self.hits, self.ignored = None, [], 0, 0
 
     def name(self):
         """Its name at a stop."""
         return f"{'temporary ' * self.temporary}{self.WORD} {self.number}"
 
+    def place(self):
+        """Its line, behind the number of its file unless it is file 0."""
+        return spot(self.file, self.line)
+
     def waits(self):
         """Where it waits, and for what."""
         at, when = f" at {self.path}" if self.path else "", f" if {self.cond}" if self.cond else ""
-        return f"{'temporary, ' * self.temporary}line {self.line}{at}{when}"
+        return f"{'temporary, ' * self.temporary}line {self.place()}{at}{when}"
 
     def told(self):
         """What `info breakpoints` tells."""
@@ -46,7 +51,17 @@ class Watch(Point):
     WORD, SET, TEXT, UNSET, NUMBER = "watchpoint", "watch", "expr", "unwatch", "wp"
 
     def waits(self):
-        return f"{self.cond}, line {self.line} at {self.path}"
+        return f"{self.cond}, line {self.place()} at {self.path}"
+
+
+def spot(file, line):
+    """A line, behind the number of its file unless it is file 0."""
+    return f"{file}:{line}" if file else str(line)
+
+
+def sited(file, line):
+    """The fields of a request that tell a place."""
+    return {"file": file or None, "line": line}
 
 
 def times(count):
@@ -64,7 +79,7 @@ class Points:
         """Sets a point with this condition in the session. Returns its reply and the condition as it was taken."""
 
         def ask(texts):
-            fields = {"line": point.line, "instance": point.path}
+            fields = {**sited(point.file, point.line), "instance": point.path}
             return [it for it, _ in self.session.ask([(point.SET, {**fields, point.TEXT: it}) for it in texts])]
 
         text, reply = (None, ask([None])[0]) if cond is None else hgdb_expr.fitted(ask, cond, gens)
@@ -74,9 +89,9 @@ class Points:
         with self.session.steady():
             self.answered(self.session.request(point.UNSET, **{point.NUMBER: bp}))
 
-    def add(self, line, path, cond, temporary=False, hidden=False):
+    def add(self, at, path, cond, temporary=False, hidden=False):
         """A new breakpoint. One that is hidden has the number 0."""
-        return self.added(Point(0 if hidden else self.last + 1, line, path, cond, temporary))
+        return self.added(Point(0 if hidden else self.last + 1, at, path, cond, temporary))
 
     def added(self, point, gens=()):
         """A new point, which is set."""
@@ -86,9 +101,9 @@ class Points:
         point.bp, point.slots = reply[point.NUMBER], reply["slots"]
         return point
 
-    def watch(self, line, path, text, gens):
+    def watch(self, at, path, text, gens):
         """A new watchpoint."""
-        return self.added(Watch(self.last + 1, line, path, text, False), gens)
+        return self.added(Watch(self.last + 1, at, path, text, False), gens)
 
     def numbers(self):
         """The numbers of those that are not hidden."""

@@ -10,10 +10,10 @@ import re
 
 import hgdb_client, hgdb_points, hgdb_source, hgdb_wave
 
-WHERE = "LINE [at INSTANCE] [if CONDITION]"
+WHERE = "[FILE:]LINE [at INSTANCE] [if CONDITION]"
 # Each command: other names, the words behind it, and what it does.
 COMMANDS = {
-    "break": (("b", "br"), WHERE, "stop before the statements of a line"),
+    "break": (("b", "br"), WHERE, "stop before the statements of a line; FILE is a number or a name, and without it the first file"),
     "tbreak": (("tb",), WHERE, "the same, and take the breakpoint away at its first stop"),
     "watch": ((), "EXPRESSION", "stop where its value at this statement of this instance differs from that in the cycle before"),
     "delete": (("d",), "[NUMBER]..", "take breakpoints and watchpoints away; without a number, all of them"),
@@ -37,10 +37,10 @@ COMMANDS = {
     "display": ((), "[/x | /d | /t] [EXPRESSION]", "show it at each stop; without an expression, show all of them now"),
     "undisplay": ((), "[NUMBER]..", "show it no longer"),
     "wave": ((), "NAME.. [CYCLES]", f"values over the cycles round the stop, {hgdb_wave.USUAL} of them, at most {hgdb_wave.CYCLES}"),
-    "info": (("i",), "locals | breakpoints | watchpoints | display | line [LINE] | threads | listeners",
+    "info": (("i",), "locals | breakpoints | watchpoints | display | line [[FILE:]LINE] | threads | listeners",
              "the values of all names; what stands behind the other words"),
     "where": (("bt", "frame", "f"), "", "where the session stands"),
-    "list": (("l",), "[LINE | FIRST,LAST | -]", "lines of the source: around the stop, the next ones, around a line, those before"),
+    "list": (("l",), "[[FILE:]LINE | [FILE:]FIRST,LAST | -]", "lines of the source: around the stop, the next ones, around a line, those before"),
     "set": ((), "listsize NUMBER", "how many lines `list` shows"),
     "drop": ((), "NUMBER", "end a listener, and show what it had counted"),
     "help": (("h",), "[COMMAND]", "this text"),
@@ -83,6 +83,11 @@ def number_of(word):
     return int(word) if re.fullmatch("[0-9]{1,20}", word) else None
 
 
+def site_of(place):
+    """The file and the line of a stop."""
+    return place.get("file", 0), place["line"]
+
+
 def place_of(at):
     """A place of a session in words."""
     if isinstance(at, dict):
@@ -103,6 +108,8 @@ def refusal(reply, text=None, nobody=False):
             why += ", where no instance executes anything; `step` goes to the next statement that is executed"
         elif isinstance(reply["at"], dict):
             why += ", where this instance executes nothing"
+    elif code == 5 and "file" in reply:
+        why = f"no statement is on line {hgdb_points.spot(*site_of(reply))}"
     elif code == 6 and text is None:
         why = f"there is no instance {reply['instance']}"
     elif code in REFUSALS:
@@ -177,6 +184,7 @@ class Client:
         self.chosen, self.place, self.edge, self.hits, self.unshown = None, None, "start", [], False
         self.known, self.names, self.paths, self.slots = {}, set(), set(), {}
         self.displays, self.shown_last, self.listsize, self.listed = {}, 0, LISTED, None
+        self.listed_file = 0
         self.failed, self.warned = False, False
         # Tells of a stop that is left at once, so that no breakpoint is hit there.
         self.passing = lambda place: False
@@ -306,11 +314,15 @@ class Client:
 
     def tell_place(self):
         """Shows the place: the breakpoints, the cycle, the line, the instance that is looked at, and the line of the source."""
-        place, line = self.place, self.place["line"]
+        place, (file, line) = self.place, site_of(self.place)
         points = ", ".join(it.name().capitalize() for it in self.hits if it.number)
         gens = "".join(f", {name}={number}" for name, number in place["gens"])
-        self.say(f"{points + ', c' if points else 'C'}ycle {place['cycle']}, line {line}, {self.who()}{gens}", kind="place")
-        self.say(*[f"{number}\t{text}" for number, text in self.lines(line, line)], kind="line")
+        self.say(f"{points + ', c' if points else 'C'}ycle {place['cycle']}, line {self.spot(file, line)}, {self.who()}{gens}", kind="place")
+        self.say(*[f"{number}\t{text}" for number, text in self.lines(file, line, line)], kind="line")
+
+    def spot(self, file, line):
+        """A line, behind the name of its file, or the number where no name is known; alone where it is file 0."""
+        return f"{self.source.file(file).name or file}:{line}" if file else str(line)
 
     def who(self):
         """Who executes the statement: the instance that is looked at, and how many more."""
@@ -319,9 +331,9 @@ class Client:
             return f"not {one}" if one else "no instance"
         return one if len(threads) == 1 else f"{one} and {len(threads) - 1} more"
 
-    def lines(self, first, last):
-        """Lines of the source with their numbers, where they are known."""
-        have = self.source.lines
+    def lines(self, file, first, last):
+        """Lines of a file of the source with their numbers, where they are known."""
+        have = self.source.file(file).lines
         return [(number, have[number - 1]) for number in range(max(first, 1), min(last, len(have)) + 1)]
 
     def tell_changes(self):
@@ -394,14 +406,14 @@ class Client:
         """The statement at a place, by the source, or None where that does not tell it."""
 
         def slots():
-            key = place["line"], self.here()
+            key = *site_of(place), self.here()
             if key not in self.slots:
-                reply = self.on.request("break", line=key[0], instance=key[1])
+                reply = self.on.request("break", **hgdb_points.sited(*key[:2]), instance=key[2])
                 self.slots[key] = reply["slots"] if reply["ok"] else []
                 self.points.unset(reply["bp"]) if reply["ok"] else None
             return self.slots[key]
 
-        return self.source.at(place["line"], place["slot"], slots)
+        return self.source.file(site_of(place)[0]).at(place["line"], place["slot"], slots)
 
     def right(self, place, *kinds):
         """The name that the statement at a place assigns, and the text of the right side; or None, where it is of none of these kinds."""

@@ -1,4 +1,4 @@
-"""A source as hgdb-client needs it: its lines, and where its statements and blocks stand.
+"""A source as hgdb-client needs it: its lines, where its statements and blocks stand, and the files that it imports.
 
 The text is walked by its braces and semicolons alone, and what is no source gives no statements: the server judges sources, and nothing
 here does. Which of several statements of one line a slot is goes by the order of the slots of the line (`at`); where loops begin or
@@ -7,6 +7,9 @@ end between them it is not told.
 import itertools, os
 
 import hgdb_expr
+
+# The most files that a design has.
+FILES = 64
 
 
 class Block:
@@ -29,7 +32,7 @@ class Walk:
 
     def __init__(self, found):
         self.tokens, self.at, self.fresh = found, 0, itertools.count()
-        self.statements, self.blocks, self.modules = [], [], []
+        self.statements, self.blocks, self.modules, self.imports = [], [], [], []
 
     def takes(self, text=None):
         """Takes a token, which has to be this one."""
@@ -48,7 +51,7 @@ class Walk:
 
     def source(self):
         while self.tokens[self.at][1] == "import":
-            self.upto(";")
+            self.imports += [it[1] for it in self.upto(";")[1:2]]
         while self.at < len(self.tokens):
             self.takes("module")
             module = self.takes()[1]
@@ -115,7 +118,7 @@ class Walk:
 
 
 class Source:
-    """A source of this name and text; `name` is None where none is known."""
+    """A source of this name and text; `name` is None where none is known. `files` has it and the files that it imports, by their numbers."""
 
     def __init__(self, name=None, text=""):
         self.name, self.lines = name, [it.rstrip("\r") for it in text.removesuffix("\n").split("\n")] if text else []
@@ -127,7 +130,16 @@ class Source:
             walk.source()
         except (hgdb_expr.Bad, IndexError, StopIteration, RecursionError):
             pass
-        self.statements, self.blocks, self.modules = walk.statements, walk.blocks, walk.modules
+        self.statements, self.blocks, self.modules, self.imports = walk.statements, walk.blocks, walk.modules, walk.imports
+        self.files = [self]
+
+    def file(self, number):
+        """The file of a number; one without a name and lines where it is not known."""
+        return self.files[number] if number < len(self.files) else Source()
+
+    def number(self, name):
+        """The number of the file of a name, with its ending or without; or None."""
+        return next((number for number, it in enumerate(self.files) if it.name in (name, f"{name}.hg")), None)
 
     def on(self, line):
         """The statements that begin on a line."""
@@ -167,10 +179,26 @@ def overlap(one, other):
     return low <= top and least <= high
 
 
-def read(path):
-    """The source of a file."""
+def single(path):
+    """The source of a file, without those that it imports."""
     with open(path, encoding="utf-8", errors="replace", newline="") as file:
         return Source(os.path.basename(path), file.read())
+
+
+def read(path):
+    """The source of a file, with those that it imports: they stand beside it and get numbers in the order in which they are met. One that
+    cannot be read has no lines."""
+    first, paths = single(path), [path]
+    for source in first.files:
+        for name in source.imports:
+            there = f"{path[:path.rfind('/') + 1]}{name}.hg"
+            if there not in paths and len(paths) < FILES:
+                paths.append(there)
+                try:
+                    first.files.append(single(there))
+                except OSError:
+                    first.files.append(Source(os.path.basename(there)))
+    return first
 
 
 def told(statement, gens):

@@ -97,7 +97,7 @@ class Wave:
     def taken(self, count):
         """The values in each of so many cycles round the stop, each a cycle and its values. Then it stands at the stop."""
         self.seek()
-        reply = self.session.request("break", line=self.first["line"], instance=self.path)
+        reply = self.session.request("break", file=self.first.get("file"), line=self.first["line"], instance=self.path)
         self.slots, found = reply["slots"], []
         try:
             if before := min(count // 2, self.at):
