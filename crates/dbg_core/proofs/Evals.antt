@@ -36,12 +36,12 @@ use Rattle.machine_core.specs.declared.reply.Body.TheVariants as body
 use Rattle.machine_core.specs.Reading.{Reading, Condition, NoCondition, Reader, IsReader}
 use Rattle.machine_core.specs.Matching.{value_there}
 use Rattle.machine_core.specs.Machine.{sample_of, threads_at}
-use Rattle.slot_sched.specs.Waiting.{cycle_samples, IsNodeOf}
-use Rattle.slot_sched.proofs.Matches.{shown_told}
-use Rattle.slot_sched.proofs.Readings.{read_never}
-use Rattle.slot_sched.proofs.Scopes.{judged_told}
-use Rattle.slot_sched.proofs.Values.{bound_value_is, value_told, node_of}
-use Rattle.slot_sched.specs.Scan.{total_of}
+use Rattle.site_core.specs.Sampled.{cycle_samples, IsNodeOf}
+use Rattle.site_core.proofs.Told.{shown_told}
+use Rattle.site_core.proofs.Readings.{read_never}
+use Rattle.site_core.proofs.Scopes.{judged_told}
+use Rattle.site_core.proofs.Values.{bound_value_is, value_told, node_of}
+use Rattle.site_core.specs.Positions.{total_of}
 use Rattle.dbg_core.specs.World.{world_of}
 use Rattle.dbg_core.specs.Answering.{judged_body, read_body, eval_body}
 use Rattle.dbg_core.specs.Eval.{is_refused_so, is_unread_so, value_or, text_body, table_body}

@@ -15,11 +15,12 @@ use Rattle.symtab.specs.Lookups.{instances_of}
 use Rattle.cond_lang.specs.declared.cond.Cond.{Cond}
 use Rattle.cond_lang.specs.declared.text.CondText.{CondText}
 use Rattle.cond_lang.specs.Judged.{Refusal}
-use Rattle.slot_sched.specs.declared.armed.Trap.{Trap}
+use Rattle.site_core.specs.declared.trap.Trap.{Trap}
 use Rattle.slot_sched.specs.declared.armed.Armed.{Armed}
 use Rattle.slot_sched.specs.declared.schedule.Schedule.{Schedule}
-use Rattle.slot_sched.specs.Armed.{trap_place, traps_of, IsFittingAt, IsTrapOf, IsArmed, AreOf}
-use Rattle.slot_sched.proofs.Matches.{number_told}
+use Rattle.site_core.specs.Traps.{trap_place, traps_of, IsFittingAt, IsTrapOf}
+use Rattle.slot_sched.specs.Armed.{IsArmed, AreOf}
+use Rattle.site_core.proofs.Told.{number_told}
 use Rattle.watch.specs.declared.watched.Watched.{Watched}
 use Rattle.watch.specs.declared.watch_list.WatchList.{WatchList}
 use Rattle.watch.specs.Watching as watching

@@ -14,7 +14,7 @@ use Rattle.machine_core.specs.declared.reply.At.{At}
 use Rattle.machine_core.specs.declared.reply.At.TheVariants.{End, Position}
 use Rattle.machine_core.specs.Positions.{position_count, cycle_at, slot_at, at_place}
 use Rattle.machine_core.specs.Machine.{line_at, gens_at, position_of}
-use Rattle.slot_sched.specs.Scan.{total_of}
+use Rattle.site_core.specs.Positions.{total_of}
 use Rattle.dbg_core.specs.World.{world_of}
 
 -- ---- how many there are

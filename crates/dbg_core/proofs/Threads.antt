@@ -21,10 +21,11 @@ use Rattle.trace_core.specs.declared.scan.Seek.TheVariants as seek
 use Rattle.machine_core.specs.Matching.{Watch, watches_at}
 use Rattle.machine_core.specs.Machine.{note_at, line_at, threads_at}
 use Rattle.machine_core.specs.Positions.{cycle_at, slot_at}
-use Rattle.slot_sched.specs.Waiting.{is_thread, step_stops, any_steps, cycle_samples}
-use Rattle.slot_sched.specs.Scan.{total_of}
-use Rattle.slot_sched.proofs.Any.{any_alike, any_filtered}
-use Rattle.slot_sched.proofs.Matches.{threads_told}
+use Rattle.site_core.specs.Sampled.{is_thread, cycle_samples}
+use Rattle.slot_sched.specs.Waiting.{step_stops, any_steps}
+use Rattle.site_core.specs.Positions.{total_of}
+use Rattle.site_core.proofs.Any.{any_alike, any_filtered}
+use Rattle.site_core.proofs.Told.{threads_told}
 use Rattle.dbg_core.specs.World.{world_of}
 use Rattle.dbg_core.specs.Shown.{slot_threads}
 use Rattle.dbg_core.proofs.Positions.{slots_told, line_told, some_slots}

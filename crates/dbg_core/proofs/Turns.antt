@@ -19,7 +19,7 @@ use Rattle.machine_core.specs.declared.found.Found.TheVariants as found
 use Rattle.machine_core.specs.Search.{nearest_that, is_near_edge, found_or, nearer_of, nearer_found}
 use Rattle.machine_core.specs.Laws.{turn_from, found_by}
 use Rattle.machine_core.proofs.Turns.{turns_by_search}
-use Rattle.slot_sched.specs.Scan.{total_of}
+use Rattle.site_core.specs.Positions.{total_of}
 use Rattle.dbg_core.specs.World.{world_of}
 use Rattle.dbg_core.specs.Answering.{left_ahead}
 use Rattle.dbg_core.proofs.Positions.{count_told}

@@ -17,9 +17,10 @@ use Rattle.machine_core.specs.declared.reply.At.TheVariants.{Start, End, Positio
 use Rattle.machine_core.specs.declared.reply.Body.TheVariants as body
 use Rattle.machine_core.specs.Positions.{position_count, cycle_at, slot_at, at_place}
 use Rattle.machine_core.specs.Machine.{told, shown_there, names_at, threads_at, threads_of, values_of}
-use Rattle.slot_sched.specs.Waiting.{cycle_samples, is_thread, any_steps}
-use Rattle.slot_sched.specs.Scan.{total_of}
-use Rattle.slot_sched.proofs.Matches.{number_told, shown_told}
+use Rattle.site_core.specs.Sampled.{cycle_samples, is_thread}
+use Rattle.slot_sched.specs.Waiting.{any_steps}
+use Rattle.site_core.specs.Positions.{total_of}
+use Rattle.site_core.proofs.Told.{number_told, shown_told}
 use Rattle.dbg_core.specs.World.{world_of}
 use Rattle.dbg_core.specs.Answering.{thread_there}
 use Rattle.dbg_core.specs.Shown.{names_of, row_shown}

@@ -12,7 +12,7 @@ use Rattle.symtab.specs.Lookups.{instances_of, binding_of}
 use Rattle.trace_world.specs.TraceWorld.{binding_shown}
 use Rattle.machine_core.specs.declared.reply.Shown.{Shown}
 use Rattle.machine_core.specs.Machine.{told}
-use Rattle.slot_sched.specs.Waiting.{is_thread}
+use Rattle.site_core.specs.Sampled.{is_thread}
 
 -- the instances that are threads of a slot, in preorder
 abbrev pub slot_threads : TableParts → (ℕ → Sample) → ℕ → List ℕ

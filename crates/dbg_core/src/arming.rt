@@ -13,7 +13,8 @@ ghost use Rattle.watch.specs.Watching as watching;
 ghost use Rattle.dbg_core.specs.Answering.{broken, watched};
 
 use machine_core::Body;
-use slot_sched::{ArmFault, Schedule, Unarmed, prepare};
+use site_core::Sited;
+use slot_sched::{ArmFault, Schedule, prepare};
 use std::alloc::Global;
 use symtab::Table;
 use text_core::{Listed, NoMemory};
@@ -40,7 +41,7 @@ fn commit_asked(
     alloc: Global,
     schedule: &mut Schedule,
     table: &Table,
-    unarmed: Unarmed,
+    unarmed: Sited,
 ) -> Result<Body, NoMemory>
     requires armable { IsArmable table.now unarmed }
     ensures body { IfOk result (λ body. (breakpoints schedule.new, next_number schedule.new, body) ≡ broken (unless_refused (limit_refusal (length (breakpoints schedule.old)) (next_number schedule.old)) (as_breakpoint (next_number schedule.old) unarmed)) (breakpoints schedule.old) (next_number schedule.old)) }

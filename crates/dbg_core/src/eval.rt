@@ -6,12 +6,12 @@ ghost use Rattle.trace_world.specs.Fitting.{FitsTable};
 ghost use Rattle.cond_lang.specs.Faults.{Refuses};
 ghost use Rattle.cond_lang.specs.Judged.{Refusal, judged};
 ghost use Rattle.machine_core.specs.Reading.{Reader, IsReader};
-ghost use Rattle.slot_sched.specs.Waiting.{cycle_samples, IsSet};
+ghost use Rattle.site_core.specs.Sampled.{cycle_samples, IsSet};
 ghost use Rattle.dbg_core.specs.Eval.{text_body, table_body, is_refused_so, is_unread_so};
 
 use cond_lang::{BindEnd, CondFault, CondText, bind, read_cond};
 use machine_core::Body;
-use slot_sched::come_to;
+use site_core::come_to;
 use std::alloc::Global;
 use symtab::Table;
 use text_core::NoMemory;

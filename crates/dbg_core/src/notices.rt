@@ -5,7 +5,7 @@ ghost use Rattle.trace_world.specs.Fitting.{FitsTable};
 ghost use Rattle.machine_core.specs.Journal.{notices_of, told_lines};
 ghost use Rattle.machine_core.specs.Machine.{Machine};
 ghost use Rattle.machine_core.specs.Journal.{watch_numbers};
-ghost use Rattle.slot_sched.specs.Scan.{total_of};
+ghost use Rattle.site_core.specs.Positions.{total_of};
 ghost use Rattle.watch.specs.Watching.{watches, AreOf};
 ghost use Rattle.dbg_core.specs.World.{world_of};
 

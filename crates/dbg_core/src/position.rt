@@ -6,7 +6,7 @@ ghost use Rattle.trace_world.specs.TraceWorld.{gen_of};
 ghost use Rattle.trace_world.specs.Fitting.{FitsTable};
 ghost use Rattle.machine_core.specs.Positions.{at_place};
 ghost use Rattle.machine_core.specs.Machine.{note_at, gens_at};
-ghost use Rattle.slot_sched.specs.Scan.{total_of};
+ghost use Rattle.site_core.specs.Positions.{total_of};
 ghost use Rattle.watch.specs.Watching.{watches, AreOf};
 ghost use Rattle.dbg_core.specs.World.{world_of, path_at};
 

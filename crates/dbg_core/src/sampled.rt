@@ -6,12 +6,13 @@ ghost use Rattle.symtab.specs.Lookups.{instances_of, row_of};
 ghost use Rattle.trace_core.specs.Known.{known};
 ghost use Rattle.trace_world.specs.TraceWorld.{found_by};
 ghost use Rattle.trace_world.specs.Fitting.{FitsTable};
-ghost use Rattle.slot_sched.specs.Waiting.{cycle_samples, IsSet, any_steps, is_thread};
+ghost use Rattle.site_core.specs.Sampled.{cycle_samples, IsSet, is_thread};
+ghost use Rattle.slot_sched.specs.Waiting.{any_steps};
 ghost use Rattle.dbg_core.specs.Shown.{IsAmong, IsCellAmong, slot_threads, cell_shown, cells_shown};
 
 use bv_core::{Binding, Ref, Sample};
 use machine_core::Shown;
-use slot_sched::is_thread;
+use site_core::is_thread;
 use std::alloc::Global;
 use symtab::{Cells, Table};
 use text_core::{NoMemory, Text};

@@ -5,7 +5,7 @@ ghost use Rattle.std.specs.List.{list_any};
 ghost use Rattle.trace_world.specs.Fitting.{FitsTable};
 ghost use Rattle.slot_sched.specs.Armed.{AreOf};
 ghost use Rattle.watch.specs.Watching as watching;
-ghost use Rattle.slot_sched.specs.Scan.{total_of};
+ghost use Rattle.site_core.specs.Positions.{total_of};
 
 use crate::listeners::Listeners;
 use crate::notices::{notice_of, watches_at};

@@ -22,7 +22,7 @@ use Rattle.trim_laws.proofs.Worlds.{worlds_are_seen_alike}
 use Rattle.machine_core.specs.Positions.{end_place}
 use Rattle.machine_core.specs.Reading.{Reader, IsReader}
 use Rattle.machine_core.specs.Machine.{Machine, opening}
-use Rattle.slot_sched.specs.Scan.{total_of}
+use Rattle.site_core.specs.Positions.{total_of}
 use Rattle.dbg_core.specs.World.{world_of}
 use Rattle.dbg_core.proofs.Positions.{count_told}
 use Rattle.batch_run.specs.Texts.{requests_of}

@@ -12,7 +12,7 @@ use Rattle.list_core.proofs.Options.{some_same}
 use Rattle.symtab.specs.declared.parts.TableParts.{TableParts}
 use Rattle.bv_core.specs.declared.Sample.{Sample}
 use Rattle.cond_lang.specs.declared.text.CondText.{CondText}
-use Rattle.slot_sched.specs.declared.armed.Trap.{Trap}
+use Rattle.site_core.specs.declared.trap.Trap.{Trap}
 use Rattle.slot_sched.specs.declared.armed.Armed.{Armed}
 use Rattle.slot_sched.specs.declared.spans.Span.{Span}
 use Rattle.slot_sched.specs.Spans.{no_span, span_of, holds, covers, are_covered, are_spanned, WaitBelow, AllWaitBelow}

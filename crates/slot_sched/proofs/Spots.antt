@@ -51,11 +51,6 @@ before_beyond p n some later first =
 pub cycle_below : (p n : ℕ) → 0 < n → p / n ≤ p
 cycle_below p n some = grind arith
 
--- where there is a position, a cycle has slots
-pub some_slots : (c n p : ℕ) → p < c * n → 0 < n
-some_slots c zero p h = absurd (omega (arith, h))
-some_slots c (suc n) p h = omega arith
-
 -- a slot further on in the same cycle, and one further back
 pub up_within : (p n d : ℕ) → p % n + d < n → (p / n ≡ (p + d) / n) × (p % n + d ≡ (p + d) % n)
 up_within p n d within = spot_of (p + d) n (p / n) (p % n + d) within (let e : p / n * n + (p % n + d) ≡ p + d = omega (arith, whole p n) in e)

@@ -1,5 +1,5 @@
 -- What a search for breakpoints, or for a step, over the positions of a world answers.
-use Rattle.std.specs.Prelude.{ℕ, zero, suc, ◌*◌, ◌/◌, ◌%◌, ℤ, Bool, List, [], ◌∷◌, length}
+use Rattle.std.specs.Prelude.{ℕ, ◌/◌, ◌%◌, ℤ, Bool, List, length}
 use Rattle.symtab.specs.declared.parts.TableParts.{TableParts}
 use Rattle.trace_core.specs.Samples.{Samples}
 use Rattle.trace_core.specs.declared.scan.Way.{Way}
@@ -23,16 +23,6 @@ scanned w breakpoints want way at = told_of (searched w breakpoints want way (pl
 
 -- ---- the same, position by position
 
--- how many positions a table has over these samples
-abbrev pub total_of : TableParts → Samples → ℕ
-total_of parts s = s.cycles * length parts.slots
-
 -- what is searched for is at a position
 abbrev pub position_stops : TableParts → Samples → List Armed → Want → ℕ → Bool
 position_stops parts s armed want p = slot_stops parts (s.sample (p / length parts.slots)) (p % length parts.slots) armed want
-
--- n positions below this one, the nearest first
-abbrev pub down_from : ℕ → ℕ → List ℕ
-down_from p zero = []
-down_from zero (suc n) = []
-down_from (suc p) (suc n) = p ∷ down_from p n

@@ -2,7 +2,7 @@
 use Rattle.std.specs.Prelude.{ℕ, ◌≡◌, ◌+◌, ◌<◌, ◌≤◌, ◌&&◌, Bool, true, List, [], ◌∷◌, length, nat_le, nat_lt, slice_get, unwrap_or}
 use Rattle.std.specs.List.{list_all}
 use Rattle.list_core.specs.Lists.{EachOf}
-use Rattle.slot_sched.specs.declared.armed.Trap.{Trap}
+use Rattle.site_core.specs.declared.trap.Trap.{Trap}
 use Rattle.slot_sched.specs.declared.armed.Armed.{Armed}
 use Rattle.slot_sched.specs.declared.spans.Span.{Span}
 

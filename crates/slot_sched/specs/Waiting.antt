@@ -1,50 +1,26 @@
 -- What a schedule looks at in a slot, by the samples of a cycle.
-use Rattle.std.specs.Prelude.{◌≡◌, ℕ, ◌<◌, ◌==◌, ◌&&◌, Bool, true, false, List, Option, Some, None, All, Contains}
+use Rattle.std.specs.Prelude.{◌≡◌, ℕ, ◌==◌, ◌&&◌, Bool, true, false, List, Option, Some, None, All, Contains}
 use Rattle.std.specs.List.{list_any}
-use Rattle.bv_core.specs.Value.{IsBits}
-use Rattle.bv_core.specs.declared.NodeId.{NodeId}
 use Rattle.bv_core.specs.declared.Sample.{Sample}
-use Rattle.bv_core.specs.declared.Sample.TheVariants.{Known, Unknown}
 use Rattle.bv_core.specs.declared.Truth.{Truth}
 use Rattle.bv_core.specs.declared.Truth.TheVariants as truth
 use Rattle.symtab.specs.declared.parts.TableParts.{TableParts}
-use Rattle.symtab.specs.Lookups.{instances_of, enable_of}
+use Rattle.symtab.specs.Lookups.{instances_of}
 use Rattle.trace_core.specs.Samples.{Samples}
-use Rattle.trace_core.specs.Samples as samples
 use Rattle.trace_core.specs.Known.{is_one}
 use Rattle.trace_core.specs.declared.scan.Want.{Want}
 use Rattle.trace_core.specs.declared.scan.Want.TheVariants.{Breakpoints, Step}
-use Rattle.trace_world.specs.TraceWorld.{is_on}
 use Rattle.cond_lang.specs.declared.cond.Cond.{Cond}
 use Rattle.cond_lang.specs.Bound.{EachNode, bound_value}
 use Rattle.cond_lang.specs.Shown.{cond_tree, cond_width}
 use Rattle.machine_core.specs.Matching.{is_wanted}
-use Rattle.slot_sched.specs.declared.armed.Trap.{Trap}
+use Rattle.site_core.specs.declared.trap.Trap.{Trap}
 use Rattle.slot_sched.specs.declared.armed.Armed.{Armed}
+use Rattle.site_core.specs.Sampled.{is_thread, IsNodeOf}
 
--- ---- the cycle at which a trace stands
+-- ---- what can be looked at
 
--- its samples
-abbrev pub cycle_samples : Samples → Option ℕ → ℕ → Sample
-cycle_samples s None = λ node. Unknown
-cycle_samples s (Some cycle) = s.sample cycle
-
--- the cursor stands at a cycle that there is
-abbrev pub IsSet : Samples → Option ℕ → Type 0
-IsSet s None = ⊥
-IsSet s (Some cycle) = cycle < s.cycles
-
--- a value that was sampled is one
-abbrev pub IsValue : Sample → Type 0
-IsValue (Known bits) = IsBits bits
-IsValue Unknown = Unit {0}
-
--- a node is sampled, and its values have this width
-pub record IsNodeOf (s : Samples) (node : NodeId) (width : ℕ) : Type 0 where
-  pub within : node.0 < s.nodes
-  pub widths : (cycle : ℕ) → cycle < s.cycles → samples.HasWidth width (s.sample cycle node.0)
-
--- the nodes of a condition are, if there is one, and it has width 1
+-- the nodes of a condition, if there is one, are sampled, and it has width 1
 abbrev pub IsTest : Samples → Option Cond → Type 0
 IsTest s None = Unit {0}
 IsTest s (Some cond) = (cond_width cond ≡ 1) × EachNode (IsNodeOf s) (cond_tree cond)
@@ -71,10 +47,6 @@ is_true truth.Unknown = false
 abbrev pub test_holds : (ℕ → Sample) → Option Cond → Bool
 test_holds samples None = true
 test_holds samples (Some cond) = is_one (bound_value (λ node. samples node.0) (cond_tree cond))
-
--- an instance has a slot as a thread
-abbrev pub is_thread : TableParts → (ℕ → Sample) → (slot instance : ℕ) → Bool
-is_thread parts samples k i = is_on samples (enable_of parts k i)
 
 -- it waits at this slot, where its instance is a thread and its condition holds
 abbrev pub trap_stops : TableParts → (ℕ → Sample) → ℕ → Trap → Bool

@@ -2,15 +2,8 @@
 
 ghost use Rattle.std.specs.List.Sorted.{IsNonDecreasingBy};
 
-use cond_lang::{Cond, CondText};
-
-/// Where a breakpoint or a watch waits: a slot, an instance, and the expression there, if there is one.
-#[derive(Drop)]
-pub struct Trap {
-    pub slot: u32,
-    pub instance: u32,
-    pub cond: Option<Cond>,
-}
+use cond_lang::CondText;
+use site_core::Trap;
 
 /// An armed breakpoint: its number, its slots, the instance that was named, if one was, the text of its condition, if there is
 /// one, and where it waits, slot after slot.

@@ -16,11 +16,12 @@ ghost use Rattle.trace_core.specs.Samples.{Samples};
 ghost use Rattle.slot_sched.specs.Arm.{Arms, TellsNone, as_breakpoint, IsArmable};
 ghost use Rattle.slot_sched.specs.Armed.{breakpoints, next_number, is_number, AreOf, AreInOrder, IsAsBefore};
 
-use crate::arm::{Unarmed, prepare};
+use crate::arm::prepare;
 use crate::armed::Armed;
 use crate::fault::ArmFault;
 use crate::schedule::Schedule;
 use crate::spans::{grown, rebuild, widen_last};
+use site_core::Sited;
 use std::alloc::Global;
 use symtab::Table;
 
@@ -87,7 +88,7 @@ impl Schedule {
     ///
     /// Refused where 1,024 breakpoints are armed, or the number 2^64 - 1 was given. After a refusal all is as before, and so it is for want
     /// of memory.
-    pub fn commit(&mut self, table: &Table, unarmed: Unarmed) -> Result<u64, ArmFault>
+    pub fn commit(&mut self, table: &Table, unarmed: Sited) -> Result<u64, ArmFault>
         requires armable { IsArmable table.now unarmed }
         ensures made { IfOk result (λ number. number ≡ next_number self.old) }
         ensures breakpoints { OnOk result (breakpoints self.new ≡ breakpoints self.old ++ as_breakpoint (next_number self.old) unarmed ∷ []) }

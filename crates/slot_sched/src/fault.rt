@@ -1,8 +1,10 @@
 //! Why a breakpoint is not armed.
 
 ghost use Rattle.std.specs.Prelude.{◌≡◌};
+ghost use Rattle.slot_sched.specs.Arm.{arm_fault};
 ghost use Rattle.slot_sched.specs.declared.fault.ArmFault.TheVariants as arm_faults;
 
+use site_core::SiteFault;
 use std::alloc::{AllocError, AllocFailed};
 use text_core::{NoMemory, Text};
 
@@ -25,6 +27,22 @@ pub enum ArmFault {
     TooMany { limit: u64 },
     /// Want of memory.
     NoMemory,
+}
+
+impl From<SiteFault> for ArmFault {
+    ghost from_gives = { λ fault e. e ≡ arm_fault fault };
+
+    fn from(fault: SiteFault) -> Self {
+        match fault {
+            SiteFault::NoSite { line } => ArmFault::NoSite { line },
+            SiteFault::NoInstance { instance } => ArmFault::NoInstance { instance },
+            SiteFault::BadCondAt { offset } => ArmFault::BadCondAt { offset },
+            SiteFault::BadCondName { name } => ArmFault::BadCondName { name },
+            SiteFault::CondRemoved { name, slot } => ArmFault::CondRemoved { name, slot },
+            SiteFault::CondUnset { name, slot } => ArmFault::CondUnset { name, slot },
+            SiteFault::NoMemory => ArmFault::NoMemory,
+        }
+    }
 }
 
 impl From<NoMemory> for ArmFault {

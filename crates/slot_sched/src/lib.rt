@@ -2,8 +2,8 @@
 //!
 //! A search looks at as many positions as one turn of a session. What it looks for is defined in `machine_core`, over the world
 //! that a table and a trace tell; `specs/Waiting.antt` has what this crate looks at instead, slot by slot.
-//! A breakpoint is armed in two steps, `prepare` and `Schedule::commit`; `Schedule::arm` is both. What `prepare` has in common with a watch is
-//! `sited`.
+//! A breakpoint is armed in two steps, `prepare` and `Schedule::commit`; `Schedule::arm` is both. What it has in common with a watch stands in
+//! `site_core`.
 #![tactic(auto)]
 
 mod arm;
@@ -18,9 +18,7 @@ mod spans;
 mod spot;
 mod stops;
 
-pub use arm::{Unarmed, prepare, sited};
-pub use armed::Trap;
+pub use arm::prepare;
 pub use fault::ArmFault;
 pub use laws::sample_is_searched;
-pub use sampled::{come_to, is_thread, sample_at};
 pub use schedule::Schedule;

@@ -12,17 +12,19 @@ ghost use Rattle.bv_core.specs.declared.Sample.{Sample};
 ghost use Rattle.trace_core.specs.Samples.{Samples};
 ghost use Rattle.slot_sched.specs.Armed.{breakpoints, AreOf};
 ghost use Rattle.machine_core.specs.Matching.{is_wanted};
-ghost use Rattle.slot_sched.specs.Waiting.{cycle_samples, IsSet, AreReady, any_stops, any_steps, slot_stops};
+ghost use Rattle.site_core.specs.Sampled.{cycle_samples, IsSet};
+ghost use Rattle.slot_sched.specs.Waiting.{AreReady, any_stops, any_steps, slot_stops};
 ghost use Rattle.slot_sched.specs.Spots.{IsSpot};
-ghost use Rattle.slot_sched.specs.Scan.{searched, scanned, total_of, position_stops, down_from};
+ghost use Rattle.slot_sched.specs.Scan.{searched, scanned, position_stops};
+ghost use Rattle.site_core.specs.Positions.{total_of, down_from};
 ghost use Rattle.symtab.specs.Lookups.{instances_of};
 
 use crate::armed::Armed;
-use crate::sampled::{is_thread, is_wanted};
 use crate::schedule::Schedule;
 use crate::spans::span_at;
 use crate::spot::Spot;
 use machine_core::{Found, place_of, told};
+use site_core::{is_thread, is_wanted};
 use symtab::Table;
 use trace_core::{Scanned, Trace, Want, Way};
 

@@ -6,7 +6,8 @@ ghost use Rattle.std.specs.Prelude.{◌≡◌, ℕ, ◌<◌, ◌≤◌, ◌-◌,
 ghost use Rattle.slot_sched.specs.Spans.{holds, covers, span_of, HasPlacesOf, IsVacantAhead, IsVacantBehind, TellGaps, are_covered, are_spanned, WaitBelow, AllWaitBelow};
 ghost use Rattle.slot_sched.specs.declared.armed.Armed.{Armed};
 
-use crate::armed::{Armed, Trap};
+use crate::armed::Armed;
+use site_core::Trap;
 use std::alloc::AllocError;
 
 /// The places of breakpoints from one up to another; no places where both are the same. And how many slots are known to have no places,

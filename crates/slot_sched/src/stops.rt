@@ -4,25 +4,25 @@
 ghost use Rattle.std.specs.Prelude.{◌≡◌, ◌==◌, All, filter};
 ghost use Rattle.std.specs.List.{list_any};
 ghost use Rattle.trace_world.specs.Fitting.{FitsTable};
-ghost use Rattle.slot_sched.specs.Waiting.{cycle_samples, IsSet, IsReady, IsArmedReady, trap_stops, armed_stops};
+ghost use Rattle.site_core.specs.Sampled.{cycle_samples, IsSet};
+ghost use Rattle.slot_sched.specs.Waiting.{IsReady, IsArmedReady, trap_stops, armed_stops};
 
-use crate::armed::{Armed, Trap};
-use crate::sampled::{is_thread, test_holds};
+use crate::armed::Armed;
+use crate::sampled::test_holds;
+use site_core::{Trap, is_thread};
 use symtab::Table;
 use trace_core::Trace;
 
-impl Trap {
-    /// Whether it waits at this slot, where its instance is a thread and its condition holds.
-    fn stops<T: Trace>(&self, table: &Table, trace: &T, slot: u32) -> bool
-        requires fits { FitsTable table.now (T.samples trace.now) }
-        requires set { IsSet (T.samples trace.now) (T.cursor trace.now) }
-        requires ready { IsReady table.now (T.samples trace.now) self.now }
-        ensures { result ≡ trap_stops table.now (cycle_samples (T.samples trace.now) (T.cursor trace.now)) slot self.now }
-    {
-        self.slot == slot
-            && is_thread(table, trace, self.slot, self.instance)
-            && test_holds(trace, &self.cond)
-    }
+/// Whether a breakpoint waits there at this slot, where its instance is a thread and its condition holds.
+fn trap_stops<T: Trace>(trap: &Trap, table: &Table, trace: &T, slot: u32) -> bool
+    requires fits { FitsTable table.now (T.samples trace.now) }
+    requires set { IsSet (T.samples trace.now) (T.cursor trace.now) }
+    requires ready { IsReady table.now (T.samples trace.now) trap.now }
+    ensures { result ≡ trap_stops table.now (cycle_samples (T.samples trace.now) (T.cursor trace.now)) slot trap.now }
+{
+    trap.slot == slot
+        && is_thread(table, trace, trap.slot, trap.instance)
+        && test_holds(trace, &trap.cond)
 }
 
 /// Whether one of these stops at this slot.
@@ -33,7 +33,7 @@ fn any_trap<T: Trace>(traps: &[Trap], table: &Table, trace: &T, slot: u32) -> bo
     ensures { result ≡ list_any (trap_stops table.now (cycle_samples (T.samples trace.now) (T.cursor trace.now)) slot) traps.now }
 {
     for trap in traps {
-        if trap.stops(table, trace, slot) {
+        if trap_stops(trap, table, trace, slot) {
             return true;
         }
     }

@@ -4,7 +4,7 @@ use Rattle.bv_core.specs.Value.{Bits}
 use Rattle.symtab.specs.declared.parts.TableParts.{TableParts}
 use Rattle.trace_core.specs.Samples.{Samples}
 use Rattle.machine_core.specs.Matching.{differ}
-use Rattle.slot_sched.specs.declared.armed.Trap.{Trap}
+use Rattle.site_core.specs.declared.trap.Trap.{Trap}
 use Rattle.watch.specs.Changing.{seen_by, trap_changes}
 
 -- behind the first cycle there is one before

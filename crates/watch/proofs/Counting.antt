@@ -3,18 +3,16 @@ use Rattle.std.proofs.Common.{◌≡◌, ℕ, zero, suc, ◌<◌, ◌/◌, ◌%�
 use Rattle.std.specs.Prelude.{slice_get}
 use Rattle.std.specs.List.{list_any}
 use Rattle.std.proofs.lemmas.List.{length-map}
-use Rattle.std.proofs.lemmas.Nat.{div_below}
 use Rattle.list_core.specs.Lists.{EachOf}
 use Rattle.symtab.specs.declared.parts.TableParts.{TableParts}
 use Rattle.trace_core.specs.Samples.{Samples}
 use Rattle.trace_world.specs.TraceWorld.{shows_by}
 use Rattle.machine_core.specs.Matching.{Watch, fits_watch, watches_at}
-use Rattle.slot_sched.specs.Scan.{total_of}
-use Rattle.slot_sched.proofs.Matches.{told, all_each}
+use Rattle.site_core.proofs.Told.{told, all_each}
 use Rattle.watch.specs.declared.watched.Watched.{Watched}
 use Rattle.watch.specs.Changing.{watch_stops}
 use Rattle.watch.specs.Watching.{watch_of, IsWatched, matching_at}
-use Rattle.watch.proofs.Matches.{one_is, some_slot}
+use Rattle.watch.proofs.Matches.{one_is}
 
 -- of those that pass a test, the one behind those that pass it before it
 pub nth_here : {A B : Type 0} (test : A → Bool) (f : A → B) (xs : List A) (k : ℕ) (x : A) → k < length xs → get_or xs k x ≡ x → test x ≡ true
@@ -62,9 +60,3 @@ module _ (parts : TableParts) (s : Samples) (list : List Watched) (own : All (Is
 pub at_is : (parts : TableParts) (s : Samples) (watches : List Watch) (p : ℕ)
     → watches_at (told parts s) (p / length parts.slots) (p % length parts.slots) watches ≡ matching_at (told parts s) watches p
 at_is parts s watches p = ap (λ n. watches_at (told parts s) (p / n) (p % n) watches) (sym (length-map parts.slots (shows_by parts)))
-
-pub some_slots : (parts : TableParts) (s : Samples) (p : ℕ) → p < total_of parts s → 0 < length parts.slots
-some_slots parts s p within = some_slot s.cycles (length parts.slots) p within
-
-pub cycle_inside : (parts : TableParts) (s : Samples) (p : ℕ) → p < total_of parts s → p / length parts.slots < s.cycles
-cycle_inside parts s p within = div_below p (length parts.slots) s.cycles (some_slots parts s p within) within

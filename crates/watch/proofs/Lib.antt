@@ -4,4 +4,3 @@ pub mod Matches
 pub mod Order
 pub mod Prepared
 pub mod Ready
-pub mod Searched

@@ -1,11 +1,10 @@
 -- A position has a watch that changed exactly where one matches, in the world that a table and a trace tell, as it is seen.
-use Rattle.std.proofs.Common.{◌≡◌, ℕ, zero, suc, ◌<◌, ◌*◌, ◌/◌, ◌%◌, ◌==◌, ◌&&◌, ◌||◌, Bool, true, false, List, [], ◌∷◌, length, map, filter, Option, Some, None, if◌then◌else◌, refl, sym, ap, ap₂, ◌∙◌, subst, arith, All, inl, inr, eqb-true}
+use Rattle.std.proofs.Common.{◌≡◌, ℕ, zero, suc, ◌<◌, ◌/◌, ◌%◌, ◌==◌, ◌&&◌, ◌||◌, Bool, true, false, List, [], ◌∷◌, length, map, Option, Some, None, if◌then◌else◌, refl, sym, ap, ap₂, ◌∙◌, subst, arith, All, inl, inr, eqb-true}
 use Rattle.std.specs.Prelude.{nat_eq}
 use Rattle.std.specs.List.{list_any}
 use Rattle.std.proofs.lemmas.Bool.{eq-eqb}
 use Rattle.std.proofs.lemmas.List.{length-map}
 use Rattle.std.proofs.lemmas.List.Elements.{All-weaker}
-use Rattle.std.proofs.lemmas.Nat.{div_below}
 use Rattle.bv_core.specs.Value.{Bits}
 use Rattle.bv_core.specs.declared.Sample.{Sample}
 use Rattle.list_core.specs.Lists.{IsIn}
@@ -20,23 +19,23 @@ use Rattle.trace_world.specs.TraceWorld as world
 use Rattle.trace_world.specs.TraceWorld.{shows_by}
 use Rattle.cond_lang.specs.declared.cond.Cond.{Cond}
 use Rattle.cond_lang.specs.declared.text.CondText.{CondText}
-use Rattle.cond_lang.specs.Bound.{EachNode, bound_value, ref_or_nought}
+use Rattle.cond_lang.specs.Bound.{bound_value}
 use Rattle.cond_lang.specs.Meaning as cond
-use Rattle.cond_lang.specs.Meaning.{tree_of}
-use Rattle.cond_lang.proofs.Nodes.{each_place}
 use Rattle.cond_lang.specs.TextShown.{text_expr, text_offsets}
 use Rattle.machine_core.specs.Matching.{value_there, differ, has_changed, fits_watch, is_wanted}
-use Rattle.slot_sched.specs.declared.armed.Trap.{Trap}
-use Rattle.slot_sched.specs.Armed.{trap_place, IsFittingAt, IsTrapOf}
-use Rattle.slot_sched.specs.Waiting.{is_thread, IsNodeOf}
-use Rattle.slot_sched.specs.Scan.{total_of}
-use Rattle.slot_sched.proofs.Any.{any_alike, any_in, any_each, any_mapped, any_filtered, any_joined, any_both, any_swapped, any_own}
-use Rattle.slot_sched.proofs.Matches.{told, all_each, number_told, threads_told, shown_told}
-use Rattle.slot_sched.proofs.Values.{bound_value_is, value_told, node_of}
+use Rattle.site_core.specs.declared.trap.Trap.{Trap}
+use Rattle.site_core.specs.Traps.{IsFittingAt, IsTrapOf}
+use Rattle.site_core.specs.Sampled.{is_thread}
+use Rattle.site_core.specs.Positions.{total_of}
+use Rattle.site_core.proofs.Any.{any_alike, any_in, any_each, any_mapped, any_filtered, any_both, any_swapped, any_own}
+use Rattle.site_core.proofs.Told.{told, all_each, number_told, threads_told, shown_told}
+use Rattle.site_core.proofs.Values.{bound_value_is, value_told, nodes_ready}
 use Rattle.watch.specs.declared.watched.Watched.{Watched}
 use Rattle.watch.proofs.Changes.{differ_none}
 use Rattle.watch.specs.Changing.{come_to, seen_by, trap_changes, watch_stops, position_changes, CanBeSeen, IsSeen, IsWatchReady, AreWatchReady}
 use Rattle.watch.specs.Watching.{watch_of, IsWatched, changes_at}
+use Rattle.site_core.proofs.Inside.{cycle_inside, slot_below}
+use Rattle.site_core.proofs.Waits.{any_trap}
 
 -- ---- lists and tests
 
@@ -161,26 +160,10 @@ module _ (parts : TableParts) (s : Samples) (k : ℕ) (below : k < length parts.
     abbrev wanted_changes : CondText → ℕ → ℕ → ℕ → Bool
     wanted_changes text named at i = is_wanted (Some named) i && own_changes parts s c text at i
 
-    abbrev place_changes : CondText → ℕ × ℕ → Bool
-    place_changes text p = (p.0 == k) && own_changes parts s c text p.0 p.1
-
-    in_slot : (text : CondText) (named at : ℕ)
-        → list_any (place_changes text) (map (λ i. (at, i)) (filter (is_wanted (Some named)) (instances_of parts at)))
-        ≡ ((at == k) && list_any (own_changes parts s c text at) (filter (is_wanted (Some named)) (instances_of parts at)))
-    in_slot text named at =
-        any_mapped (place_changes text) (λ i. (at, i)) (filter (is_wanted (Some named)) (instances_of parts at))
-        ∙ any_both (at == k) (own_changes parts s c text at) (filter (is_wanted (Some named)) (instances_of parts at))
-
     traps_are : (a : Watched) → IsWatched parts a → watch_stops parts s c k a ≡ (list_any (nat_eq k) a.slots.items && list_any (wanted_changes a.text a.instance k) (instances_of parts k))
     traps_are a h =
-        any_each (IsTrapOf false parts (Some a.text)) (λ (t : Trap). (t.slot == k) && trap_changes parts s c t) (λ t. place_changes a.text (trap_place t))
-        (λ t is. ap (λ b. (t.slot == k) && b) (trap_is parts s c a.text t is)) a.traps.items (all_each (IsTrapOf false parts (Some a.text)) a.traps.items h.each)
-        ∙ sym (any_mapped (place_changes a.text) trap_place a.traps.items)
-        ∙ ap (list_any (place_changes a.text)) h.places
-        ∙ any_joined (place_changes a.text) (λ at. map (λ i. (at, i)) (filter (is_wanted (Some a.instance)) (instances_of parts at))) a.slots.items
-        ∙ any_alike _ (λ at. (at == k) && list_any (own_changes parts s c a.text at) (filter (is_wanted (Some a.instance)) (instances_of parts at))) (in_slot a.text a.instance) a.slots.items
-        ∙ any_own k (λ at. list_any (own_changes parts s c a.text at) (filter (is_wanted (Some a.instance)) (instances_of parts at))) a.slots.items
-        ∙ ap (λ b. list_any (nat_eq k) a.slots.items && b) (any_filtered (own_changes parts s c a.text k) (is_wanted (Some a.instance)) (instances_of parts k))
+        any_trap parts (Some a.instance) k (own_changes parts s c a.text) false (Some a.text) (λ (t : Trap). (t.slot == k) && trap_changes parts s c t) a.slots.items a.traps.items h.places h.each
+        (λ t is. ap (λ b. (t.slot == k) && b) (trap_is parts s c a.text t is))
 
     watch_is : (a : Watched)
         → list_any (λ i. fits_watch (told parts s) c k i (watch_of a)) ((told parts s).threads c k)
@@ -211,29 +194,21 @@ module _ (parts : TableParts) (s : Samples) (k : ℕ) (below : k < length parts.
 
 -- ---- a position
 
-pub some_slot : (c n p : ℕ) → p < c * n → 0 < n
-some_slot c zero p h = absurd (grind (arith, h))
-some_slot c (suc n) p h = omega arith
-
 pub position_is : (parts : TableParts) (s : Samples) (list : List Watched) → All (IsWatched parts) list → (p : ℕ) → p < total_of parts s
     → position_changes parts s list p ≡ changes_at (told parts s) (map watch_of list) p
 position_is parts s list h p within =
-    let n = length parts.slots in
-    let some = some_slot s.cycles n p within in
-    slot_is parts s (p % length parts.slots) (let low : p % length parts.slots < length parts.slots = omega (arith, some) in low) (p / length parts.slots) (div_below p (length parts.slots) s.cycles some within) list h
+    slot_is parts s (p % length parts.slots) (slot_below s.cycles (length parts.slots) p within) (p / length parts.slots) (cycle_inside s.cycles (length parts.slots) p within) list h
     ∙ ap (λ n. list_any (λ i. list_any (fits_watch (told parts s) (p / n) (p % n) i) (map watch_of list) || false) ((told parts s).threads (p / n) (p % n))) (sym (length-map parts.slots (shows_by parts)))
 
 -- ---- watches of a table are ready over a trace that fits it
 
 module _ (parts : TableParts) (table : IsTable parts) (s : Samples) (fits : FitsTable parts s) where
-  nodes_ready : (k i : ℕ) (text : CondText) (c : Option Cond) → IsFittingAt false parts k i (Some text) c → CanBeSeen s c
-  nodes_ready k i text None h = absurd h
-  nodes_ready k i text (Some c) h =
-      subst (EachNode (IsNodeOf s)) (sym h.1)
-      (each_place (IsNodeOf s) (λ x. ref_or_nought (binding_of parts k i x)) (λ x. node_of parts table s fits k i x (binding_of parts k i x) refl) (tree_of (text_expr text)))
+  can_be_seen : (k i : ℕ) (text : CondText) (c : Option Cond) → IsFittingAt false parts k i (Some text) c → CanBeSeen s c
+  can_be_seen k i text None h = absurd h
+  can_be_seen k i text (Some c) h = nodes_ready parts table s fits false k i text c h
 
   trap_ready : (text : CondText) (t : Trap) → IsTrapOf false parts (Some text) t → IsSeen parts s t
-  trap_ready text t h = record { instance = h.instance; nodes = nodes_ready t.slot t.instance text t.cond h.bound }
+  trap_ready text t h = record { instance = h.instance; nodes = can_be_seen t.slot t.instance text t.cond h.bound }
 
   pub all_ready : (list : List Watched) → All (IsWatched parts) list → AreWatchReady parts s list
   all_ready list h = record {

@@ -6,9 +6,10 @@ use Rattle.machine_core.specs.declared.reply.Body.{Body}
 use Rattle.machine_core.specs.declared.reply.Body.TheVariants as body
 use Rattle.machine_core.specs.Matching.{Watch}
 use Rattle.machine_core.specs.Arming.{unless_refused, watch_limit}
-use Rattle.slot_sched.specs.declared.fault.ArmFault.{ArmFault}
-use Rattle.slot_sched.specs.Arm.{answer_for, IsRefusal, IsTold}
-use Rattle.slot_sched.specs.Armed.{traps_of, trap_place, IsTrapOf}
+use Rattle.site_core.specs.declared.fault.SiteFault.{SiteFault}
+use Rattle.site_core.specs.declared.fault.SiteFault.TheVariants as site
+use Rattle.site_core.specs.Sites.{IsRefusal, IsTold}
+use Rattle.site_core.specs.Traps.{traps_of, trap_place, IsTrapOf}
 use Rattle.watch.specs.declared.fault.WatchFault.{WatchFault}
 use Rattle.watch.specs.declared.fault.WatchFault.TheVariants as fault
 use Rattle.watch.specs.declared.list.Unwatched.{Unwatched}
@@ -24,13 +25,15 @@ watch_answer (fault.CondUnset name slot) = Some (body.CondUnset name slot)
 watch_answer (fault.TooManyWatches limit) = Some (body.TooManyWatches limit)
 watch_answer fault.NoMemory = None
 
--- a fault of what was found is told as it is; a limit is no fault of that
-abbrev pub told_so : Option Body → WatchFault → Type 0
-told_so (Some (body.TooMany limit)) told = Unit {0}
-told_so answer told = watch_answer told ≡ answer
-
-abbrev pub same_answer : ArmFault → WatchFault → Type 0
-same_answer fault told = told_so (answer_for fault) told
+-- a fault of what was to be found, as one of arming
+abbrev pub watch_fault : SiteFault → WatchFault
+watch_fault (site.NoSite line) = fault.NoSite line
+watch_fault (site.NoInstance instance) = fault.NoInstance instance
+watch_fault (site.BadCondAt offset) = fault.BadCondAt offset
+watch_fault (site.BadCondName name) = fault.BadCondName name
+watch_fault (site.CondRemoved name slot) = fault.CondRemoved name slot
+watch_fault (site.CondUnset name slot) = fault.CondUnset name slot
+watch_fault site.NoMemory = fault.NoMemory
 
 -- nothing is refused; or this is, unless memory ran out
 abbrev pub TellsNone : {X : Type 0} → Result X WatchFault → Option Body → Type 0

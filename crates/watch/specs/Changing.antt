@@ -10,8 +10,8 @@ use Rattle.cond_lang.specs.declared.cond.Cond.{Cond}
 use Rattle.cond_lang.specs.Bound.{EachNode, bound_value}
 use Rattle.cond_lang.specs.Shown.{cond_tree}
 use Rattle.machine_core.specs.Matching.{differ}
-use Rattle.slot_sched.specs.declared.armed.Trap.{Trap}
-use Rattle.slot_sched.specs.Waiting.{IsNodeOf, is_thread}
+use Rattle.site_core.specs.declared.trap.Trap.{Trap}
+use Rattle.site_core.specs.Sampled.{IsNodeOf, is_thread}
 use Rattle.watch.specs.declared.watched.Watched.{Watched}
 
 -- the value of an expression

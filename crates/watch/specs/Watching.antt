@@ -11,7 +11,7 @@ use Rattle.machine_core.specs.Positions.{position_count, cycle_at, slot_at}
 use Rattle.machine_core.specs.Matching.{Watch, watches_alone, matches, watches_at}
 use Rattle.machine_core.specs.Numbers.{AreRising}
 use Rattle.machine_core.specs.Search.{searched_for, told_of, place_of}
-use Rattle.slot_sched.specs.Armed.{traps_of, trap_place, IsTrapOf}
+use Rattle.site_core.specs.Traps.{traps_of, trap_place, IsTrapOf}
 use Rattle.watch.specs.declared.watched.Watched.{Watched}
 use Rattle.watch.specs.declared.watch_list.WatchList.{WatchList}
 

@@ -5,12 +5,12 @@ ghost use Rattle.std.specs.List.{list_any};
 ghost use Rattle.cond_lang.specs.Bound.{known};
 ghost use Rattle.trace_world.specs.Fitting.{FitsTable};
 ghost use Rattle.machine_core.specs.Matching.{differ};
-ghost use Rattle.slot_sched.specs.Waiting.{cycle_samples, IsSet};
+ghost use Rattle.site_core.specs.Sampled.{cycle_samples, IsSet};
 ghost use Rattle.watch.specs.Changing.{seen_by, trap_changes, watch_stops, IsSeen, IsWatchReady};
 
 use crate::watched::Watched;
 use bv_core::Sample;
-use slot_sched::{Trap, come_to, is_thread};
+use site_core::{Trap, come_to, is_thread};
 use symtab::Table;
 use trace_core::Trace;
 

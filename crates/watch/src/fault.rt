@@ -1,10 +1,10 @@
 //! Why a watch is not armed.
 
 ghost use Rattle.std.specs.Prelude.{◌≡◌};
-ghost use Rattle.watch.specs.Arm.{watch_answer, same_answer};
+ghost use Rattle.watch.specs.Arm.{watch_fault};
 ghost use Rattle.watch.specs.declared.fault.WatchFault.TheVariants as watch_faults;
 
-use slot_sched::ArmFault;
+use site_core::SiteFault;
 use std::alloc::{AllocError, AllocFailed};
 use text_core::{NoMemory, Text};
 
@@ -29,20 +29,18 @@ pub enum WatchFault {
     NoMemory,
 }
 
-impl WatchFault {
-    /// What was found to be wrong of a line, an instance or a text.
-    pub(crate) fn new(fault: ArmFault) -> WatchFault
-        ensures { same_answer fault result }
-    {
+impl From<SiteFault> for WatchFault {
+    ghost from_gives = { λ fault e. e ≡ watch_fault fault };
+
+    fn from(fault: SiteFault) -> Self {
         match fault {
-            ArmFault::NoSite { line } => WatchFault::NoSite { line },
-            ArmFault::NoInstance { instance } => WatchFault::NoInstance { instance },
-            ArmFault::BadCondAt { offset } => WatchFault::BadCondAt { offset },
-            ArmFault::BadCondName { name } => WatchFault::BadCondName { name },
-            ArmFault::CondRemoved { name, slot } => WatchFault::CondRemoved { name, slot },
-            ArmFault::CondUnset { name, slot } => WatchFault::CondUnset { name, slot },
-            ArmFault::TooMany { limit } => WatchFault::TooManyWatches { limit },
-            ArmFault::NoMemory => WatchFault::NoMemory,
+            SiteFault::NoSite { line } => WatchFault::NoSite { line },
+            SiteFault::NoInstance { instance } => WatchFault::NoInstance { instance },
+            SiteFault::BadCondAt { offset } => WatchFault::BadCondAt { offset },
+            SiteFault::BadCondName { name } => WatchFault::BadCondName { name },
+            SiteFault::CondRemoved { name, slot } => WatchFault::CondRemoved { name, slot },
+            SiteFault::CondUnset { name, slot } => WatchFault::CondUnset { name, slot },
+            SiteFault::NoMemory => WatchFault::NoMemory,
         }
     }
 }

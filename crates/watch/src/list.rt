@@ -17,7 +17,7 @@ use crate::fault::WatchFault;
 use crate::watch_list::WatchList;
 use crate::watched::Watched;
 use cond_lang::CondText;
-use slot_sched::{Trap, Unarmed, sited};
+use site_core::{Sited, Trap, sited_on};
 use std::alloc::Global;
 use symtab::Table;
 
@@ -42,7 +42,7 @@ impl Unwatched {
     }
 
     /// What was found for a path and a text that were given.
-    fn new(found: Unarmed) -> Unwatched
+    fn new(found: Sited) -> Unwatched
         requires instance { IsSome found.instance }
         requires text { IsSome found.text }
         ensures slots { result.slots.items ≡ found.slots.items }
@@ -71,10 +71,8 @@ pub fn prepare_watch(
     ensures told { (read : Reader) (s : Samples) (armed next : ℕ) → IsReader read → IsFor armed next result (watch_on read (seen (trace_world table.now s)) armed next line path.now text.now) }
     ensures armable { IfOk result (IsArmable table.now) }
 {
-    match sited(alloc, table, line, Some(path), Some(text), false) {
-        Ok(found) => Ok(Unwatched::new(found)),
-        Err(fault) => Err(WatchFault::new(fault)),
-    }
+    let found = sited_on(alloc, table, line, Some(path), Some(text), false)?;
+    Ok(Unwatched::new(found))
 }
 
 impl WatchList {

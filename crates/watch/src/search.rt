@@ -7,7 +7,7 @@ ghost use Rattle.trace_world.specs.TraceWorld.{trace_world};
 ghost use Rattle.trace_world.specs.Fitting.{FitsTable};
 ghost use Rattle.machine_core.specs.Matching.{watches_at};
 ghost use Rattle.machine_core.specs.Search.{place_of};
-ghost use Rattle.slot_sched.specs.Scan.{total_of, down_from};
+ghost use Rattle.site_core.specs.Positions.{total_of, down_from};
 ghost use Rattle.watch.specs.Changing.{watch_stops, position_changes, AreWatchReady};
 ghost use Rattle.watch.specs.Watching.{watches, searched, scanned, matching_at, AreOf};
 

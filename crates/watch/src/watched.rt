@@ -1,7 +1,7 @@
 //! An armed watch. It has a file of its own, as what is kept in its type stands on few definitions.
 
 use cond_lang::CondText;
-use slot_sched::Trap;
+use site_core::Trap;
 
 /// An armed watch: its number, its slots, its instance, the text of its expression, and where it waits, slot after slot.
 #[derive(Drop)]

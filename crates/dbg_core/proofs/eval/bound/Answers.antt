@@ -6,7 +6,7 @@ use Rattle.cond_lang.specs.Meaning.{tree_of, leaves}
 use Rattle.cond_lang.specs.Shown.{cond_tree, cond_width}
 use Rattle.cond_lang.specs.TextShown.{text_expr, text_offsets}
 use Rattle.cond_lang.proofs.Ascii.{finds_each}
-use Rattle.slot_sched.specs.Waiting.{cycle_samples}
+use Rattle.site_core.specs.Sampled.{cycle_samples}
 use Rattle.dbg_core.proofs.Evals.{nodes_own, bound_body, unbound_body}
 use Rattle.dbg_core.proofs.eval.bound.Goals as goal
 

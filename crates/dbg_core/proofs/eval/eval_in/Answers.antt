@@ -3,8 +3,8 @@ use Rattle.std.specs.Prelude.{IfOk}
 use Rattle.cond_lang.specs.Faults.{IsCause}
 use Rattle.cond_lang.specs.Reading.{Reads}
 use Rattle.cond_lang.specs.TextShown.{text_expr, text_offsets}
-use Rattle.slot_sched.specs.Waiting.{cycle_samples}
-use Rattle.slot_sched.proofs.Readings.{read_once}
+use Rattle.site_core.specs.Sampled.{cycle_samples}
+use Rattle.site_core.proofs.Readings.{read_once}
 use Rattle.dbg_core.specs.Eval.{table_body}
 use Rattle.dbg_core.proofs.Evals.{unread_body}
 use Rattle.dbg_core.proofs.eval.eval_in.Goals as goal

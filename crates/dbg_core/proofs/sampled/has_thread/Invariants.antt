@@ -1,7 +1,8 @@
 use Rattle.std.proofs.Common.{◌≡◌, false, Some, take}
 use Rattle.std.specs.List.{list_any}
 use Rattle.symtab.specs.Lookups.{instances_of}
-use Rattle.slot_sched.specs.Waiting.{cycle_samples, step_stops}
+use Rattle.site_core.specs.Sampled.{cycle_samples}
+use Rattle.slot_sched.specs.Waiting.{step_stops}
 use Rattle.dbg_core.proofs.sampled.has_thread.Given as goal
 
 abbrev pub invariant-loop-other : goal.invariant-loop-other

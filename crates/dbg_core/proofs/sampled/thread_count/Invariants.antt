@@ -1,6 +1,6 @@
 use Rattle.std.proofs.Common.{◌≡◌, ◌≤◌, length, filter, take}
 use Rattle.symtab.specs.Lookups.{instances_of}
-use Rattle.slot_sched.specs.Waiting.{cycle_samples, is_thread}
+use Rattle.site_core.specs.Sampled.{cycle_samples, is_thread}
 use Rattle.dbg_core.proofs.sampled.thread_count.Given as goal
 
 abbrev pub invariant-loop-instance : goal.invariant-loop-instance

@@ -1,5 +1,5 @@
 use Rattle.std.proofs.Common.{◌≡◌, ◌++◌, drop}
-use Rattle.slot_sched.specs.Waiting.{cycle_samples}
+use Rattle.site_core.specs.Sampled.{cycle_samples}
 use Rattle.dbg_core.specs.Shown.{cells_shown}
 use Rattle.dbg_core.proofs.sampled.values_of.Given as goal
 

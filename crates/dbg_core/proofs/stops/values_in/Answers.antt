@@ -1,6 +1,6 @@
 use Rattle.std.proofs.Common.{◌≡◌, length, ap, ◌∙◌, subst}
 use Rattle.std.specs.Prelude.{IfOk}
-use Rattle.slot_sched.specs.Waiting.{cycle_samples}
+use Rattle.site_core.specs.Sampled.{cycle_samples}
 use Rattle.dbg_core.specs.Shown.{cells_shown}
 use Rattle.dbg_core.proofs.Cells.{cells_long, cells_told, cells_among}
 use Rattle.dbg_core.proofs.stops.values_in.Goals as goal

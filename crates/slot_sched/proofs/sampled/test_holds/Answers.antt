@@ -2,7 +2,8 @@ use Rattle.std.proofs.Common.{rules, ap, sym, ◌∙◌}
 use Rattle.cond_lang.specs.Bound.{bound_value}
 use Rattle.cond_lang.specs.Shown.{cond_tree}
 use Rattle.cond_lang.proofs.Nodes.{each_always}
-use Rattle.slot_sched.specs.Waiting.{cycle_samples, is_true, test_holds}
+use Rattle.site_core.specs.Sampled.{cycle_samples}
+use Rattle.slot_sched.specs.Waiting.{is_true, test_holds}
 use Rattle.slot_sched.proofs.Tests.{each_asked, each_wide, test_told, true_is}
 use Rattle.slot_sched.proofs.sampled.test_holds.Goals as goal
 

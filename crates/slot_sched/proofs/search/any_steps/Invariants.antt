@@ -1,7 +1,8 @@
 use Rattle.std.proofs.Common.{◌≡◌, false, take}
 use Rattle.std.specs.List.{list_any}
 use Rattle.symtab.specs.Lookups.{instances_of}
-use Rattle.slot_sched.specs.Waiting.{cycle_samples, step_stops}
+use Rattle.site_core.specs.Sampled.{cycle_samples}
+use Rattle.slot_sched.specs.Waiting.{step_stops}
 use Rattle.slot_sched.proofs.search.any_steps.Given as goal
 
 abbrev pub invariant-loop-instance : goal.invariant-loop-instance

@@ -1,6 +1,7 @@
 use Rattle.std.proofs.Common.{◌≡◌, false, take}
 use Rattle.std.specs.List.{list_any}
-use Rattle.slot_sched.specs.Waiting.{cycle_samples, armed_stops}
+use Rattle.site_core.specs.Sampled.{cycle_samples}
+use Rattle.slot_sched.specs.Waiting.{armed_stops}
 use Rattle.slot_sched.proofs.search.any_stops.Given as goal
 
 abbrev pub invariant-loop-one : goal.invariant-loop-one

@@ -1,5 +1,5 @@
 use Rattle.std.proofs.Common.{subst, true, ◌≡◌, ◌-◌, List, length}
-use Rattle.slot_sched.specs.declared.armed.Trap.{Trap}
+use Rattle.site_core.specs.declared.trap.Trap.{Trap}
 use Rattle.slot_sched.specs.Spans.{are_covered}
 use Rattle.slot_sched.proofs.Spanning.{spanned_last}
 use Rattle.slot_sched.proofs.spans.put_last.Goals as goal

@@ -1,6 +1,7 @@
 use Rattle.std.proofs.Common.{◌≡◌, false, take}
 use Rattle.std.specs.List.{list_any}
-use Rattle.slot_sched.specs.Waiting.{cycle_samples, trap_stops}
+use Rattle.site_core.specs.Sampled.{cycle_samples}
+use Rattle.slot_sched.specs.Waiting.{trap_stops}
 use Rattle.slot_sched.proofs.stops.any_trap.Given as goal
 
 abbrev pub invariant-loop-trap : goal.invariant-loop-trap

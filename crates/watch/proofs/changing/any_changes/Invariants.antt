@@ -1,6 +1,6 @@
 use Rattle.std.proofs.Common.{◌≡◌, ◌==◌, ◌&&◌, false, take}
 use Rattle.std.specs.List.{list_any}
-use Rattle.slot_sched.specs.declared.armed.Trap.{Trap}
+use Rattle.site_core.specs.declared.trap.Trap.{Trap}
 use Rattle.watch.specs.Changing.{trap_changes}
 use Rattle.watch.proofs.changing.any_changes.Given as goal
 

@@ -4,7 +4,7 @@ use Rattle.trace_world.specs.Fitting.{FitsTable}
 use Rattle.machine_core.specs.Search.{nearer_found}
 use Rattle.machine_core.specs.Laws.{found_by}
 use Rattle.slot_sched.specs.Armed.{breakpoints}
-use Rattle.slot_sched.specs.Scan.{total_of}
+use Rattle.site_core.specs.Positions.{total_of}
 use Rattle.slot_sched.specs.Scan as sched
 use Rattle.watch.specs.Watching as watching
 use Rattle.dbg_core.specs.World.{world_of}

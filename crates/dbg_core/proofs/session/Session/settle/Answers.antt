@@ -2,7 +2,7 @@ use Rattle.std.proofs.Common.{◌≡◌, ◌≤◌, map, option_map, sym, ◌∙
 use Rattle.machine_core.specs.declared.turn.Turned.TheVariants as turned
 use Rattle.machine_core.specs.Positions.{end_place}
 use Rattle.machine_core.specs.Machine.{turn_of}
-use Rattle.slot_sched.specs.Scan.{total_of}
+use Rattle.site_core.specs.Positions.{total_of}
 use Rattle.dbg_core.specs.World.{world_of}
 use Rattle.dbg_core.specs.State.{machine_of}
 use Rattle.dbg_core.proofs.Positions.{count_told}

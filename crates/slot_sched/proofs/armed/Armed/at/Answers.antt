@@ -2,8 +2,8 @@ use Rattle.std.proofs.Common.{◌-◌, take, drop, length, nat_le, nat_lt, sym, 
 use Rattle.std.specs.List.Sorted.{IsNonDecreasingBy}
 use Rattle.std.proofs.lemmas.List.{take_rest}
 use Rattle.std.proofs.lemmas.List.Sorted.{IsNonDecreasingBy-take, IsNonDecreasingBy-drop, IsPartitionedBy-ltb, IsPartitionedBy-leb, IsPartitionPoint-from_clause}
-use Rattle.slot_sched.specs.declared.armed.Trap.{Trap}
-use Rattle.slot_sched.proofs.Rising.{one_piece}
+use Rattle.site_core.specs.declared.trap.Trap.{Trap}
+use Rattle.slot_sched.proofs.Pieces.{one_piece}
 use Rattle.slot_sched.proofs.armed.Armed.at.Goals as goal
 
 pub returns : goal.returns

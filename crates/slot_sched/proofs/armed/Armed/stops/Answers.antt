@@ -1,9 +1,10 @@
 use Rattle.std.proofs.Common.{◌==◌, ◌∙◌, List, All, ap, sym, subst}
 use Rattle.std.specs.List.{list_any}
 use Rattle.std.proofs.lemmas.List.Elements.{All-filter}
-use Rattle.slot_sched.specs.declared.armed.Trap.{Trap}
-use Rattle.slot_sched.specs.Waiting.{cycle_samples, IsReady, trap_stops}
-use Rattle.slot_sched.proofs.Rising.{stops_there}
+use Rattle.site_core.specs.declared.trap.Trap.{Trap}
+use Rattle.site_core.specs.Sampled.{cycle_samples}
+use Rattle.slot_sched.specs.Waiting.{IsReady, trap_stops}
+use Rattle.slot_sched.proofs.Pieces.{stops_there}
 use Rattle.slot_sched.proofs.armed.Armed.stops.Goals as goal
 
 pub any_trap-requires-clause-ready : goal.any_trap-requires-clause-ready

@@ -1,8 +1,9 @@
 use Rattle.std.proofs.Common.{◌≡◌, ℕ, ◌+◌, ◌-◌, ◌<◌, ◌≤◌, true, false, find, sym, ap, ◌∙◌, subst, arith}
 use Rattle.trace_core.specs.Samples.{Samples}
 use Rattle.slot_sched.specs.Spots.{IsSpot}
-use Rattle.slot_sched.specs.Scan.{position_stops, down_from}
-use Rattle.slot_sched.proofs.Nearest.{down_here, down_over}
+use Rattle.slot_sched.specs.Scan.{position_stops}
+use Rattle.site_core.specs.Positions.{down_from}
+use Rattle.site_core.proofs.Nearest.{down_here, down_over}
 use Rattle.slot_sched.proofs.schedule.Schedule.backward.Goals as goal
 
 pub returns-then-passed-eq0-clause-value : goal.returns-then-passed-eq0-clause-value

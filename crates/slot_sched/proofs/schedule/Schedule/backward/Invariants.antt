@@ -1,7 +1,8 @@
 use Rattle.std.proofs.Common.{◌≡◌, ◌-◌, ◌≤◌, Some, find, length}
 use Rattle.std.specs.Prelude.{IfSome}
 use Rattle.slot_sched.specs.Spots.{IsSpot}
-use Rattle.slot_sched.specs.Scan.{position_stops, down_from}
+use Rattle.slot_sched.specs.Scan.{position_stops}
+use Rattle.site_core.specs.Positions.{down_from}
 use Rattle.slot_sched.proofs.schedule.Schedule.backward.Given as goal
 
 abbrev pub invariant-loop-spot : goal.invariant-loop-spot

@@ -7,7 +7,7 @@ use Rattle.slot_sched.specs.declared.armed.Armed.{Armed}
 use Rattle.slot_sched.specs.Armed.{breakpoint_of, breakpoints, IsArmed}
 use Rattle.machine_core.specs.Numbers.{AreRising}
 use Rattle.machine_core.proofs.Numbers.{rising_kept}
-use Rattle.slot_sched.proofs.Any.{any_mapped}
+use Rattle.site_core.proofs.Any.{any_mapped}
 use Rattle.slot_sched.proofs.Order.{others, others_mapped, all_others}
 use Rattle.slot_sched.proofs.Spanning.{within_filtered}
 use Rattle.slot_sched.proofs.schedule.Schedule.disarm.Goals as goal

@@ -3,7 +3,7 @@ use Rattle.list_core.specs.Lists.{from}
 use Rattle.trace_core.specs.Samples.{Samples}
 use Rattle.slot_sched.specs.Spots.{IsSpot}
 use Rattle.slot_sched.specs.Scan.{position_stops}
-use Rattle.slot_sched.proofs.Nearest.{up_here, up_over}
+use Rattle.site_core.proofs.Nearest.{up_here, up_over}
 use Rattle.slot_sched.proofs.schedule.Schedule.forward.Goals as goal
 
 pub returns-then-passed-eq0-clause-value : goal.returns-then-passed-eq0-clause-value

@@ -4,7 +4,8 @@ use Rattle.symtab.specs.Lookups.{instances_of}
 use Rattle.machine_core.specs.Matching.{is_wanted}
 use Rattle.slot_sched.specs.declared.spans.Span.{Span}
 use Rattle.slot_sched.specs.Spans.{span_of}
-use Rattle.slot_sched.specs.Waiting.{is_thread, slot_stops}
+use Rattle.site_core.specs.Sampled.{is_thread}
+use Rattle.slot_sched.specs.Waiting.{slot_stops}
 use Rattle.slot_sched.proofs.Gaps.{passed_behind}
 use Rattle.slot_sched.proofs.Spanning.{none_offered, vacant_stops}
 use Rattle.slot_sched.proofs.schedule.Schedule.passed_down.Goals as goal

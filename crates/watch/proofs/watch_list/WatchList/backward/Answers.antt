@@ -1,7 +1,7 @@
 use Rattle.std.proofs.Common.{◌≡◌, ◌-◌, ◌+◌, ◌≤◌, true, false, find, sym, ap, ◌∙◌, subst, arith}
 use Rattle.trace_core.specs.Samples.{Samples}
-use Rattle.slot_sched.specs.Scan.{down_from}
-use Rattle.slot_sched.proofs.Nearest.{down_here, down_past}
+use Rattle.site_core.specs.Positions.{down_from}
+use Rattle.site_core.proofs.Nearest.{down_here, down_past}
 use Rattle.watch.specs.Changing.{position_changes}
 use Rattle.watch.proofs.watch_list.WatchList.backward.Goals as goal
 

@@ -1,5 +1,5 @@
 use Rattle.std.proofs.Common.{◌≡◌, ◌-◌, ◌≤◌, find}
-use Rattle.slot_sched.specs.Scan.{down_from}
+use Rattle.site_core.specs.Positions.{down_from}
 use Rattle.watch.specs.Changing.{position_changes}
 use Rattle.watch.proofs.watch_list.WatchList.backward.Given as goal
 

@@ -5,7 +5,7 @@ use Rattle.machine_core.specs.Matching.{Watch}
 use Rattle.machine_core.specs.Machine.{is_watch}
 use Rattle.machine_core.specs.Numbers.{AreRising}
 use Rattle.machine_core.proofs.Numbers.{rising_filtered}
-use Rattle.slot_sched.proofs.Any.{any_mapped}
+use Rattle.site_core.proofs.Any.{any_mapped}
 use Rattle.watch.specs.declared.watched.Watched.{Watched}
 use Rattle.watch.specs.Watching.{watch_of, watches, IsWatched}
 use Rattle.watch.proofs.Order.{others, others_mapped, all_others}

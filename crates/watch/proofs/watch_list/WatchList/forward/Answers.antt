@@ -1,6 +1,6 @@
 use Rattle.std.proofs.Common.{◌≡◌, true, false, sym, ◌∙◌, subst}
 use Rattle.trace_core.specs.Samples.{Samples}
-use Rattle.slot_sched.proofs.Nearest.{up_here, up_past}
+use Rattle.site_core.proofs.Nearest.{up_here, up_past}
 use Rattle.watch.specs.Changing.{position_changes}
 use Rattle.watch.proofs.watch_list.WatchList.forward.Goals as goal
 

@@ -2,7 +2,7 @@ use Rattle.std.proofs.Common.{rules, ◌≡◌, ◌-◌, ◌<◌, List, length, 
 use Rattle.std.specs.Prelude.{slice_get}
 use Rattle.machine_core.specs.Matching.{Watch, watches_at}
 use Rattle.machine_core.specs.Search.{place_of}
-use Rattle.slot_sched.proofs.Matches.{told}
+use Rattle.site_core.proofs.Told.{told}
 use Rattle.watch.specs.Watching.{watches, matching_at}
 use Rattle.watch.proofs.Counting.{at_is}
 use Rattle.watch.proofs.watch_list.WatchList.nth_matching.Goals as goal

@@ -3,7 +3,7 @@ use Rattle.std.specs.Prelude.{slice_get}
 use Rattle.std.proofs.lemmas.List.{take_all}
 use Rattle.trace_core.specs.Samples.{Samples}
 use Rattle.machine_core.specs.Matching.{Watch, watches_at}
-use Rattle.slot_sched.proofs.Matches.{told}
+use Rattle.site_core.proofs.Told.{told}
 use Rattle.watch.specs.declared.watched.Watched.{Watched}
 use Rattle.watch.specs.Changing.{watch_stops}
 use Rattle.watch.specs.Watching.{watches}

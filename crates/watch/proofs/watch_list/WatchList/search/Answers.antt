@@ -3,12 +3,12 @@ use Rattle.std.proofs.lemmas.List.{length-map}
 use Rattle.trace_core.specs.declared.scan.Way.TheVariants.{Forward, Backward}
 use Rattle.trace_world.specs.TraceWorld.{shows_by}
 use Rattle.machine_core.specs.Search.{searched_for}
-use Rattle.slot_sched.specs.Scan.{total_of}
-use Rattle.slot_sched.proofs.Matches.{told}
+use Rattle.site_core.specs.Positions.{total_of}
+use Rattle.site_core.proofs.Told.{told}
 use Rattle.watch.specs.Changing.{position_changes}
 use Rattle.watch.specs.Watching.{watch_of, watches, changes_at, searched}
 use Rattle.watch.proofs.Matches.{position_is, all_ready}
-use Rattle.watch.proofs.Searched.{forward_is, backward_is}
+use Rattle.site_core.proofs.Searched.{forward_is, backward_is}
 use Rattle.watch.proofs.watch_list.WatchList.search.Goals as goal
 
 pub forward-nearest-requires-clause-ready : goal.forward-nearest-requires-clause-ready

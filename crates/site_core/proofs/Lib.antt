@@ -1,0 +1,14 @@
+pub mod Any
+pub mod Firsts
+pub mod Found
+pub mod Inside
+pub mod Nearest
+pub mod Nodes
+pub mod Readings
+pub mod Rising
+pub mod Scopes
+pub mod Searched
+pub mod Sites
+pub mod Told
+pub mod Values
+pub mod Waits

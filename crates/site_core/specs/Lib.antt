@@ -1,0 +1,4 @@
+pub mod Traps
+pub mod Sites
+pub mod Sampled
+pub mod Positions

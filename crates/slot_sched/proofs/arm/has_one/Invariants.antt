@@ -1,7 +1,0 @@
-use Rattle.std.proofs.Common.{◌≡◌, false, take}
-use Rattle.std.specs.List.{list_any}
-use Rattle.slot_sched.specs.Arm.{has_slot}
-use Rattle.slot_sched.proofs.arm.has_one.Given as goal
-
-abbrev pub invariant-loop-slot : goal.invariant-loop-slot
-invariant-loop-slot l = list_any (has_slot l.table l.instance) (take l.slot-index l.slots) ≡ false

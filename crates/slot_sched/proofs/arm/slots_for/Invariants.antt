@@ -1,6 +1,0 @@
-use Rattle.std.proofs.Common.{◌≡◌, filter, take}
-use Rattle.slot_sched.specs.Arm.{named_has}
-use Rattle.slot_sched.proofs.arm.slots_for.Given as goal
-
-abbrev pub invariant-loop-slot : goal.invariant-loop-slot
-invariant-loop-slot l = l.kept.items ≡ filter (named_has l.table l.named) (take l.slot-index l.slots)

@@ -1,6 +1,0 @@
-use Rattle.std.proofs.Common.{take}
-use Rattle.slot_sched.proofs.Prepared.{ArmedUpTo}
-use Rattle.slot_sched.proofs.arm.traps_at.Given as goal
-
-abbrev pub invariant-loop-spot : goal.invariant-loop-spot
-invariant-loop-spot l = ArmedUpTo l.bit l.table l.text (take l.spot-index l.spots) l.traps.items
