@@ -1,4 +1,4 @@
-//! Tests of the framer of an editor's conversation.
+//! Tests of an editor's conversation: its framer, and its texts.
 //!
 //! They stand apart from the crate that they test, since a crate with tests is proved twice: with them and without. What is taken off each
 //! input is written out.
@@ -6,3 +6,5 @@
 
 #[cfg(test)]
 mod frames;
+#[cfg(test)]
+mod texts;

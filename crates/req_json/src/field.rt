@@ -7,6 +7,7 @@ ghost use Rattle.symtab_json.specs.Entries.{told_count};
 ghost use Rattle.req_json.specs.declared.field.FieldFault.TheVariants.{NoMemory};
 ghost use Rattle.req_json.specs.Fields.{field_key, file_number, IsWrong, optional, optional_text, required_below, required_text, under, required_count, required_place};
 
+use crate::under::{count_under, optional_text_under, text_under};
 use machine_core::Utf8;
 use places::{FILES_MAX, place};
 use serde_json::Value;
@@ -76,10 +77,7 @@ pub(crate) fn required_count(value: &Value, field: FieldName) -> Result<u64, Fie
     ensures ok { IfOk result (λ number. required_count field (view value.now) ≡ Ok number) }
     ensures err { IfErr result (IsWrong (required_count field (view value.now))) }
 {
-    value
-        .get(field.text())
-        .and_then(Value::as_u64)
-        .ok_or(FieldFault::Wrong(field))
+    count_under(value, field.text()).ok_or(FieldFault::Wrong(field))
 }
 
 /// A whole number below a bound that must be there.
@@ -88,7 +86,7 @@ fn required_below(value: &Value, most: u64, field: FieldName) -> Result<u64, Fie
     ensures err { IfErr result (IsWrong (required_below most field (view value.now))) }
     ensures below { IfOk result (λ number. number < most) }
 {
-    match value.get(field.text()).and_then(Value::as_u64) {
+    match count_under(value, field.text()) {
         Some(number) if number < most => Ok(number),
         _ => Err(FieldFault::Wrong(field)),
     }
@@ -142,7 +140,7 @@ pub(crate) fn required_text(
     ensures ok { IfOk result (λ text. required_text field (view value.now) ≡ Ok text) }
     ensures err { IfErr result (IsWrong (required_text field (view value.now))) }
 {
-    match value.get(field.text()).and_then(Value::as_str) {
+    match text_under(value, field.text()) {
         Some(found) => Ok(Utf8::new(String::from_str(alloc, found)?)),
         None => Err(FieldFault::Wrong(field)),
     }
@@ -157,16 +155,9 @@ pub(crate) fn optional_text(
     ensures ok { IfOk result (λ text. optional_text field (view value.now) ≡ Ok text) }
     ensures err { IfErr result (IsWrong (optional_text field (view value.now))) }
 {
-    match value.get(field.text()) {
-        None => Ok(None),
-        Some(found) => {
-            if found.is_null() {
-                return Ok(None);
-            }
-            match found.as_str() {
-                Some(text) => Ok(Some(Utf8::new(String::from_str(alloc, text)?))),
-                None => Err(FieldFault::Wrong(field)),
-            }
-        }
+    match optional_text_under(alloc, value, field.text()) {
+        Ok(Some(text)) => Ok(text),
+        Ok(None) => Err(FieldFault::Wrong(field)),
+        Err(_) => Err(FieldFault::NoMemory),
     }
 }

@@ -67,7 +67,7 @@ impl Model for Object {
 
 impl Object {
     /// One with no members. Takes no memory.
-    pub(crate) fn new(alloc: Global) -> Object
+    pub fn new(alloc: Global) -> Object
         ensures { result ≡ [] }
     {
         Object {
@@ -76,12 +76,7 @@ impl Object {
     }
 
     /// Puts a member in.
-    pub(crate) fn put<T: Compact>(
-        &mut self,
-        alloc: Global,
-        key: &str,
-        value: &T,
-    ) -> Result<(), NoMemory>
+    pub fn put<T: Compact>(&mut self, alloc: Global, key: &str, value: &T) -> Result<(), NoMemory>
         ensures { OnOk result (self.new ≡ put_text key.now (compact_text (T.tree value.now)) self.old) }
     {
         let mut text = Vec::new(alloc);
@@ -90,7 +85,7 @@ impl Object {
     }
 
     /// Puts a member in whose value is a word.
-    pub(crate) fn put_word(&mut self, alloc: Global, key: &str, word: &str) -> Result<(), NoMemory>
+    pub fn put_word(&mut self, alloc: Global, key: &str, word: &str) -> Result<(), NoMemory>
         ensures { OnOk result (self.new ≡ put_text key.now (compact_text (string word.now)) self.old) }
     {
         let mut text = Vec::new(alloc);
@@ -112,8 +107,15 @@ impl Object {
         self.put(alloc, "file", &file)
     }
 
+    /// Puts a member in whose value is written already, as compact JSON.
+    pub fn put_written(&mut self, alloc: Global, key: &str, value: Vec<u8>) -> Result<(), NoMemory>
+        ensures { OnOk result (self.new ≡ put_text key.now value.items self.old) }
+    {
+        put_member(alloc, &mut self.members, key, Listed::new(value))
+    }
+
     /// Adds its compact JSON.
-    pub(crate) fn push_to(&self, text: &mut Vec<u8>) -> Result<(), NoMemory>
+    pub fn push_to(&self, text: &mut Vec<u8>) -> Result<(), NoMemory>
         ensures { OnOk result (text.new.items ≡ text.old.items ++ object_text self.now) }
     {
         text.push(b'{')?;
@@ -122,11 +124,7 @@ impl Object {
 }
 
 /// An object of one member.
-pub(crate) fn object_of_one<T: Compact>(
-    alloc: Global,
-    key: &str,
-    value: &T,
-) -> Result<Object, NoMemory>
+pub fn object_of_one<T: Compact>(alloc: Global, key: &str, value: &T) -> Result<Object, NoMemory>
     ensures { IfOk result (λ object. object ≡ put_text key.now (compact_text (T.tree value.now)) []) }
 {
     let mut object = Object::new(alloc);
@@ -135,7 +133,7 @@ pub(crate) fn object_of_one<T: Compact>(
 }
 
 /// An object of two members.
-pub(crate) fn object_of_two<A: Compact, B: Compact>(
+pub fn object_of_two<A: Compact, B: Compact>(
     alloc: Global,
     key: &str,
     value: &A,

@@ -10,8 +10,8 @@ use machine_core::{At, Body, Going, Reply};
 use std::alloc::Global;
 use text_core::{Listed, NoMemory, Text};
 
-/// The code and the name of a refusal; None of what was accepted.
-fn body_refusal(body: &Body) -> Option<(u8, &'static str)>
+/// The code and the name of a refusal; None of what was accepted. Takes no memory.
+pub fn body_refusal(body: &Body) -> Option<(u8, &'static str)>
     ensures { option_map (λ refusal. (refusal.0, refusal.1.now)) result ≡ body_refusal body.now }
 {
     match body {

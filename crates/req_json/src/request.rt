@@ -1,12 +1,12 @@
 //! Reads a request.
 
-ghost use Rattle.std.specs.Prelude.{◌≡◌, IfOk, Some, None, option_map};
+ghost use Rattle.std.specs.Prelude.{◌≡◌, IfOk, Some, None};
 ghost use Rattle.serde_json.specs.View.{view};
-ghost use Rattle.symtab_json.specs.Told.{json_of};
 ghost use Rattle.req_json.specs.Asked.{IsAsked, asked, asked_row, asked_tree, bad_text, bad_shape, row_in};
 
 use crate::cmd_row::row_in;
 use crate::field::{FieldFault, FieldName, optional_whole};
+use crate::under::{json_of, text_under};
 use machine_core::{Asked, BadText, Request, Utf8};
 use serde_json::Value;
 use std::alloc::Global;
@@ -60,25 +60,9 @@ fn asked_tree(alloc: Global, value: &Value) -> Result<Asked, NoMemory>
     let Some(id) = optional_whole(value, FieldName::Id) else {
         return bad_shape(alloc, None, FieldName::Id);
     };
-    match value.get(FieldName::Cmd.text()).and_then(Value::as_str) {
+    match text_under(value, FieldName::Cmd.text()) {
         Some(word) => asked_word(alloc, id, value, word),
         None => bad_shape(alloc, id, FieldName::Cmd),
-    }
-}
-
-/// The JSON value of a text. None where it is none.
-fn json_of(alloc: Global, text: &[u8]) -> Result<Option<Value>, NoMemory>
-    ensures { IfOk result (λ value. option_map view value ≡ json_of text.now) }
-{
-    match Value::from_slice(alloc, text) {
-        Ok(value) => Ok(Some(value)),
-        Err(e) => {
-            if e.is_memory() {
-                Err(NoMemory)
-            } else {
-                Ok(None)
-            }
-        }
     }
 }
 

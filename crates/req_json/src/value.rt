@@ -41,7 +41,7 @@ fn push_count(text: &mut Vec<u8>, number: u64) -> Result<(), NoMemory>
 }
 
 /// Adds a comma, unless this is the first.
-pub(crate) fn push_comma(text: &mut Vec<u8>, later: bool) -> Result<(), NoMemory>
+pub fn push_comma(text: &mut Vec<u8>, later: bool) -> Result<(), NoMemory>
     ensures { OnOk result (text.new.items ≡ text.old.items ++ comma_if later) }
 {
     if later {

@@ -1,6 +1,6 @@
 use Rattle.std.proofs.Common.{rules}
 use Rattle.req_json.proofs.Utf8.{json_found, json_none}
-use Rattle.req_json.proofs.request.json_of.Goals as goal
+use Rattle.req_json.proofs.under.json_of.Goals as goal
 
 pub returns-in-Ok : goal.returns-in-Ok
 returns-in-Ok c = json_found _ _ c.in-Ok.ensures.ok.0 c.in-Ok.ensures.ok.1
