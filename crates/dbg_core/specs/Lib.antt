@@ -3,3 +3,4 @@ pub mod Shown
 pub mod Eval
 pub mod Answering
 pub mod State
+pub mod Alone

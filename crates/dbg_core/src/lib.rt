@@ -37,4 +37,5 @@ pub use listeners::Listeners;
 pub use machine_core::{
     Asked, At, BadText, Body, Cmd, Going, Motion, Notice, Reply, Request, Shown, Turned, Utf8,
 };
+pub use requests::to_drop;
 pub use session::Session;

@@ -6,6 +6,7 @@ ghost use Rattle.listen.specs.Pairs.{after};
 ghost use Rattle.machine_core.specs.Machine.{remaining};
 ghost use Rattle.machine_core.specs.Journal.{Noticed, closing_lines};
 ghost use Rattle.dbg_core.specs.Answering.{dropped};
+ghost use Rattle.dbg_core.specs.Alone.{without};
 
 use listen::{Listener, StopNote};
 use machine_core::{Body, Notice};
@@ -13,10 +14,11 @@ use std::alloc::Global;
 use text_core::{Listed, NoMemory};
 
 /// The listeners that were handed in, at most 65,536, each of which remains until it is dropped. A listener's number, from 0, is its
-/// place among those that were handed in.
+/// place among those that were handed in. The boxes can be reached, since a crate above that holds listeners behind a `&mut` has to tell
+/// and to drop them by functions of its own.
 #[derive(Drop)]
 pub struct Listeners {
-    boxes: Vec<Option<Box<dyn Listener>>>,
+    pub boxes: Vec<Option<Box<dyn Listener>>>,
     alloc: Global,
     pub ghost few: { length boxes.items ≤ 65536 },
 }
@@ -76,6 +78,15 @@ fn pairs_left(
     match listener {
         Some(listener) => pairs_of(alloc, listener),
         None => Ok(Vec::new(alloc)),
+    }
+}
+
+/// Drops the listener of a number, if it remains.
+fn leave_out_one(all: &mut [Option<Box<dyn Listener>>], k: u64)
+    ensures { map (option_map (λ b. heard b)) all.new ≡ set (map (option_map (λ b. heard b)) all.old) k None }
+{
+    if k < all.len() as u64 {
+        all[k as usize] = None;
     }
 }
 
@@ -171,18 +182,26 @@ impl Listeners {
         Ok(lines)
     }
 
-    /// What is answered to a request to drop a listener, which is dropped where it remains. For want of memory all is as before.
-    pub(crate) fn drop_asked(&mut self, k: u64) -> Result<Body, NoMemory>
-        ensures body { IfOk result (λ body. (map (option_map (λ b. heard b)) self.new.boxes.items, body) ≡ dropped (map (option_map (λ b. heard b)) self.old.boxes.items) k (slice_index_or (map (option_map (λ b. heard b)) self.old.boxes.items) k None)) }
-        ensures kept { OnErr result (map (option_map (λ b. heard b)) self.new.boxes.items ≡ map (option_map (λ b. heard b)) self.old.boxes.items) }
+    /// What is answered to a request to drop a listener.
+    pub(crate) fn drop_answer(&self, k: u64) -> Result<Body, NoMemory>
+        ensures { IfOk result (λ body. (without (Some k) (map (option_map (λ b. heard b)) self.now.boxes.items), body) ≡ dropped (map (option_map (λ b. heard b)) self.now.boxes.items) k (slice_index_or (map (option_map (λ b. heard b)) self.now.boxes.items) k None)) }
     {
         if k >= u64::from(self.count()) || !self.has(k as u32) {
             return Ok(Body::NoListener { k });
         }
         let rows = self.table(k as u32)?;
-        self.drop_one(k as u32);
         Ok(Body::Drop {
             rows: Listed::new(rows),
         })
+    }
+
+    /// Drops the listener of this number, if there is a number and that one remains. Takes no memory.
+    pub(crate) fn leave_out(&mut self, k: Option<u64>)
+        ensures { map (option_map (λ b. heard b)) self.new.boxes.items ≡ without k (map (option_map (λ b. heard b)) self.old.boxes.items) }
+    {
+        match k {
+            Some(k) => leave_out_one(&mut self.boxes, k),
+            None => {}
+        }
     }
 }

@@ -4,6 +4,7 @@
 ghost use Rattle.std.specs.Prelude.{◌≡◌, ℕ, List, Option, IfOk, OnErr, map, option_map};
 ghost use Rattle.machine_core.specs.Machine.{going_of, asked_id};
 ghost use Rattle.dbg_core.specs.Answering.{run_granted, step_granted};
+ghost use Rattle.dbg_core.specs.Alone.{dropped_by, to_drop, without};
 
 use crate::arming::{break_asked, numbers_of, watch_asked};
 use crate::listeners::Listeners;
@@ -14,6 +15,16 @@ use crate::texts::{bad_text, bytes_in, text_in};
 use machine_core::{Asked, Body, Cmd, Going, Motion, Reply, Utf8};
 use text_core::{Listed, NoMemory, Text};
 use trace_core::{Trace, Want, Way};
+
+/// The number of the listener that a command drops.
+fn dropped_by(cmd: &Cmd) -> Option<u64>
+    ensures { result ≡ dropped_by cmd.now }
+{
+    match cmd {
+        Cmd::Drop { k } => Some(*k),
+        _ => None,
+    }
+}
 
 /// Whether a session runs, and in which direction.
 fn going_of(motion: Motion) -> Going
@@ -42,6 +53,16 @@ fn step_granted(way: Way) -> Body
     match way {
         Way::Forward => Body::Step,
         Way::Backward => Body::Back,
+    }
+}
+
+/// The number of the listener that a request drops, if that one remains; none, where it asks for something else. Takes no memory.
+pub fn to_drop(asked: &Asked) -> Option<u64>
+    ensures { result ≡ to_drop asked.now }
+{
+    match asked {
+        Asked::Good(request) => dropped_by(&request.cmd),
+        Asked::Bad(_) => None,
     }
 }
 
@@ -259,13 +280,13 @@ impl<T: Trace> Session<T> {
         })
     }
 
-    /// Does what is asked, and gives what is answered, a refusal too.
-    fn obey(&mut self, cmd: &Cmd, listeners: &mut Listeners) -> Result<Body, NoMemory>
+    /// Does what is asked, and gives what is answered, a refusal too. A listener that is to be dropped is still to be left out.
+    fn obey(&mut self, cmd: &Cmd, listeners: &Listeners) -> Result<Body, NoMemory>
         ensures table { self.new.table ≡ self.old.table }
         ensures samples { T.samples self.new.trace ≡ T.samples self.old.trace }
         ensures ordinal { self.new.ordinal ≡ self.old.ordinal }
-        ensures answer { IfOk result (λ body. (read : Reader) (ordinal : ℕ) (id : Option ℕ) → IsReader read → answered (counted_as self.new ordinal (map (option_map (λ b. heard b)) listeners.new.boxes.items)) id body ≡ answer_by (counted_as self.old ordinal (map (option_map (λ b. heard b)) listeners.old.boxes.items)) id (obey read (world_of self.old.table (T.samples self.old.trace)) (counted_as self.old ordinal (map (option_map (λ b. heard b)) listeners.old.boxes.items)) cmd.now)) }
-        ensures kept { OnErr result (machine_of self.new (map (option_map (λ b. heard b)) listeners.new.boxes.items) ≡ machine_of self.old (map (option_map (λ b. heard b)) listeners.old.boxes.items)) }
+        ensures answer { IfOk result (λ body. (read : Reader) (ordinal : ℕ) (id : Option ℕ) → IsReader read → answered (counted_as self.new ordinal (without (dropped_by cmd.now) (map (option_map (λ b. heard b)) listeners.now.boxes.items))) id body ≡ answer_by (counted_as self.old ordinal (map (option_map (λ b. heard b)) listeners.now.boxes.items)) id (obey read (world_of self.old.table (T.samples self.old.trace)) (counted_as self.old ordinal (map (option_map (λ b. heard b)) listeners.now.boxes.items)) cmd.now)) }
+        ensures kept { OnErr result ((heard : List (Option Heard)) → machine_of self.new heard ≡ machine_of self.old heard) }
     {
         match cmd {
             Cmd::Break {
@@ -288,19 +309,19 @@ impl<T: Trace> Session<T> {
             Cmd::Threads => self.tell_threads(),
             Cmd::Values { instance } => self.tell_values(instance),
             Cmd::Eval { instance, expr } => self.tell_value(instance, expr),
-            Cmd::Drop { k } => listeners.drop_asked(*k),
+            Cmd::Drop { k } => listeners.drop_answer(*k),
             Cmd::Status => self.status(listeners),
             Cmd::Bye => Ok(Body::Bye),
         }
     }
 
-    /// Does what was read from a text, and gives what is answered, a refusal too.
-    fn answer_to(&mut self, asked: &Asked, listeners: &mut Listeners) -> Result<Body, NoMemory>
+    /// Does what was read from a text, and gives what is answered, a refusal too. A listener that is to be dropped is still to be left out.
+    fn answer_to(&mut self, asked: &Asked, listeners: &Listeners) -> Result<Body, NoMemory>
         ensures table { self.new.table ≡ self.old.table }
         ensures samples { T.samples self.new.trace ≡ T.samples self.old.trace }
         ensures ordinal { self.new.ordinal ≡ self.old.ordinal }
-        ensures answer { IfOk result (λ body. (read : Reader) (ordinal : ℕ) (id : Option ℕ) → IsReader read → answered (counted_as self.new ordinal (map (option_map (λ b. heard b)) listeners.new.boxes.items)) id body ≡ answer_by (counted_as self.old ordinal (map (option_map (λ b. heard b)) listeners.old.boxes.items)) id (asked_outcome read (world_of self.old.table (T.samples self.old.trace)) (counted_as self.old ordinal (map (option_map (λ b. heard b)) listeners.old.boxes.items)) asked.now)) }
-        ensures kept { OnErr result (machine_of self.new (map (option_map (λ b. heard b)) listeners.new.boxes.items) ≡ machine_of self.old (map (option_map (λ b. heard b)) listeners.old.boxes.items)) }
+        ensures answer { IfOk result (λ body. (read : Reader) (ordinal : ℕ) (id : Option ℕ) → IsReader read → answered (counted_as self.new ordinal (without (to_drop asked.now) (map (option_map (λ b. heard b)) listeners.now.boxes.items))) id body ≡ answer_by (counted_as self.old ordinal (map (option_map (λ b. heard b)) listeners.now.boxes.items)) id (asked_outcome read (world_of self.old.table (T.samples self.old.trace)) (counted_as self.old ordinal (map (option_map (λ b. heard b)) listeners.now.boxes.items)) asked.now)) }
+        ensures kept { OnErr result ((heard : List (Option Heard)) → machine_of self.new heard ≡ machine_of self.old heard) }
     {
         match asked {
             Asked::Good(request) => self.obey(&request.cmd, listeners),
@@ -308,14 +329,14 @@ impl<T: Trace> Session<T> {
         }
     }
 
-    /// Answers a request. Its reply has the next ordinal, which stays at 2^64 - 1 once it is that high, and the request's own number. What
-    /// is refused leaves all as it was but the ordinal. For want of memory the ordinal is as before too.
+    /// Answers a request, and drops no listener: the one that it asks to drop (`to_drop`), if that remains, is still to be left out. Its reply
+    /// is that of `request`. For want of memory all is as before.
     #[tactic(auto, unfolding(machine_core::specs::Machine::answer_of))]
-    pub fn request(&mut self, asked: &Asked, listeners: &mut Listeners) -> Result<Reply, NoMemory>
+    pub fn request_alone(&mut self, asked: &Asked, listeners: &Listeners) -> Result<Reply, NoMemory>
         ensures table { self.new.table ≡ self.old.table }
         ensures samples { T.samples self.new.trace ≡ T.samples self.old.trace }
-        ensures answer { IfOk result (λ reply. (read : Reader) → IsReader read → (let answer : Answer = record { after = machine_of self.new (map (option_map (λ b. heard b)) listeners.new.boxes.items); reply = reply } in answer) ≡ answer_of read (world_of self.old.table (T.samples self.old.trace)) (machine_of self.old (map (option_map (λ b. heard b)) listeners.old.boxes.items)) asked.now) }
-        ensures memory { OnErr result (machine_of self.new (map (option_map (λ b. heard b)) listeners.new.boxes.items) ≡ machine_of self.old (map (option_map (λ b. heard b)) listeners.old.boxes.items)) }
+        ensures answer { IfOk result (λ reply. (read : Reader) → IsReader read → (let answer : Answer = record { after = machine_of self.new (without (to_drop asked.now) (map (option_map (λ b. heard b)) listeners.now.boxes.items)); reply = reply } in answer) ≡ answer_of read (world_of self.old.table (T.samples self.old.trace)) (machine_of self.old (map (option_map (λ b. heard b)) listeners.now.boxes.items)) asked.now) }
+        ensures memory { OnErr result ((heard : List (Option Heard)) → machine_of self.new heard ≡ machine_of self.old heard) }
     {
         let body = self.answer_to(asked, listeners)?;
         let seq = self.ordinal.saturating_add(1);
@@ -325,5 +346,18 @@ impl<T: Trace> Session<T> {
             id: id_of(asked),
             body,
         })
+    }
+
+    /// Answers a request. Its reply has the next ordinal, which stays at 2^64 - 1 once it is that high, and the request's own number. What
+    /// is refused leaves all as it was but the ordinal. For want of memory the ordinal is as before too.
+    pub fn request(&mut self, asked: &Asked, listeners: &mut Listeners) -> Result<Reply, NoMemory>
+        ensures table { self.new.table ≡ self.old.table }
+        ensures samples { T.samples self.new.trace ≡ T.samples self.old.trace }
+        ensures answer { IfOk result (λ reply. (read : Reader) → IsReader read → (let answer : Answer = record { after = machine_of self.new (map (option_map (λ b. heard b)) listeners.new.boxes.items); reply = reply } in answer) ≡ answer_of read (world_of self.old.table (T.samples self.old.trace)) (machine_of self.old (map (option_map (λ b. heard b)) listeners.old.boxes.items)) asked.now) }
+        ensures memory { OnErr result (machine_of self.new (map (option_map (λ b. heard b)) listeners.new.boxes.items) ≡ machine_of self.old (map (option_map (λ b. heard b)) listeners.old.boxes.items)) }
+    {
+        let reply = self.request_alone(asked, listeners)?;
+        listeners.leave_out(to_drop(asked));
+        Ok(reply)
     }
 }

@@ -49,6 +49,7 @@ impl<T: Trace> Session<T> {
     ghost use Rattle.machine_core.specs.Positions.{cycle_at, slot_at};
     ghost use Rattle.dbg_core.specs.World.{world_of};
     ghost use Rattle.dbg_core.specs.Answering.{left_ahead};
+    ghost use Rattle.dbg_core.specs.Alone.{heard_after};
     ghost use Rattle.dbg_core.specs.State.{machine_of};
 
     /// A session at the start, idle, with no breakpoint, over a table and a trace that fits it. Takes no memory.
@@ -84,17 +85,16 @@ impl<T: Trace> Session<T> {
         matches!(&self.motion, Motion::Running(_, _))
     }
 
-    /// Stops at a position, and tells the listeners.
-    fn stop(&mut self, p: u64, listeners: &mut Listeners) -> Turned
+    /// Stops at a position. Each listener is still to be told.
+    fn stop(&mut self, p: u64) -> Turned
         requires { p < total_of self.old.table (T.samples self.old.trace) }
         ensures table { self.new.table ≡ self.old.table }
         ensures samples { T.samples self.new.trace ≡ T.samples self.old.trace }
-        ensures turn { (let turn : Turn = record { after = machine_of self.new (map (option_map (λ b. heard b)) listeners.new.boxes.items); turned = result } in turn) ≡ stopped_at (world_of self.old.table (T.samples self.old.trace)) (machine_of self.old (map (option_map (λ b. heard b)) listeners.old.boxes.items)) p }
+        ensures turn { (heard : List (Option Heard)) → (let turn : Turn = record { after = machine_of self.new (heard_after result heard); turned = result } in turn) ≡ stopped_at (world_of self.old.table (T.samples self.old.trace)) (machine_of self.old heard) p }
     {
         let note = note_at(&self.table, &mut self.trace, &self.watch, p);
         self.place = p + 1;
         self.motion = Motion::Idle;
-        listeners.tell(&note);
         Turned::Stopped(note)
     }
 
@@ -102,7 +102,7 @@ impl<T: Trace> Session<T> {
     fn stop_at_edge(&mut self, way: Way) -> Turned
         ensures table { self.new.table ≡ self.old.table }
         ensures samples { T.samples self.new.trace ≡ T.samples self.old.trace }
-        ensures turn { (heard : List (Option Heard)) → (let turn : Turn = record { after = machine_of self.new heard; turned = result } in turn) ≡ edge_turn (world_of self.old.table (T.samples self.old.trace)) way (machine_of self.old heard) }
+        ensures turn { (heard : List (Option Heard)) → (let turn : Turn = record { after = machine_of self.new (heard_after result heard); turned = result } in turn) ≡ edge_turn (world_of self.old.table (T.samples self.old.trace)) way (machine_of self.old heard) }
     {
         self.motion = Motion::Idle;
         match way {
@@ -122,7 +122,7 @@ impl<T: Trace> Session<T> {
         requires { 64 ≤ left_ahead (total_of self.old.table (T.samples self.old.trace)) way self.old.place }
         ensures table { self.new.table ≡ self.old.table }
         ensures samples { T.samples self.new.trace ≡ T.samples self.old.trace }
-        ensures turn { (heard : List (Option Heard)) → (let turn : Turn = record { after = machine_of self.new heard; turned = result } in turn) ≡ moved_turn way (machine_of self.old heard) }
+        ensures turn { (heard : List (Option Heard)) → (let turn : Turn = record { after = machine_of self.new (heard_after result heard); turned = result } in turn) ≡ moved_turn way (machine_of self.old heard) }
     {
         match way {
             Way::Forward => self.place += REACH,
@@ -153,33 +153,48 @@ impl<T: Trace> Session<T> {
         }
     }
 
-    /// A turn of a session that runs.
-    fn run(&mut self, way: Way, want: Want, listeners: &mut Listeners) -> Turned
+    /// A turn of a session that runs. Of a stop each listener is still to be told.
+    fn run(&mut self, way: Way, want: Want) -> Turned
         requires { self.old.motion ≡ Running way want }
         ensures table { self.new.table ≡ self.old.table }
         ensures samples { T.samples self.new.trace ≡ T.samples self.old.trace }
-        ensures turn { (let turn : Turn = record { after = machine_of self.new (map (option_map (λ b. heard b)) listeners.new.boxes.items); turned = result } in turn) ≡ turn_of (world_of self.old.table (T.samples self.old.trace)) (machine_of self.old (map (option_map (λ b. heard b)) listeners.old.boxes.items)) }
+        ensures turn { (heard : List (Option Heard)) → (let turn : Turn = record { after = machine_of self.new (heard_after result heard); turned = result } in turn) ≡ turn_of (world_of self.old.table (T.samples self.old.trace)) (machine_of self.old heard) }
     {
         match self.look(way, want) {
-            Found::At(p) => self.stop(p, listeners),
+            Found::At(p) => self.stop(p),
             Found::Edge => self.stop_at_edge(way),
             Found::Nowhere => self.move_on(way),
+        }
+    }
+
+    /// One turn that tells no listener: of a stop each that remains is still to be told, by its note. An idle session does nothing. Takes no
+    /// memory.
+    #[tactic(auto, unfolding(machine_core::specs::Machine::turn_of))]
+    pub fn turn_alone(&mut self) -> Turned
+        ensures table { self.new.table ≡ self.old.table }
+        ensures samples { T.samples self.new.trace ≡ T.samples self.old.trace }
+        ensures turn { (heard : List (Option Heard)) → (let turn : Turn = record { after = machine_of self.new (heard_after result heard); turned = result } in turn) ≡ turn_of (world_of self.old.table (T.samples self.old.trace)) (machine_of self.old heard) }
+    {
+        match self.motion {
+            Motion::Idle => Turned::Idle,
+            Motion::Running(way, want) => self.run(way, want),
         }
     }
 
     /// One turn. An idle session does nothing. One that runs looks at the next 64 positions: it stops at the nearest that matches, and
     /// tells each listener that remains; else at the end or the start, if that comes before; else it stands 64 positions further. Takes
     /// no memory.
-    #[tactic(auto, unfolding(machine_core::specs::Machine::turn_of))]
     pub fn turn(&mut self, listeners: &mut Listeners) -> Turned
         ensures table { self.new.table ≡ self.old.table }
         ensures samples { T.samples self.new.trace ≡ T.samples self.old.trace }
         ensures turn { (let turn : Turn = record { after = machine_of self.new (map (option_map (λ b. heard b)) listeners.new.boxes.items); turned = result } in turn) ≡ turn_of (world_of self.old.table (T.samples self.old.trace)) (machine_of self.old (map (option_map (λ b. heard b)) listeners.old.boxes.items)) }
     {
-        match self.motion {
-            Motion::Idle => Turned::Idle,
-            Motion::Running(way, want) => self.run(way, want, listeners),
+        let turned = self.turn_alone();
+        match &turned {
+            Turned::Stopped(note) => listeners.tell(note),
+            Turned::Idle | Turned::Moved | Turned::AtEnd | Turned::AtStart => {}
         }
+        turned
     }
 
     /// Turns until it is idle. Gives what the last of them did: all before it only moved. `Idle` where it did not run. Takes no memory.
