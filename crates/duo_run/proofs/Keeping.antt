@@ -4,17 +4,18 @@ use Rattle.io_edge.specs.Taken.{Appends}
 use Rattle.io_edge.proofs.Growth.{grown_twice}
 use Rattle.link_edge.specs.Links.{Meaning}
 use Rattle.duo_run.specs.declared.event.Event.TheVariants.{Request}
-use Rattle.duo_run.specs.declared.cause.Cause.TheVariants as cause
-use Rattle.duo_run.specs.declared.outlet.Outlet.{Outlet}
+use Rattle.link_pump.specs.declared.cause.Cause.TheVariants as cause
+use Rattle.link_pump.specs.declared.outlet.Outlet.{Outlet}
 use Rattle.duo_run.specs.declared.journal.Journal.{Journal}
 use Rattle.duo_run.specs.declared.desk.Desk.{Desk}
 use Rattle.duo_run.specs.Deeds.{Deed, Asks, Goes, requests_in}
 use Rattle.duo_run.specs.Polls.{Poll}
 use Rattle.duo_run.specs.Journals.{deeds_of, TurnAdded}
-use Rattle.duo_run.specs.Desks.{Delivered, Held}
+use Rattle.link_pump.specs.Outlets.{Delivered}
+use Rattle.duo_run.specs.Desks.{Held}
 use Rattle.duo_run.proofs.Doing.{requests_append}
 use Rattle.duo_run.proofs.Noting.{deeds_request, deeds_turn_added}
-use Rattle.duo_run.proofs.Sending.{nothing_grown}
+use Rattle.link_pump.proofs.Sending.{nothing_grown}
 
 module _ {L : Type 0} where
   -- nothing was served yet

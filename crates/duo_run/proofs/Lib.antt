@@ -1,11 +1,8 @@
 mod Doing
 mod Giving
 mod Noting
-mod Sending
+mod Noticing
 mod Keeping
 mod Serving
 mod Sampled
-mod Ringing
-mod Naming
-mod Pumping
 mod Joining

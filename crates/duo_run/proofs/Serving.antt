@@ -16,16 +16,17 @@ use Rattle.machine_core.specs.declared.request.Asked.{Asked}
 use Rattle.text_core.specs.declared.memory.NoMemory.{NoMemory}
 use Rattle.link_edge.specs.Links.{Meaning}
 use Rattle.link_edge.specs.declared.answers.End.TheVariants as ends
-use Rattle.duo_run.specs.declared.cause.Cause.{Cause}
-use Rattle.duo_run.specs.declared.cause.Cause.TheVariants as cause
-use Rattle.duo_run.specs.declared.outlet.Outlet.{Outlet}
+use Rattle.link_pump.specs.declared.cause.Cause.{Cause}
+use Rattle.link_pump.specs.declared.cause.Cause.TheVariants as cause
+use Rattle.link_pump.specs.declared.outlet.Outlet.{Outlet}
 use Rattle.duo_run.specs.declared.desk.Desk.{Desk}
-use Rattle.duo_run.specs.Texts.{line_text, texts_of}
+use Rattle.req_json.specs.Texts.{line_text, texts_of}
 use Rattle.duo_run.specs.Deeds.{Deed, Asks, Goes, Stage, at_start, answer_to, after_ask, after_go, after_deeds, told_of, lines_of, is_turn_due, is_paced, ends_with_leave}
 use Rattle.duo_run.specs.Polls.{Poll, asked_by, after_poll, turn_given, given, after_polls, IsPart, MeetsPolls}
 use Rattle.duo_run.specs.Journals.{deeds_of, output_of}
 use Rattle.duo_run.specs.Connections.{Carries, Applies, InLockStep}
-use Rattle.duo_run.specs.Desks.{Delivered, Held, NoRequest, none, starved, polled_without, Lasts, HasRoom, end_of}
+use Rattle.link_pump.specs.Outlets.{Delivered, polled_without, Lasts}
+use Rattle.duo_run.specs.Desks.{Held, NoRequest, none, starved, HasRoom, end_of}
 use Rattle.duo_run.proofs.Doing.{after_append, after_snoc, lines_snoc, leave_snoc}
 use Rattle.duo_run.proofs.Giving.{given_snoc, after_given, after_asked, given_paced, asked_paced, nothing_paced}
 use Rattle.duo_run.proofs.Noting.{requests_are, journal_run}

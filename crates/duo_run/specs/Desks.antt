@@ -1,33 +1,16 @@
 -- A connection while it is served: what was sent of the lines made, and what was done of what was read.
-use Rattle.std.specs.Prelude.{◌≡◌, ◌≢◌, ◌≤◌, ◌⊎◌, ℕ, Bool, true, false, List, [], ◌∷◌, ◌++◌, Option, None, Some, length, vec_capacity}
-use Rattle.io_edge.specs.Faults.{Rose}
+use Rattle.std.specs.Prelude.{◌≡◌, ◌≢◌, ◌≤◌, ℕ, Bool, true, false, List, [], ◌∷◌, ◌++◌, Option, None, Some, length, vec_capacity}
 use Rattle.io_edge.specs.Taken.{Appends}
-use Rattle.link_edge.specs.Links.{Meaning, NoneFell}
+use Rattle.link_edge.specs.Links.{Meaning}
 use Rattle.link_edge.specs.declared.answers.End.{End}
 use Rattle.link_edge.specs.declared.answers.End.TheVariants as ends
-use Rattle.duo_run.specs.declared.cause.Cause.{Cause}
-use Rattle.duo_run.specs.declared.cause.Cause.TheVariants.{Closed, Failed, NoMemory}
-use Rattle.duo_run.specs.declared.outlet.Outlet.{Outlet}
+use Rattle.link_pump.specs.declared.cause.Cause.{Cause}
+use Rattle.link_pump.specs.declared.cause.Cause.TheVariants.{Closed, Failed, NoMemory}
+use Rattle.link_pump.specs.Outlets.{Delivered, polled_without}
 use Rattle.duo_run.specs.declared.desk.Desk.{Desk}
 use Rattle.duo_run.specs.Deeds.{Deed, requests_in}
 use Rattle.duo_run.specs.Polls.{Poll}
 use Rattle.duo_run.specs.Journals.{deeds_of}
-
--- of the lines that were made, in order, some were sent, some kept, and the rest lost; none is kept while the link is in use, and none
--- lost unless memory ran out
-pub record Delivered {L : Type 0} (start now : Meaning) (o : Outlet L) (made : List (List ℕ)) : Type 0 where
-  pub sent_is : Appends start.sent now.sent o.sent.items
-  pub lines : (lost : List (List ℕ)) × (made ≡ (o.sent.items ++ o.unsent.items) ++ lost) × (o.over ≢ Some NoMemory → lost ≡ [])
-  pub unsent : o.over ≡ None → o.unsent.items ≡ []
-  pub counts : NoneFell start now
-  pub shut : now.shut ≡ start.shut
-  pub closed : o.over ≡ Some Closed → Rose start.ends now.ends
-  pub failed : o.over ≡ Some Failed → Rose start.faults now.faults
-
--- what a poll without a message adds to the polls: nothing has come, where the link is still in use
-abbrev pub polled_without : Option Cause → List Poll
-polled_without None = None ∷ []
-polled_without (Some cause) = []
 
 -- by these polls these deeds were done, and these messages that were read are not dealt with yet; these lines were made
 pub record Held {L : Type 0} (start now : Meaning) (d : Desk L) (polls : List Poll) (deeds : List Deed) (taken made : List (List ℕ)) : Type 0 where
@@ -45,11 +28,6 @@ pub data NoRequest {L : Type 0} (start now : Meaning) (d : Desk L) (polls : List
 -- there is no more than one
 abbrev pub HasRoom : {L : Type 0} → Desk L → Type 0
 HasRoom d = (d.outlet.over ≢ Some NoMemory → d.unapplied.items ≡ []) × (d.outlet.over ≡ None → 1 ≤ vec_capacity d.unapplied) × (length d.unapplied.items ≤ 1)
-
--- what sending leaves of why a link is over: it is not closed by it, and once it is over, it stays so, or memory runs out
-abbrev pub Lasts : Option Cause → Option Cause → Type 0
-Lasts None new = new ≢ Some Closed
-Lasts (Some cause) new = (new ≡ Some cause) ⊎ (new ≡ Some NoMemory)
 
 -- how a connection ended, by whether its client left, and why its link is over
 abbrev pub end_of : Bool → Option Cause → End

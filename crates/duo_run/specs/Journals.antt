@@ -8,7 +8,7 @@ use Rattle.machine_core.specs.Journal.{Entry, Ask, closed, journal_from}
 use Rattle.req_json.specs.Asked.{asked}
 use Rattle.duo_run.specs.declared.event.Event.{Event}
 use Rattle.duo_run.specs.declared.event.Event.TheVariants.{Request, Turns}
-use Rattle.duo_run.specs.Texts.{texts_of}
+use Rattle.req_json.specs.Texts.{texts_of}
 use Rattle.duo_run.specs.Deeds.{Deed, Asks, Goes, at_start, after_deeds}
 
 -- as a journal of the machine

@@ -1,12 +1,6 @@
-pub mod Texts
 pub mod Deeds
 pub mod Polls
 pub mod Journals
 pub mod Connections
 pub mod Desks
 pub mod Sample
-pub mod Rings
-pub mod Names
-pub mod Ends
-pub mod Pumps
-pub mod Sides

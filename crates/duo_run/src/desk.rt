@@ -6,12 +6,12 @@ ghost use Rattle.machine_core.specs.Journal.{Line, Replied, Noticed, is_bye, tol
 ghost use Rattle.req_json.specs.Asked.{asked};
 ghost use Rattle.req_json.specs.Replies.{reply_text};
 
-use crate::cause::Cause;
 use crate::journal::Journal;
-use crate::outlet::Outlet;
+use crate::notes::note;
 use crate::served::Served;
 use dbg_core::{Asked, Body, Notice, Reply};
 use link_edge::{End, Link};
+use link_pump::{Cause, Outlet};
 use req_json::{read_request, reply_text};
 use std::alloc::Global;
 use text_core::{Listed, NoMemory};
@@ -28,10 +28,11 @@ pub struct Desk<L> {
 }
 
 impl<L: Link> Desk<L> {
-    ghost use Rattle.duo_run.specs.Texts.{texts_of};
+    ghost use Rattle.req_json.specs.Texts.{texts_of};
     ghost use Rattle.duo_run.specs.Deeds.{Deed, Asks, Goes};
     ghost use Rattle.duo_run.specs.Polls.{Poll};
-    ghost use Rattle.duo_run.specs.Desks.{Delivered, Held, NoRequest, HasRoom, Lasts, end_of};
+    ghost use Rattle.link_pump.specs.Outlets.{Delivered, Lasts};
+    ghost use Rattle.duo_run.specs.Desks.{Held, NoRequest, HasRoom, end_of};
 
     /// A connection of which nothing was served yet. Takes no memory.
     pub(crate) fn new(alloc: Global, link: L) -> Desk<L>
@@ -193,7 +194,7 @@ impl<L: Link> Desk<L> {
         ensures left { self.new.left ≡ self.old.left }
     {
         self.journal.add_turn();
-        self.outlet.note(self.alloc, notice);
+        note(&mut self.outlet, self.alloc, notice);
     }
 
     /// How the connection ended.

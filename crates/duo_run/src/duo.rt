@@ -8,21 +8,20 @@ ghost use Rattle.machine_core.specs.Machine.{opening};
 ghost use Rattle.dbg_core.specs.World.{world_of};
 ghost use Rattle.dbg_core.specs.State.{machine_of};
 ghost use Rattle.link_edge.specs.Links.{Meaning};
-ghost use Rattle.duo_run.specs.declared.rings.ToLink.TheVariants.{SessionOver};
+ghost use Rattle.link_pump.specs.declared.rings.ToLink.TheVariants.{SessionOver};
 ghost use Rattle.duo_run.specs.Connections.{Carries, Applies};
-ghost use Rattle.duo_run.specs.Rings.{finishes};
-ghost use Rattle.duo_run.specs.Pumps.{Pumped};
-ghost use Rattle.duo_run.specs.Sides.{AreFresh};
+ghost use Rattle.link_pump.specs.Rings.{finishes};
+ghost use Rattle.link_pump.specs.Pumps.{Pumped};
+ghost use Rattle.link_pump.specs.Sides.{AreFresh};
 
 use crate::connection::unserved;
 use crate::gather::gather;
 use crate::lockstep::serve_lockstep;
-use crate::pump::Pump;
-use crate::rings::{FromLink, Rings, ToLink, push_waiting};
 use crate::served::Served;
 use crate::side::serve_side;
 use dbg_core::{Listeners, Session};
 use link_edge::{Gate, Link};
+use link_pump::{Began, Pump, Rings, ToLink, push_waiting, unread};
 use rtrb::{Consumer, Producer};
 use std::alloc::Global;
 use std::marker::Send;
@@ -32,42 +31,6 @@ use std::thread;
 use std::thread::{Promise, Threads};
 use text_core::NoMemory;
 use trace_core::Trace;
-
-/// What the link's side begins with: the promise is that it gives back what came of it.
-#[derive(Drop)]
-struct Began<L> {
-    link: Snapshot<L>,
-    messages: Snapshot<Producer<FromLink>>,
-    lines: Snapshot<Consumer<ToLink>>,
-}
-
-impl<L: Link> Promise<Pump<L>> for Began<L> {
-    ghost kept_by = { λ p back. Pumped (L.meaning p.link.value) (L.meaning back.outlet.link) back
-        × (finishes (received back.lines) ≡ true)
-        × ((L.meaning back.outlet.link).shut ≡ false)
-        × SameProducer p.messages.value back.messages
-        × SameConsumer p.lines.value back.lines };
-}
-
-/// The link of a side that was told at once that the session is over: nothing was read of it.
-fn unread<L: Link>(back: Pump<L>, to_link: Producer<ToLink>) -> L
-    requires pair { IsPair to_link back.lines }
-    requires only { sent to_link ≡ SessionOver ∷ [] }
-    ensures { (start : Meaning) → Pumped start (L.meaning back.outlet.link) back → L.meaning result ≡ start }
-{
-    let Pump {
-        outlet,
-        messages: _,
-        mut lines,
-        held: _,
-        marked: _,
-        begun: _,
-        alloc: _,
-    } = back;
-    let mut to_link = to_link;
-    lines.slots_beside(&mut to_link);
-    outlet.link
-}
 
 /// Serves a link in two threads over these rings; in lock step, where no thread can be started.
 fn serve_over<R: Threads + Wait + Sync, T: Trace + Send + Drop, L: Link, G: Gate>(

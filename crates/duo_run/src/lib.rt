@@ -3,30 +3,25 @@
 //! In lock step one activity does both in turn: a poll of the link, its request, and a turn of the session if it runs. What was done
 //! is kept as a journal of requests and turns. Its output, by the definitions of the machine, is what was sent and what was not.
 //!
-//! In two threads one holds the link (`pump`) and one the session (`side`), with two rings between them (`rings`). The session's side
-//! is served in lock step too, with its ends of the rings as its link (`ends`); once the thread was joined, `gather` puts the sides
-//! together. So the same is promised of both ways. A loop that has nothing to do rests (`rest`).
+//! In two threads one holds the link (`link_pump`) and one the session (`side`), with two rings between them. The session's side is served
+//! in lock step too, with its ends of the rings as its link; once the thread was joined, `gather` puts the sides together. So the same is
+//! promised of both ways.
 //!
 //! `specs/` has the definitions: `Texts` the text of a line, `Deeds` what is done with a session one by one, `Polls` what the polls of
-//! a link come to, `Journals` the journal, `Connections` what a served connection is, and `Desks` what holds while it is served; for two
-//! threads `Rings` what goes through the rings, `Names` what a ring is known by, `Ends` the session's ends as a link, and `Pumps` and
-//! `Sides` what each side has done. No contract says when a message comes, nor that one comes: a connection may be served forever.
+//! a link come to, `Journals` the journal, `Connections` what a served connection is, and `Desks` what holds while it is served. What one
+//! link needs has its definitions in `link_pump`. No contract says when a message comes, nor that one comes: a connection may be served
+//! forever.
 #![tactic(auto)]
 
-mod cause;
 mod connection;
 mod desk;
 mod duo;
-mod ends;
 mod event;
 mod gather;
 mod journal;
 mod laws;
 mod lockstep;
-mod outlet;
-mod pump;
-mod rest;
-mod rings;
+mod notes;
 mod served;
 mod side;
 

@@ -9,10 +9,11 @@ ghost use Rattle.dbg_core.specs.State.{machine_of};
 ghost use Rattle.duo_run.specs.Connections.{Carries, Applies, InLockStep};
 
 use crate::desk::Desk;
-use crate::rest::Rest;
+use crate::notes::close;
 use crate::served::Served;
 use dbg_core::{Listeners, Session};
 use link_edge::{Gate, Link};
+use link_pump::Rest;
 use std::alloc::Global;
 use std::mem::drop;
 use std::sync::Wait;
@@ -70,6 +71,6 @@ pub fn serve_lockstep<R: Wait, T: Trace + Drop, L: Link, G: Gate>(
             desk.turned(notice);
         }
     }
-    desk.outlet.close(alloc, listeners.closing_lines());
+    close(&mut desk.outlet, alloc, listeners.closing_lines());
     desk.into_served()
 }

@@ -8,15 +8,15 @@ ghost use Rattle.dbg_core.specs.World.{world_of};
 ghost use Rattle.dbg_core.specs.State.{machine_of};
 ghost use Rattle.rtrb.specs.Ring.{sent, received, SameProducer, SameConsumer};
 ghost use Rattle.duo_run.specs.Connections.{Applies};
-ghost use Rattle.duo_run.specs.Sides.{IsSide};
+ghost use Rattle.duo_run.specs.Journals.{requests_of};
+ghost use Rattle.link_pump.specs.Sides.{IsSide};
 
-use crate::ends::Ends;
 use crate::event::Event;
 use crate::lockstep::serve_lockstep;
-use crate::rings::{FromLink, ToLink};
 use crate::served::Served;
 use dbg_core::{Listeners, Session};
 use link_edge::{End, Gate};
+use link_pump::{Ends, FromLink, ToLink};
 use rtrb::{Consumer, Producer};
 use std::alloc::Global;
 use std::sync::Wait;
@@ -51,7 +51,7 @@ pub(crate) fn serve_side<R: Wait + Sync, T: Trace + Drop, G: Gate>(
     requires new { (told : List Heard) → machine_of session (map (λ h. Some h) told) ≡ opening told }
     requires undropped { (told : List Heard) × (map (option_map (λ b. heard (b.vtable, b.value))) listeners.boxes.items ≡ map (λ h. Some h) told) }
     requires fresh { (received messages ≡ []) × (sent lines ≡ []) }
-    ensures side { IsSide result.messages result.lines result.journal.items result.unapplied.items result.pushed.items result.end }
+    ensures side { IsSide result.messages result.lines (requests_of result.journal.items) result.unapplied.items result.pushed.items result.end }
     ensures applied { (read : Reader) → IsReader read → (told : List Heard) → map (option_map (λ b. heard (b.vtable, b.value))) listeners.boxes.items ≡ map (λ h. Some h) told → Applies read (world_of session.table (T.samples session.trace)) (opening told) result.journal.items result.pushed.items result.kept.items result.end }
     ensures messages { SameConsumer messages result.messages }
     ensures lines { SameProducer lines result.lines }

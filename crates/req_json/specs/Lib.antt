@@ -4,6 +4,7 @@ pub mod Objects
 pub mod Values
 pub mod Replies
 pub mod Notices
+pub mod Texts
 pub mod ReadBack
 pub mod Client
 pub mod Requests

@@ -2,7 +2,7 @@ use Rattle.std.proofs.Common.{[], refl, append-nil}
 use Rattle.machine_core.specs.Machine.{opening}
 use Rattle.machine_core.specs.Journal.{closing_lines}
 use Rattle.duo_run.specs.Sample.{world}
-use Rattle.duo_run.proofs.Sending.{lasts_same, lost_more}
+use Rattle.link_pump.proofs.Sending.{lasts_same, lost_more}
 use Rattle.duo_run.proofs.Keeping.{ended_on}
 use Rattle.duo_run.proofs.Serving.{begins, carries, applies}
 use Rattle.duo_run.proofs.connection.unserved.Goals as goal

@@ -119,7 +119,7 @@ loop-preserved g c =
 pub returns-clause-carried : goal.returns-clause-carried
 returns-clause-carried g c =
     rw (c.into_served.ensures.link, c.into_served.ensures.journal, c.into_served.ensures.unapplied, c.into_served.ensures.sent, c.into_served.ensures.unsent, c.into_served.ensures.end)
-    (carries (world_of c.args.session.table (g.T.Trace.samples c.args.session.trace)) (machine_of c.args.session (map (option_map (λ b. (goal.Listener-dyn g (b.vtable, b.value)).heard b.value)) c.args.listeners.boxes.items)) (g.L.Link.meaning c.args.link) (g.L.Link.meaning c.loop.desk.outlet.link) (g.L.Link.meaning c.close.new.self.link) c.loop.desk (machine_of c.loop.session (map (option_map (λ b. (goal.Listener-dyn g (b.vtable, b.value)).heard b.value)) c.loop.listeners.boxes.items)) c.close.new.self (closing_lines (map (option_map (λ b. (goal.Listener-dyn g (b.vtable, b.value)).heard b.value)) c.loop.listeners.boxes.items)) c.close.ensures.over (λ made h. c.close.ensures.keeps (g.L.Link.meaning c.args.link) made (closing_lines (map (option_map (λ b. (goal.Listener-dyn g (b.vtable, b.value)).heard b.value)) c.loop.listeners.boxes.items)) c.closing_lines.ensures h) c.close.ensures.polls c.close.ensures.received c.loop.invariant.going c.loop.invariant.room.0)
+    (carries (world_of c.args.session.table (g.T.Trace.samples c.args.session.trace)) (machine_of c.args.session (map (option_map (λ b. (goal.Listener-dyn g (b.vtable, b.value)).heard b.value)) c.args.listeners.boxes.items)) (g.L.Link.meaning c.args.link) (g.L.Link.meaning c.loop.desk.outlet.link) (g.L.Link.meaning c.close.new.outlet.link) c.loop.desk (machine_of c.loop.session (map (option_map (λ b. (goal.Listener-dyn g (b.vtable, b.value)).heard b.value)) c.loop.listeners.boxes.items)) c.close.new.outlet (closing_lines (map (option_map (λ b. (goal.Listener-dyn g (b.vtable, b.value)).heard b.value)) c.loop.listeners.boxes.items)) c.close.ensures.over (λ made h. c.close.ensures.keeps (g.L.Link.meaning c.args.link) made (closing_lines (map (option_map (λ b. (goal.Listener-dyn g (b.vtable, b.value)).heard b.value)) c.loop.listeners.boxes.items)) c.closing_lines.ensures h) c.close.ensures.polls c.close.ensures.received c.loop.invariant.going c.loop.invariant.room.0)
 
 pub returns-clause-applied : goal.returns-clause-applied
 returns-clause-applied g c = λ read reader told is.
@@ -129,10 +129,10 @@ returns-clause-applied g c = λ read reader told is.
     ] in
     let new : (machine_of c.args.session (map (option_map (λ b. (goal.Listener-dyn g (b.vtable, b.value)).heard b.value)) c.args.listeners.boxes.items)) ≡ opening told = ap (machine_of c.args.session) is ∙ c.requires.new told in
     rw (c.into_served.ensures.journal, c.into_served.ensures.sent, c.into_served.ensures.unsent, c.into_served.ensures.end)
-    (subst (λ k. Applies read (world_of c.args.session.table (g.T.Trace.samples c.args.session.trace)) k c.loop.desk.journal.events.items c.close.new.self.sent.items c.close.new.self.unsent.items (end_of c.loop.desk.left c.close.new.self.over)) new (applies (world_of c.args.session.table (g.T.Trace.samples c.args.session.trace)) (machine_of c.args.session (map (option_map (λ b. (goal.Listener-dyn g (b.vtable, b.value)).heard b.value)) c.args.listeners.boxes.items)) (g.L.Link.meaning c.args.link) (g.L.Link.meaning c.loop.desk.outlet.link) (g.L.Link.meaning c.close.new.self.link) c.loop.desk (machine_of c.loop.session (map (option_map (λ b. (goal.Listener-dyn g (b.vtable, b.value)).heard b.value)) c.loop.listeners.boxes.items)) c.close.new.self (closing_lines (map (option_map (λ b. (goal.Listener-dyn g (b.vtable, b.value)).heard b.value)) c.loop.listeners.boxes.items)) c.close.ensures.over (λ made h. c.close.ensures.keeps (g.L.Link.meaning c.args.link) made (closing_lines (map (option_map (λ b. (goal.Listener-dyn g (b.vtable, b.value)).heard b.value)) c.loop.listeners.boxes.items)) c.closing_lines.ensures h) c.close.ensures.polls c.close.ensures.received c.loop.invariant.going refl over read reader))
+    (subst (λ k. Applies read (world_of c.args.session.table (g.T.Trace.samples c.args.session.trace)) k c.loop.desk.journal.events.items c.close.new.outlet.sent.items c.close.new.outlet.unsent.items (end_of c.loop.desk.left c.close.new.outlet.over)) new (applies (world_of c.args.session.table (g.T.Trace.samples c.args.session.trace)) (machine_of c.args.session (map (option_map (λ b. (goal.Listener-dyn g (b.vtable, b.value)).heard b.value)) c.args.listeners.boxes.items)) (g.L.Link.meaning c.args.link) (g.L.Link.meaning c.loop.desk.outlet.link) (g.L.Link.meaning c.close.new.outlet.link) c.loop.desk (machine_of c.loop.session (map (option_map (λ b. (goal.Listener-dyn g (b.vtable, b.value)).heard b.value)) c.loop.listeners.boxes.items)) c.close.new.outlet (closing_lines (map (option_map (λ b. (goal.Listener-dyn g (b.vtable, b.value)).heard b.value)) c.loop.listeners.boxes.items)) c.close.ensures.over (λ made h. c.close.ensures.keeps (g.L.Link.meaning c.args.link) made (closing_lines (map (option_map (λ b. (goal.Listener-dyn g (b.vtable, b.value)).heard b.value)) c.loop.listeners.boxes.items)) c.closing_lines.ensures h) c.close.ensures.polls c.close.ensures.received c.loop.invariant.going refl over read reader))
 
 pub returns-clause-in_lock_step : goal.returns-clause-in_lock_step
 returns-clause-in_lock_step g c = λ read reader told is.
     let new : (machine_of c.args.session (map (option_map (λ b. (goal.Listener-dyn g (b.vtable, b.value)).heard b.value)) c.args.listeners.boxes.items)) ≡ opening told = ap (machine_of c.args.session) is ∙ c.requires.new told in
     rw (c.into_served.ensures.link, c.into_served.ensures.journal, c.into_served.ensures.end)
-    (subst (λ k. InLockStep read (world_of c.args.session.table (g.T.Trace.samples c.args.session.trace)) k (g.L.Link.meaning c.args.link) (g.L.Link.meaning c.close.new.self.link) c.loop.desk.journal.events.items (end_of c.loop.desk.left c.close.new.self.over)) new (in_lock_step (world_of c.args.session.table (g.T.Trace.samples c.args.session.trace)) (machine_of c.args.session (map (option_map (λ b. (goal.Listener-dyn g (b.vtable, b.value)).heard b.value)) c.args.listeners.boxes.items)) (g.L.Link.meaning c.args.link) (g.L.Link.meaning c.loop.desk.outlet.link) (g.L.Link.meaning c.close.new.self.link) c.loop.desk (machine_of c.loop.session (map (option_map (λ b. (goal.Listener-dyn g (b.vtable, b.value)).heard b.value)) c.loop.listeners.boxes.items)) c.close.new.self (closing_lines (map (option_map (λ b. (goal.Listener-dyn g (b.vtable, b.value)).heard b.value)) c.loop.listeners.boxes.items)) c.close.ensures.over (λ made h. c.close.ensures.keeps (g.L.Link.meaning c.args.link) made (closing_lines (map (option_map (λ b. (goal.Listener-dyn g (b.vtable, b.value)).heard b.value)) c.loop.listeners.boxes.items)) c.closing_lines.ensures h) c.close.ensures.polls c.close.ensures.received c.loop.invariant.going read reader))
+    (subst (λ k. InLockStep read (world_of c.args.session.table (g.T.Trace.samples c.args.session.trace)) k (g.L.Link.meaning c.args.link) (g.L.Link.meaning c.close.new.outlet.link) c.loop.desk.journal.events.items (end_of c.loop.desk.left c.close.new.outlet.over)) new (in_lock_step (world_of c.args.session.table (g.T.Trace.samples c.args.session.trace)) (machine_of c.args.session (map (option_map (λ b. (goal.Listener-dyn g (b.vtable, b.value)).heard b.value)) c.args.listeners.boxes.items)) (g.L.Link.meaning c.args.link) (g.L.Link.meaning c.loop.desk.outlet.link) (g.L.Link.meaning c.close.new.outlet.link) c.loop.desk (machine_of c.loop.session (map (option_map (λ b. (goal.Listener-dyn g (b.vtable, b.value)).heard b.value)) c.loop.listeners.boxes.items)) c.close.new.outlet (closing_lines (map (option_map (λ b. (goal.Listener-dyn g (b.vtable, b.value)).heard b.value)) c.loop.listeners.boxes.items)) c.close.ensures.over (λ made h. c.close.ensures.keeps (g.L.Link.meaning c.args.link) made (closing_lines (map (option_map (λ b. (goal.Listener-dyn g (b.vtable, b.value)).heard b.value)) c.loop.listeners.boxes.items)) c.closing_lines.ensures h) c.close.ensures.polls c.close.ensures.received c.loop.invariant.going read reader))

@@ -1,5 +1,5 @@
 use Rattle.machine_core.specs.Journal.{Replied}
-use Rattle.duo_run.specs.Texts.{line_text}
+use Rattle.req_json.specs.Texts.{line_text}
 use Rattle.duo_run.proofs.Keeping.{asked_on}
 use Rattle.duo_run.proofs.desk.Desk.apply.Goals as goal
 

@@ -1,5 +1,6 @@
 use Rattle.std.proofs.Common.{◌∷◌, ◌++◌, [], Some, ap}
-use Rattle.duo_run.specs.Desks.{starved, none, polled_without}
+use Rattle.link_pump.specs.Outlets.{polled_without}
+use Rattle.duo_run.specs.Desks.{starved, none}
 use Rattle.duo_run.proofs.Keeping.{polled_on, same_desk}
 use Rattle.duo_run.proofs.desk.Desk.hear.Goals as goal
 

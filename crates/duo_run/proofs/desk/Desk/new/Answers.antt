@@ -1,5 +1,5 @@
 use Rattle.std.proofs.Common.{rules, ◌≡◌, None, Some}
-use Rattle.duo_run.specs.declared.cause.Cause.TheVariants as cause
+use Rattle.link_pump.specs.declared.cause.Cause.TheVariants as cause
 use Rattle.duo_run.proofs.Keeping.{fresh}
 use Rattle.duo_run.proofs.desk.Desk.new.Goals as goal
 

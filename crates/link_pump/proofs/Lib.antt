@@ -1,0 +1,5 @@
+pub mod Sending
+pub mod Ringing
+pub mod Naming
+pub mod Pumping
+pub mod Joining
