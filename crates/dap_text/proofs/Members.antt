@@ -1,5 +1,5 @@
 -- Objects of few members, as they are kept until they are written.
-use Rattle.std.proofs.Common.{◌≡◌, ℕ, List, [], refl, sym, ap, ◌∙◌}
+use Rattle.std.proofs.Common.{◌≡◌, ℕ, List, [], sym, ap, ◌∙◌}
 use Rattle.serde_json.specs.Data.{Data, Members, no_members}
 use Rattle.serde_json.specs.Written.{compact_text}
 use Rattle.req_json.specs.Objects.{MemberTexts, member_texts, one_member, put_text, two_members, with_member}

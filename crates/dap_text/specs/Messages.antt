@@ -1,6 +1,5 @@
 -- What an editor's message asks: which commands there are, which arguments each has, and of which kind each must be.
-use Rattle.std.specs.Prelude.{ℕ, ◌^◌, ◌||◌, Bool, true, false, List, nat_lt, is_some, codes, bytes_eq, Option, Some, None, option_and_then, option_map, if◌then◌else◌}
-use Rattle.std.specs.Option.{option_map_or}
+use Rattle.std.specs.Prelude.{ℕ, ◌^◌, Bool, true, false, List, nat_lt, is_some, codes, bytes_eq, Option, Some, None, option_and_then, if◌then◌else◌}
 use Rattle.serde_json.specs.Data.{Data}
 use Rattle.serde_json.specs.Find.{as_bool, as_object, as_str, get}
 use Rattle.symtab_json.specs.Entries.{kept_if, told_count, told_list, told_member}

@@ -1,7 +1,7 @@
 -- What the response to an editor's message tells, and what an event tells: each is a JSON object.
 use Rattle.std.specs.Prelude.{ℕ, ℤ, List, true, false, codes, Option, Some, None}
 use Rattle.exec_core.specs.Block.{Name}
-use Rattle.serde_json.specs.Data.{Data, Members, boolean, item, no_items, array, no_members, number, object, string}
+use Rattle.serde_json.specs.Data.{Data, Members, boolean, item, no_items, array, number, object, string}
 use Rattle.serde_json.specs.Find.{of_integer}
 use Rattle.serde_json.specs.Written.{compact_text}
 use Rattle.machine_core.specs.declared.reply.Shown.{Shown}
