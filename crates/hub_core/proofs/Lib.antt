@@ -1,0 +1,2 @@
+pub mod Journaling
+mod Sampled
