@@ -44,8 +44,10 @@ fn tell<'a, S: Sink>(
     out: &mut S,
 ) -> Result<&'a [u8], SinkEnd>
     ensures left { IfOk result (λ rest. rest.now ≡ (if is_bye answered.reply.body then [] else behind.now)) }
-    ensures passes { OnOk result (Passes (S.taken out.old) (S.taken out.new) text.old.items text.new.items (session_text (answered_lines answered.reply answered.notice))) }
-    ensures front { OnErr result (AppendsFront (S.taken out.old) (S.taken out.new) (text.old.items ++ session_text (answered_lines answered.reply answered.notice))) }
+    ensures passes { OnOk result (Passes (S.taken out.old) (S.taken out.new) text.old.items text.new.items
+        (session_text (answered_lines answered.reply answered.notice))) }
+    ensures front { OnErr result (AppendsFront (S.taken out.old) (S.taken out.new)
+        (text.old.items ++ session_text (answered_lines answered.reply answered.notice))) }
     ensures failed { IsErrOf result SinkEnd.Failed → Rose (S.fault_count out.old) (S.fault_count out.new) }
     ensures later { S.fault_count out.old ≤ S.fault_count out.new }
 {
@@ -61,8 +63,10 @@ fn close<S: Sink>(
     listeners: &Listeners,
     out: &mut S,
 ) -> Result<(), SinkEnd>
-    ensures ok { OnOk result (Appends (S.taken out.old) (S.taken out.new) (text.old.items ++ session_text (closing_lines (map (option_map (λ b. heard (b.vtable, b.value))) listeners.now.boxes.items)))) }
-    ensures front { OnErr result (AppendsFront (S.taken out.old) (S.taken out.new) (text.old.items ++ session_text (closing_lines (map (option_map (λ b. heard (b.vtable, b.value))) listeners.now.boxes.items)))) }
+    ensures ok { OnOk result (Appends (S.taken out.old) (S.taken out.new)
+        (text.old.items ++ session_text (closing_lines (map (option_map (λ b. heard (b.vtable, b.value))) listeners.now.boxes.items)))) }
+    ensures front { OnErr result (AppendsFront (S.taken out.old) (S.taken out.new)
+        (text.old.items ++ session_text (closing_lines (map (option_map (λ b. heard (b.vtable, b.value))) listeners.now.boxes.items)))) }
     ensures failed { IsErrOf result SinkEnd.Failed → Rose (S.fault_count out.old) (S.fault_count out.new) }
     ensures later { S.fault_count out.old ≤ S.fault_count out.new }
 {
@@ -82,8 +86,12 @@ pub fn run_batch<T: Trace + Drop, S: Sink>(
     requests: &[u8],
     out: &mut S,
 ) -> Result<(), SinkEnd>
-    ensures ok { OnOk result (TakesBatch (world_of session.table (T.samples session.trace)) (machine_of session (map (option_map (λ b. heard (b.vtable, b.value))) listeners.boxes.items)) requests.now (S.taken out.old) (S.taken out.new)) }
-    ensures front { OnErr result (TakesBatchFront (world_of session.table (T.samples session.trace)) (machine_of session (map (option_map (λ b. heard (b.vtable, b.value))) listeners.boxes.items)) requests.now (S.taken out.old) (S.taken out.new)) }
+    ensures ok { OnOk result (TakesBatch (world_of session.table (T.samples session.trace))
+        (machine_of session (map (option_map (λ b. heard (b.vtable, b.value))) listeners.boxes.items)) requests.now (S.taken out.old)
+        (S.taken out.new)) }
+    ensures front { OnErr result (TakesBatchFront (world_of session.table (T.samples session.trace))
+        (machine_of session (map (option_map (λ b. heard (b.vtable, b.value))) listeners.boxes.items)) requests.now (S.taken out.old)
+        (S.taken out.new)) }
     ensures failed { IsErrOf result SinkEnd.Failed → Rose (S.fault_count out.old) (S.fault_count out.new) }
     ensures later { S.fault_count out.old ≤ S.fault_count out.new }
 {

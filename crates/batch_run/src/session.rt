@@ -28,8 +28,10 @@ pub fn write_batch<T: Trace + Drop, S: Sink>(
 ) -> Result<(), SinkEnd>
     requires fits { FitsTable table (T.samples trace) }
     requires few { length listeners.items ≤ 65536 }
-    ensures ok { OnOk result (TakesOutput (trace_world table (T.samples trace)) (map (λ b. heard b) listeners.items) requests.now (S.taken out.old) (S.taken out.new)) }
-    ensures front { OnErr result (TakesOutputFront (trace_world table (T.samples trace)) (map (λ b. heard b) listeners.items) requests.now (S.taken out.old) (S.taken out.new)) }
+    ensures ok { OnOk result (TakesOutput (trace_world table (T.samples trace)) (map (λ b. heard b) listeners.items) requests.now (S.taken out.old)
+        (S.taken out.new)) }
+    ensures front { OnErr result (TakesOutputFront (trace_world table (T.samples trace)) (map (λ b. heard b) listeners.items) requests.now
+        (S.taken out.old) (S.taken out.new)) }
     ensures failed { IsErrOf result SinkEnd.Failed → Rose (S.fault_count out.old) (S.fault_count out.new) }
     ensures later { S.fault_count out.old ≤ S.fault_count out.new }
 {

@@ -39,7 +39,8 @@ impl Walk {
         requires within { IsWithin self.old.terms branch.enable }
         requires test { IsWithin self.old.terms branch.test }
         ensures grown { OnOk result (Grown self.old self.new) }
-        ensures stands { IfOk result (λ id. Stands self.new.terms id (else_enable (tree_for self.old.terms branch.enable) (tree_for self.old.terms branch.test))) }
+        ensures stands { IfOk result (λ id. Stands self.new.terms id
+            (else_enable (tree_for self.old.terms branch.enable) (tree_for self.old.terms branch.test))) }
     {
         let opposite = self.unary(UnOp::Not, branch.test)?;
         let enable = self.binary(Op::And, branch.enable, opposite)?;
@@ -73,7 +74,8 @@ impl Walk {
         requires test { IsWithin self.old.terms test }
         requires within { IsWithin self.old.terms value }
         ensures grown { OnOk result (Grown self.old self.new) }
-        ensures stands { IfOk result (λ id. Stands self.new.terms id (or_literals (tree_for self.old.terms test) (tree_for self.old.terms value) (map literal_of literals.now))) }
+        ensures stands { IfOk result (λ id. Stands self.new.terms id
+            (or_literals (tree_for self.old.terms test) (tree_for self.old.terms value) (map literal_of literals.now))) }
     {
         let mut found = test;
         for literal in literals {

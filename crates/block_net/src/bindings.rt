@@ -1,3 +1,6 @@
+//! What is pending for keys at the end of a branch, and the choice between two ends. A key keeps which of its bits are assigned on every path, which
+//! decides `unset`.
+
 ghost use Rattle.std.specs.Prelude.{◌≡◌, [], IfOk, OnOk};
 ghost use Rattle.names.specs.Maps.{value_of};
 ghost use Rattle.name_widths.specs.DeclaredWidths.{width_at};
@@ -68,7 +71,8 @@ fn choice(
     requires first { IsWithin walk.old.terms first.id }
     requires second { IsWithin walk.old.terms second.id }
     ensures grown { OnOk result (Grown walk.old walk.new) }
-    ensures stands { IfOk result (λ chosen. StandsFor walk.new.terms chosen (choice (tree_for walk.old.terms test) (pending_in walk.old.terms first) (pending_in walk.old.terms second))) }
+    ensures stands { IfOk result (λ chosen. StandsFor walk.new.terms chosen
+        (choice (tree_for walk.old.terms test) (pending_in walk.old.terms first) (pending_in walk.old.terms second))) }
 {
     let id = walk.mux(test, first.id, second.id)?;
     let bits = first.bits.common(second.bits);

@@ -116,7 +116,8 @@ fn walk_both(
     requires test { IsWithin walk.old.terms branch.test }
     requires yes { BodyFits (body_in clocked yes.now) }
     requires no { BodyFits (else_in clocked no.now) }
-    ensures { OnOk result (ThroughBoth (width_at (value_of widths.now)) (tree_for walk.old.terms branch.enable) (tree_for walk.old.terms branch.test) (body_in clocked yes.now) (else_in clocked no.now) walk.old walk.new) }
+    ensures { OnOk result (ThroughBoth (width_at (value_of widths.now)) (tree_for walk.old.terms branch.enable) (tree_for walk.old.terms branch.test)
+        (body_in clocked yes.now) (else_in clocked no.now) walk.old walk.new) }
 {
     let keys = assigned(alloc, clocked, yes, no)?;
     let firsts = walk_first(alloc, widths, walk, clocked, branch, yes, &keys)?;
@@ -141,9 +142,12 @@ fn walk_first(
     requires test { IsWithin walk.old.terms branch.test }
     requires parts { BodyFits (body_in clocked yes.now) }
     requires cover { Cover keys.now (body_in clocked yes.now) }
-    ensures through { OnOk result (Walked (width_at (value_of widths.now)) walk.old walk.new (body_rows (width_at (value_of widths.now)) (body_in clocked yes.now) (then_enable (tree_for walk.old.terms branch.enable) (tree_for walk.old.terms branch.test)) (state_of walk.old)) (state_of walk.old)) }
+    ensures through { OnOk result (Walked (width_at (value_of widths.now)) walk.old walk.new
+        (body_rows (width_at (value_of widths.now)) (body_in clocked yes.now)
+        (then_enable (tree_for walk.old.terms branch.enable) (tree_for walk.old.terms branch.test)) (state_of walk.old)) (state_of walk.old)) }
     ensures keys { IfOk result (λ firsts. among (keys_of firsts.items) ≡ among keys.now) }
-    ensures bind { IfOk result (λ firsts. Bind walk.new.terms (body_trees_after (width_at (value_of widths.now)) (body_in clocked yes.now) (state_of walk.old)) firsts.items) }
+    ensures bind { IfOk result (λ firsts. Bind walk.new.terms
+        (body_trees_after (width_at (value_of widths.now)) (body_in clocked yes.now) (state_of walk.old)) firsts.items) }
 {
     let before = pick(alloc, walk, keys)?;
     walk_yes(alloc, widths, walk, clocked, branch, yes)?;
@@ -169,7 +173,9 @@ fn walk_second(
     requires test { IsWithin walk.old.terms branch.test }
     requires parts { BodyFits (else_in clocked no.now) }
     requires firsts { HaveTerms walk.old.terms firsts.now }
-    ensures { OnOk result (Joins (width_at (value_of widths.now)) (else_enable (tree_for walk.old.terms branch.enable) (tree_for walk.old.terms branch.test)) (tree_for walk.old.terms branch.test) (else_in clocked no.now) firsts.now walk.old walk.new) }
+    ensures { OnOk result (Joins (width_at (value_of widths.now))
+        (else_enable (tree_for walk.old.terms branch.enable) (tree_for walk.old.terms branch.test)) (tree_for walk.old.terms branch.test)
+        (else_in clocked no.now) firsts.now walk.old walk.new) }
 {
     walk_no(alloc, widths, walk, clocked, branch, no)?;
     let chosen = choose(alloc, walk, branch.test, firsts)?;
@@ -192,7 +198,8 @@ fn walk_yes(
     requires within { IsWithin walk.old.terms branch.enable }
     requires test { IsWithin walk.old.terms branch.test }
     requires parts { BodyFits (body_in clocked yes.now) }
-    ensures { OnOk result (Through (width_at (value_of widths.now)) (then_enable (tree_for walk.old.terms branch.enable) (tree_for walk.old.terms branch.test)) (body_in clocked yes.now) walk.old walk.new) }
+    ensures { OnOk result (Through (width_at (value_of widths.now))
+        (then_enable (tree_for walk.old.terms branch.enable) (tree_for walk.old.terms branch.test)) (body_in clocked yes.now) walk.old walk.new) }
 {
     let enable = walk.binary(Op::And, branch.enable, branch.test)?;
     walk_body(alloc, widths, walk, clocked, enable, yes)?;
@@ -214,7 +221,8 @@ fn walk_no(
     requires within { IsWithin walk.old.terms branch.enable }
     requires test { IsWithin walk.old.terms branch.test }
     requires parts { BodyFits (else_in clocked no.now) }
-    ensures { OnOk result (Through (width_at (value_of widths.now)) (else_enable (tree_for walk.old.terms branch.enable) (tree_for walk.old.terms branch.test)) (else_in clocked no.now) walk.old walk.new) }
+    ensures { OnOk result (Through (width_at (value_of widths.now))
+        (else_enable (tree_for walk.old.terms branch.enable) (tree_for walk.old.terms branch.test)) (else_in clocked no.now) walk.old walk.new) }
 {
     let enable = walk.else_enable(branch)?;
     walk_else(alloc, widths, walk, clocked, enable, no)?;
@@ -261,7 +269,8 @@ fn walk_case(
     requires test { IsWithin walk.old.terms branch.test }
     requires parts { ArmsFit (arms_in clocked arms.now) }
     requires other { BodyFits (else_in clocked other.now) }
-    ensures { OnOk result (ThroughCase (width_at (value_of widths.now)) (tree_for walk.old.terms branch.enable) (tree_for walk.old.terms branch.test) (arms_in clocked arms.now) (else_in clocked other.now) walk.old walk.new) }
+    ensures { OnOk result (ThroughCase (width_at (value_of widths.now)) (tree_for walk.old.terms branch.enable) (tree_for walk.old.terms branch.test)
+        (arms_in clocked arms.now) (else_in clocked other.now) walk.old walk.new) }
 {
     if arms.is_empty() {
         let test = walk.constant(1, 0)?;
@@ -293,9 +302,11 @@ fn walk_arms(
     requires test { IsWithin walk.old.terms branch.test }
     requires parts { ArmsFit (arms_in clocked arms.now) }
     requires other { BodyFits (else_in clocked other.now) }
-    ensures through { OnOk result (ThroughArms (width_at (value_of widths.now)) (tree_for walk.old.terms branch.enable) (tree_for walk.old.terms branch.test) (arms_in clocked arms.now) (else_in clocked other.now) walk.old walk.new) }
+    ensures through { OnOk result (ThroughArms (width_at (value_of widths.now)) (tree_for walk.old.terms branch.enable)
+        (tree_for walk.old.terms branch.test) (arms_in clocked arms.now) (else_in clocked other.now) walk.old walk.new) }
     ensures count { IfOk result (λ ends. length ends.items ≡ length (arms_in clocked arms.now)) }
-    ensures ends { IfOk result (λ ends. AllEnd walk.new.terms (width_at (value_of widths.now)) (tree_for walk.old.terms branch.test) (state_of walk.old) (arms_in clocked arms.now) (else_in clocked other.now) ends.items) }
+    ensures ends { IfOk result (λ ends. AllEnd walk.new.terms (width_at (value_of widths.now)) (tree_for walk.old.terms branch.test)
+        (state_of walk.old) (arms_in clocked arms.now) (else_in clocked other.now) ends.items) }
 {
     let order = order_of(alloc, clocked, arms, other)?;
     let mut ends = Vec::new(alloc);

@@ -1,3 +1,5 @@
+//! What a walk tells of a block, in order: a log. From it come both the rows of the statements and the last trees, so that the two cannot differ.
+
 use crate::{Key, TermId};
 
 /// What a walk through a block did. No id: no tree.

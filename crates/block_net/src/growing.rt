@@ -96,7 +96,8 @@ impl Walk {
         requires first { IsWithin self.old.terms a }
         requires second { IsWithin self.old.terms b }
         ensures grown { OnOk result (Grown self.old self.new) }
-        ensures stands { IfOk result (λ id. Stands self.new.terms id (on_three Mux (tree_for self.old.terms test) (tree_for self.old.terms a) (tree_for self.old.terms b))) }
+        ensures stands { IfOk result (λ id. Stands self.new.terms id
+            (on_three Mux (tree_for self.old.terms test) (tree_for self.old.terms a) (tree_for self.old.terms b))) }
     {
         let id = self.terms.mux(test, a, b)?;
         Ok(id)

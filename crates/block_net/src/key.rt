@@ -1,3 +1,5 @@
+//! What an assignment sets. A register has two keys: what it is read as in its block, and what it holds in the next cycle.
+
 ghost use Rattle.std.specs.Prelude.{◌≡◌, IfOk};
 ghost use Rattle.exec_core.specs.Block.{key_name};
 ghost use Rattle.block_net.specs.Logs.{key_of};

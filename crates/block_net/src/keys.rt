@@ -1,3 +1,5 @@
+//! Which keys the statements of a block assign. A merge behind branches goes over these alone, and not over all names in scope.
+
 ghost use Rattle.std.specs.Prelude.{◌≡◌, IfOk, OnOk};
 ghost use Rattle.exec_core.specs.Block.{Done, assigns, body_assigns};
 ghost use Rattle.design_exec.specs.Processes.{target as the_target};

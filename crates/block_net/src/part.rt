@@ -67,7 +67,8 @@ impl Walk {
         requires within { IsWithin self.old.terms value }
         requires width { width < 2 ^ 63 }
         ensures grown { OnOk result (Grown self.old self.new) }
-        ensures stands { IfOk result (λ id. Stands self.new.terms id (on_one (tree_with_high width high (tree_at (trees_of self.old.terms) old.0)) (tree_for self.old.terms value))) }
+        ensures stands { IfOk result (λ id. Stands self.new.terms id
+            (on_one (tree_with_high width high (tree_at (trees_of self.old.terms) old.0)) (tree_for self.old.terms value))) }
     {
         if u64::from(high) + 1 == width {
             return Ok(value);
@@ -88,7 +89,8 @@ impl Walk {
         requires old { old.0 < length self.old.terms }
         requires within { IsWithin self.old.terms value }
         ensures grown { OnOk result (Grown self.old self.new) }
-        ensures stands { IfOk result (λ id. Stands self.new.terms id (on_one (tree_with_low low (tree_at (trees_of self.old.terms) old.0)) (tree_for self.old.terms value))) }
+        ensures stands { IfOk result (λ id. Stands self.new.terms id
+            (on_one (tree_with_low low (tree_at (trees_of self.old.terms) old.0)) (tree_for self.old.terms value))) }
     {
         if low == 0 {
             return Ok(value);
@@ -112,7 +114,8 @@ impl Walk {
         requires within { IsWithin self.old.terms value }
         requires width { width < 2 ^ 63 }
         ensures grown { OnOk result (Grown self.old self.new) }
-        ensures stands { IfOk result (λ id. Stands self.new.terms id (on_one (spliced width (record { high = high; low = low }) (tree_at (trees_of self.old.terms) old.0)) (tree_for self.old.terms value))) }
+        ensures stands { IfOk result (λ id. Stands self.new.terms id
+            (on_one (spliced width (record { high = high; low = low }) (tree_at (trees_of self.old.terms) old.0)) (tree_for self.old.terms value))) }
     {
         let value = self.with_high(width, high, old, value)?;
         let whole = self.with_low(low, old, value)?;
@@ -133,7 +136,8 @@ impl Walk {
         requires within { IsWithin self.old.terms value }
         requires width { width < 2 ^ 63 }
         ensures grown { OnOk result (Grown self.old self.new) }
-        ensures stands { IfOk result (λ id. Stands self.new.terms id (on_two (spliced width (record { high = high; low = low })) (tree_for self.old.terms old) (tree_for self.old.terms value))) }
+        ensures stands { IfOk result (λ id. Stands self.new.terms id
+            (on_two (spliced width (record { high = high; low = low })) (tree_for self.old.terms old) (tree_for self.old.terms value))) }
     {
         match old {
             Some(old) => self.around(width, high, low, old, value),
@@ -156,7 +160,9 @@ impl Walk {
         requires within { IsWithin self.old.terms value }
         requires high { high < 128 }
         requires low { low ≤ high }
-        ensures { OnOk result (Walked (width_at (value_of widths.now)) self.old self.new [] (write spliced (width_at (value_of widths.now)) (key_of key) (Some (record { high = high; low = low })) (tree_for self.old.terms value) (state_of self.old))) }
+        ensures { OnOk result (Walked (width_at (value_of widths.now)) self.old self.new []
+            (write spliced (width_at (value_of widths.now)) (key_of key) (Some (record { high = high; low = low })) (tree_for self.old.terms value)
+            (state_of self.old))) }
     {
         let old = self.pending_of(alloc, &key)?;
         let id = self.splice(bits_of(widths, key.name()), high, low, old.id, value)?;
@@ -179,7 +185,8 @@ impl Walk {
         requires shows { Shows (width_at (value_of widths.now)) self.old }
         requires within { IsWithin self.old.terms value }
         requires part { PartFits (part_of part) }
-        ensures { OnOk result (Walked (width_at (value_of widths.now)) self.old self.new [] (write spliced (width_at (value_of widths.now)) (key_of key) (part_of part) (tree_for self.old.terms value) (state_of self.old))) }
+        ensures { OnOk result (Walked (width_at (value_of widths.now)) self.old self.new []
+            (write spliced (width_at (value_of widths.now)) (key_of key) (part_of part) (tree_for self.old.terms value) (state_of self.old))) }
     {
         match part {
             Some((high, low)) => self.assign_part(alloc, widths, key, bits(high), bits(low), value),

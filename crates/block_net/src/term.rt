@@ -1,3 +1,5 @@
+//! Terms, the trees of a block as shared nodes: what is assigned twice is kept once, and no tree is ever copied.
+
 use design_core::{Op, UnOp};
 use text_core::Text;
 

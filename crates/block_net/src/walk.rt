@@ -157,7 +157,8 @@ impl Walk {
         requires fits { Fits self.old }
         requires shows { Shows (width_at (value_of widths.now)) self.old }
         requires within { IsWithin self.old.terms pending.id }
-        ensures { OnOk result (Walked (width_at (value_of widths.now)) self.old self.new [] (put (key_of key) (pending_in self.old.terms pending) (state_of self.old))) }
+        ensures { OnOk result (Walked (width_at (value_of widths.now)) self.old self.new []
+            (put (key_of key) (pending_in self.old.terms pending) (state_of self.old))) }
     {
         let shown = shown(widths, &key, pending);
         self.put(alloc, &key, Held { pending, shown })?;

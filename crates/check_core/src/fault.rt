@@ -1,3 +1,5 @@
+//! What a design can be refused for, in the order in which it is judged; and where.
+
 ghost use Rattle.std.specs.Prelude.{◌≡◌};
 ghost use Rattle.check_core.specs.declared.fault.CheckFault.TheVariants.{NoMemory};
 

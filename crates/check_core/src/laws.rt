@@ -1,3 +1,5 @@
+//! Designs worked by hand, by the definition of each refusal.
+
 ghost use Rattle.check_core.specs.Samples.{wide_is_refused, narrow_is_refused, second_driver_is_refused, latch_is_refused, default_is_accepted, early_read_is_refused, cycle_is_accepted, other_let_is_refused, second_name_is_refused, undriven_is_refused, unbound_is_refused, unknown_port_is_refused, connected_is_accepted, parts_are_accepted, part_is_refused, early_part_is_refused, high_part_is_refused};
 
 /// Small designs, worked by hand: one for each refusal, and designs that are accepted.

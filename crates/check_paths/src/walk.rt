@@ -172,7 +172,8 @@ fn walk_both(
     yes: &[Stmt],
     no: &Option<Vec<Stmt>>,
 ) -> Result<(), CheckFault>
-    ensures told { Tells result (earlier (early_in (width_at (value_of widths.now)) (missing (has watched.now) (all_bits frames.old)) (body_of yes.now)) (early_in_else (width_at (value_of widths.now)) (missing (has watched.now) (all_bits frames.old)) (else_of no.now))) }
+    ensures told { Tells result (earlier (early_in (width_at (value_of widths.now)) (missing (has watched.now) (all_bits frames.old))
+        (body_of yes.now)) (early_in_else (width_at (value_of widths.now)) (missing (has watched.now) (all_bits frames.old)) (else_of no.now))) }
     ensures assigned { OnOk result (bits_of frames.new.1 ≡ after_both (bits_of frames.old.1) (body_of yes.now) (else_of no.now)) }
     ensures kept { OnOk result (frames.new.0 ≡ frames.old.0) }
 {
@@ -193,7 +194,8 @@ fn walk_case(
     arms: &[Arm],
     other: &Option<Vec<Stmt>>,
 ) -> Result<(), CheckFault>
-    ensures told { Tells result (earlier (early_in_arms (width_at (value_of widths.now)) (missing (has watched.now) (all_bits frames.old)) (arms_of arms.now)) (early_in_else (width_at (value_of widths.now)) (missing (has watched.now) (all_bits frames.old)) (else_of other.now))) }
+    ensures told { Tells result (earlier (early_in_arms (width_at (value_of widths.now)) (missing (has watched.now) (all_bits frames.old))
+        (arms_of arms.now)) (early_in_else (width_at (value_of widths.now)) (missing (has watched.now) (all_bits frames.old)) (else_of other.now))) }
     ensures assigned { OnOk result (bits_of frames.new.1 ≡ after_case (bits_of frames.old.1) (arms_of arms.now) (else_of other.now)) }
     ensures kept { OnOk result (frames.new.0 ≡ frames.old.0) }
 {

@@ -138,7 +138,8 @@ fn let_mismatch(
     value: &Expr,
 ) -> Result<(), CheckFault>
     ensures told { Tells result (mismatch line name.now (the_width_in (widths_in lets.old signals.now) (expr_of value.now))) }
-    ensures lets { OnOk result (widths_in lets.new signals.now ≡ put_let name.now (the_width_in (widths_in lets.old signals.now) (expr_of value.now)) (widths_in lets.old signals.now)) }
+    ensures lets { OnOk result (widths_in lets.new signals.now
+        ≡ put_let name.now (the_width_in (widths_in lets.old signals.now) (expr_of value.now)) (widths_in lets.old signals.now)) }
 {
     let width = width_in(alloc, lets, signals, line, name, value)?;
     put_bits(alloc, lets, name, width)?;
@@ -156,7 +157,8 @@ fn assign_mismatch(
     part: Option<(i64, i64)>,
     value: &Expr,
 ) -> Result<(), CheckFault>
-    ensures { Tells result (mismatch line target.now (needed_by (the_part_width (the_width_of (widths_in lets.now signals.now) target.now) part) (the_width_in (widths_in lets.now signals.now) (expr_of value.now)))) }
+    ensures { Tells result (mismatch line target.now (needed_by (the_part_width (the_width_of (widths_in lets.now signals.now) target.now) part)
+        (the_width_in (widths_in lets.now signals.now) (expr_of value.now)))) }
 {
     let have = width_in(alloc, lets, signals, line, target, value)?;
     let found = part_width(width_of(lets, signals, target), part);
@@ -176,7 +178,8 @@ fn case_mismatch(
     value: &Expr,
     arms: &[Arm],
 ) -> Result<(), CheckFault>
-    ensures { Tells result (mismatch line name.now (the_arms_width (the_width_in (widths_in lets.now signals.now) (expr_of value.now)) (arm_literals (arms_of arms.now)))) }
+    ensures { Tells result (mismatch line name.now (the_arms_width (the_width_in (widths_in lets.now signals.now) (expr_of value.now))
+        (arm_literals (arms_of arms.now)))) }
 {
     let width = width_in(alloc, lets, signals, line, name, value)?;
     told(alloc, line, name, arms_width(width, arms))?;

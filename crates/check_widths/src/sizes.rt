@@ -1,3 +1,5 @@
+//! Whether widths, literals and slices are in range, before any two widths are compared.
+
 ghost use Rattle.std.specs.Prelude.{◌≡◌, ◌≤◌, ◌^◌, nat_lt};
 ghost use Rattle.design_core.specs.View.{expr_of};
 ghost use Rattle.check_core.specs.Widths.{is_declared, is_literal, is_part, is_sized, is_slice, is_width};

@@ -1,3 +1,5 @@
+//! The widths that operators take, and those that they give: one table, by which sources are judged.
+
 ghost use Rattle.std.specs.Prelude.{◌≡◌, ◌+◌, ◌<◌, ◌^◌, IfOk};
 ghost use Rattle.check_core.specs.Widths.{binary_width, mux_width, needed_width, part_width, slice_width, unary_width, where_same, zext_width};
 ghost use Rattle.design_core.specs.declared.expr.Op.TheVariants.{Cat};

@@ -64,7 +64,8 @@ fn refs_of<F: Fn(&str) -> Option<Binding>>(
     requires callable { F.IsAlwaysCallable find.now }
     requires texts { EachOf (λ name. IsUtf8 name) names.now }
     ensures good { IfOk result (λ refs. AreRefs refs.items) }
-    ensures found { (places : Name → Option binding.Binding) → Finds F.Fn find.now places names.now → TellsFound (λ refs. refs.items) result (found_after places [] names.now) }
+    ensures found { (places : Name → Option binding.Binding) → Finds F.Fn find.now places names.now
+        → TellsFound (λ refs. refs.items) result (found_after places [] names.now) }
 {
     let mut refs = Vec::new(alloc);
     for name in names {
@@ -106,9 +107,12 @@ pub fn bind<F: Fn(&str) -> Option<Binding>>(
     find: &F,
 ) -> Result<Cond, BindEnd>
     requires { F.IsAlwaysCallable find.now }
-    ensures width { (places : Name → Option binding.Binding) → Finds F.Fn find.now places (leaves (tree_of (text_expr text.now))) → IfOk result (λ cond. judged (scope_of places) (text_expr text.now) (text_offsets text.now) ≡ Ok (cond_width cond)) }
-    ensures bound { (places : Name → Option binding.Binding) → Finds F.Fn find.now places (leaves (tree_of (text_expr text.now))) → IfOk result (λ cond. cond_tree cond ≡ bound_by places (text_expr text.now)) }
-    ensures refused { (places : Name → Option binding.Binding) → Finds F.Fn find.now places (leaves (tree_of (text_expr text.now))) → IfErr result (λ end. Refuses end (judged (scope_of places) (text_expr text.now) (text_offsets text.now))) }
+    ensures width { (places : Name → Option binding.Binding) → Finds F.Fn find.now places (leaves (tree_of (text_expr text.now)))
+        → IfOk result (λ cond. judged (scope_of places) (text_expr text.now) (text_offsets text.now) ≡ Ok (cond_width cond)) }
+    ensures bound { (places : Name → Option binding.Binding) → Finds F.Fn find.now places (leaves (tree_of (text_expr text.now)))
+        → IfOk result (λ cond. cond_tree cond ≡ bound_by places (text_expr text.now)) }
+    ensures refused { (places : Name → Option binding.Binding) → Finds F.Fn find.now places (leaves (tree_of (text_expr text.now)))
+        → IfErr result (λ end. Refuses end (judged (scope_of places) (text_expr text.now) (text_offsets text.now))) }
 {
     let refs = refs_of(alloc, &text.names, find)?;
     cond_at(text, refs)

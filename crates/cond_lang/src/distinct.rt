@@ -107,8 +107,10 @@ pub(crate) fn fam_place(
     index: &Option<Box<Int>>,
 ) -> Result<usize, NoMemory>
     requires { names.old.list.items ≡ names.old.known }
-    ensures place { IfOk result (λ place. place ≡ place_in names.old.known (fam_name (fam_of_name name.now (option_map (λ index. int_of index.value) index.now)))) }
-    ensures known { OnOk result (names.new.known ≡ noted names.old.known (fam_name (fam_of_name name.now (option_map (λ index. int_of index.value) index.now)))) }
+    ensures place { IfOk result (λ place. place ≡ place_in names.old.known
+        (fam_name (fam_of_name name.now (option_map (λ index. int_of index.value) index.now)))) }
+    ensures known { OnOk result (names.new.known ≡ noted names.old.known
+        (fam_name (fam_of_name name.now (option_map (λ index. int_of index.value) index.now)))) }
     ensures same { OnOk result (names.new.list.items ≡ names.new.known) }
 {
     match index {
@@ -130,8 +132,10 @@ pub(crate) fn output_place(
     output: &[u8],
 ) -> Result<usize, NoMemory>
     requires { names.old.list.items ≡ names.old.known }
-    ensures place { IfOk result (λ place. place ≡ place_in names.old.known (output_name (fam_of_name name.now (option_map (λ index. int_of index.value) index.now)) output.now)) }
-    ensures known { OnOk result (names.new.known ≡ noted names.old.known (output_name (fam_of_name name.now (option_map (λ index. int_of index.value) index.now)) output.now)) }
+    ensures place { IfOk result (λ place. place ≡ place_in names.old.known
+        (output_name (fam_of_name name.now (option_map (λ index. int_of index.value) index.now)) output.now)) }
+    ensures known { OnOk result (names.new.known ≡ noted names.old.known
+        (output_name (fam_of_name name.now (option_map (λ index. int_of index.value) index.now)) output.now)) }
     ensures same { OnOk result (names.new.list.items ≡ names.new.known) }
 {
     spell_output(spelled, name, index, output)?;

@@ -26,7 +26,8 @@ pub struct CondText {
     pub(crate) names: Vec<Text>,
     pub(crate) form: Arc<Form>,
     ghost named: { names.items ≡ names_in [] (tree_of (read_as (length offsets.items) bytes)) },
-    ghost formed: { seats form.value.parts.items ≡ seated [] (read_as (length offsets.items) bytes) ∷ [] } by { seats_prop (seats form.value.parts.items) (seated [] (read_as (length offsets.items) bytes) ∷ []) },
+    ghost formed: { seats form.value.parts.items ≡ seated [] (read_as (length offsets.items) bytes) ∷ [] } by { seats_prop
+        (seats form.value.parts.items) (seated [] (read_as (length offsets.items) bytes) ∷ []) },
     ghost sized: { length offsets.items ≡ size (seated [] (read_as (length offsets.items) bytes)) },
 }
 

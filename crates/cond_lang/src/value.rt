@@ -1,5 +1,5 @@
-//! The value of a condition, from the bottom up, the last operand first, since a form begins with what stands last in the text. An operand that is not known leaves nothing known, in a branch of a `mux` that is not
-//! taken too.
+//! The value of a condition, from the bottom up, the last operand first, since a form begins with what stands last in the text. An operand that
+//! is not known leaves nothing known, in a branch of a `mux` that is not taken too.
 
 ghost use Rattle.std.specs.Prelude.{◌≡◌, ◌≤◌, ◌-◌, length};
 ghost use Rattle.bv_core.specs.declared.NodeId as node_id;
@@ -25,7 +25,9 @@ fn sample_at<F: Fn(NodeId) -> Sample>(at: Ref, value: &F) -> Sample
     requires callable { EachNode (λ node w. F.pre value.now node) (Leaf at) }
     requires widths { EachNode (λ node w. (found : sampled.Sample) → F.post value.now node found → HasWidth w found) (Leaf at) }
     ensures width { HasWidth (ref_width at) result }
-    ensures value { (samples : node_id.NodeId → sampled.Sample) → EachNode (λ node w. (found : sampled.Sample) → F.post value.now node found → found ≡ samples node) (Leaf at) → known result ≡ value_at samples at }
+    ensures value { (samples : node_id.NodeId → sampled.Sample)
+        → EachNode (λ node w. (found : sampled.Sample) → F.post value.now node found → found ≡ samples node) (Leaf at)
+        → known result ≡ value_at samples at }
 {
     match at {
         Ref::Node(node, _) => value(node),
@@ -145,7 +147,9 @@ pub fn value_of<F: Fn(NodeId) -> Sample>(cond: &Cond, value: &F) -> Sample
     requires callable { EachNode (λ node w. F.pre value.now node) (cond_tree cond.now) }
     requires widths { EachNode (λ node w. (found : sampled.Sample) → F.post value.now node found → HasWidth w found) (cond_tree cond.now) }
     ensures width { HasWidth (cond_width cond.now) result }
-    ensures value { (samples : node_id.NodeId → sampled.Sample) → EachNode (λ node w. (found : sampled.Sample) → F.post value.now node found → found ≡ samples node) (cond_tree cond.now) → known result ≡ bound_value samples (cond_tree cond.now) }
+    ensures value { (samples : node_id.NodeId → sampled.Sample)
+        → EachNode (λ node w. (found : sampled.Sample) → F.post value.now node found → found ≡ samples node) (cond_tree cond.now)
+        → known result ≡ bound_value samples (cond_tree cond.now) }
 {
     let (found, _) = sampled(&cond.form.parts, &cond.refs, value);
     found
@@ -156,7 +160,8 @@ pub fn truth<F: Fn(NodeId) -> Sample>(cond: &Cond, value: &F) -> Truth
     requires bit { cond_width cond.now ≡ 1 }
     requires callable { EachNode (λ node w. F.pre value.now node) (cond_tree cond.now) }
     requires widths { EachNode (λ node w. (found : sampled.Sample) → F.post value.now node found → HasWidth w found) (cond_tree cond.now) }
-    ensures { (samples : node_id.NodeId → sampled.Sample) → EachNode (λ node w. (found : sampled.Sample) → F.post value.now node found → found ≡ samples node) (cond_tree cond.now) → result ≡ truth_of (bound_value samples (cond_tree cond.now)) }
+    ensures { (samples : node_id.NodeId → sampled.Sample) → EachNode (λ node w. (found : sampled.Sample) → F.post value.now node found
+        → found ≡ samples node) (cond_tree cond.now) → result ≡ truth_of (bound_value samples (cond_tree cond.now)) }
 {
     truth_of(value_of(cond, value))
 }

@@ -39,7 +39,7 @@ status_of NotRead = 7
 status_of NotTaken = 8
 status_of OutOfMemory = 9
 
--- the statuses that a run ends with
+-- the statuses that a run of a command over a design ends with; a replay may end with 5 too (`is_status_of` of `Call`)
 abbrev pub is_status : ℕ → Bool
 is_status status =
     status == status_of Written || status == status_of NoCommand || status == status_of NoDesign || status == status_of NoStimulus

@@ -92,7 +92,8 @@ pub(crate) fn command_with<'a>(
 ) -> Option<Command<'a>>
     requires { first ≤ length words.now }
     ensures task { IfSome result (λ command. command.task ≡ task.entry) }
-    ensures command { option_map command_as result ≡ the_command_with (task_as task.entry) source.now (stimulus_as task.entry) (requests_as task.entry) top.now (drop first words.now) mode }
+    ensures command { option_map command_as result ≡ the_command_with (task_as task.entry) source.now (stimulus_as task.entry)
+        (requests_as task.entry) top.now (drop first words.now) mode }
 {
     if source.is_empty() || !has_files(task) || !is_name(top.as_bytes()) {
         return None;

@@ -114,7 +114,8 @@ fn judge_session<F: Files>(
 ) -> Result<Judged, Halt>
     requires task { command.now.task ≡ Session stimulus requests }
     requires kept { IsKept (accepting_of accepted) }
-    ensures judged { IfOk result (λ judged. IfSome (F.told files.old) (λ told. HoldsDesign told (command_as command.now) (design_of accepted.design) → Judges told (command_as command.now) judged)) }
+    ensures judged { IfOk result (λ judged. IfSome (F.told files.old) (λ told. HoldsDesign told (command_as command.now) (design_of accepted.design)
+        → Judges told (command_as command.now) judged)) }
     ensures text { IfOk result HasText }
     ensures command { IfOk result (λ judged. judged ≡ Judged.NoCommand → ⊥) }
     ensures named { IfOk result (RefusesNamed (Some stimulus.now) (Some requests.now)) }
@@ -150,7 +151,8 @@ fn judge_command<F: Files>(
     ensures asked { IfOk result (AsksFor (F.told files.old) (Some (command_as command.now)) (F.asked files.old) (F.asked files.new)) }
     ensures front { AsksFrontOf (F.told files.old) (Some (command_as command.now)) (F.asked files.old) (F.asked files.new) }
     ensures read { IsErrOf result Halt.ReadFault → Rose (F.fault_count files.old) (F.fault_count files.new) }
-    ensures unread { IsErrOf result Halt.ReadFault → StopsInsideOf (F.told files.old) (Some (command_as command.now)) F.asked F.fault_count files.old files.new }
+    ensures unread { IsErrOf result Halt.ReadFault → StopsInsideOf (F.told files.old)
+        (Some (command_as command.now)) F.asked F.fault_count files.old files.new }
     ensures no_write { IsErrOf result Halt.WriteFault → ⊥ }
     ensures later { F.fault_count files.old ≤ F.fault_count files.new }
 {

@@ -74,7 +74,8 @@ pub fn run<F: Files, S: Sink>(
 
     // Where the files are told: the status and the whole text that they ask for.
     ensures done { result.status < 7
-        → IfCalled (F.told files.old) (call_of words.now) (λ told call. EndsAsCalled (map (λ b. heard b) listeners.items) told call result.status (S.taken out.old) (S.taken out.new)) }
+        → IfCalled (F.told files.old) (call_of words.now) (λ told call. EndsAsCalled (map (λ b. heard b) listeners.items) told call result.status
+        (S.taken out.old) (S.taken out.new)) }
 
     // Where the files ask for an answer and nothing fails: its status and the whole of its text, or want of memory. Where the
     // design has several loops, it may be the text of another of them.
@@ -85,7 +86,8 @@ pub fn run<F: Files, S: Sink>(
     // The files that are asked for are those of the words, in their order, and behind a source those that it imports, by their numbers:
     // up to the one that is refused, or that was not read.
     ensures asked { call.AsksFrontOf (F.told files.old) (call_of words.now) (F.asked files.old) (F.asked files.new) }
-    ensures files { call.AsksByStatus (F.told files.old) (call_of words.now) result.status (F.asked files.old) (F.asked files.new) (S.taken out.old) (S.taken out.new) }
+    ensures files { call.AsksByStatus (F.told files.old) (call_of words.now) result.status (F.asked files.old) (F.asked files.new) (S.taken out.old)
+        (S.taken out.new) }
     ensures unread { result.status ≡ 7 → call.StopsInsideOf (F.told files.old) (call_of words.now) F.asked F.fault_count files.old files.new }
 
     // A fault of the files, before anything was written.
@@ -95,7 +97,8 @@ pub fn run<F: Files, S: Sink>(
     // A fault of the output, or want of memory: a front of the text.
     ensures write { result.status ≡ 8 → Rose (S.fault_count out.old) (S.fault_count out.new) }
     ensures front { 7 < result.status
-        → IfCalled (F.told files.old) (call_of words.now) (λ told call. TakesSomeOf (map (λ b. heard b) listeners.items) told call (S.taken out.old) (S.taken out.new)) }
+        → IfCalled (F.told files.old) (call_of words.now) (λ told call. TakesSomeOf (map (λ b. heard b) listeners.items) told call (S.taken out.old)
+        (S.taken out.new)) }
     ensures usage_front { call_of words.now ≡ None → AppendsFront (S.taken out.old) (S.taken out.new) usage_fault }
 
     // With status 0 of `symbols`, `sim` and `debug`: the design has the net and the table that they stand on.
@@ -144,7 +147,8 @@ fn run_design<F: Files, S: Sink>(
 
     // Where the files are told: the status and the whole text that they ask for.
     ensures done { result.status < 7
-        → IfAsked (F.told files.old) (command_of words.now) (λ told command. EndsAsAsked (map (λ b. heard b) listeners.items) told command result.status (S.taken out.old) (S.taken out.new)) }
+        → IfAsked (F.told files.old) (command_of words.now) (λ told command. EndsAsAsked
+        (map (λ b. heard b) listeners.items) told command result.status (S.taken out.old) (S.taken out.new)) }
 
     // Where the files ask for an answer and nothing fails: its status and the whole of its text, or want of memory. Where the
     // design has several loops, it may be the text of another of them.
@@ -165,7 +169,8 @@ fn run_design<F: Files, S: Sink>(
     // A fault of the output, or want of memory: a front of the text.
     ensures write { result.status ≡ 8 → Rose (S.fault_count out.old) (S.fault_count out.new) }
     ensures front { 7 < result.status
-        → IfAsked (F.told files.old) (command_of words.now) (λ told command. TakesSome (map (λ b. heard b) listeners.items) told command (S.taken out.old) (S.taken out.new)) }
+        → IfAsked (F.told files.old) (command_of words.now) (λ told command. TakesSome (map (λ b. heard b) listeners.items) told command
+        (S.taken out.old) (S.taken out.new)) }
     ensures usage_front { command_of words.now ≡ None → AppendsFront (S.taken out.old) (S.taken out.new) usage_fault }
 
     // With status 0 of `symbols`, `sim` and `debug`: the design has the net and the table that they stand on.

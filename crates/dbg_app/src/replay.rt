@@ -10,7 +10,8 @@ use replay_run::Replay;
 
 /// Whether none of its names is empty.
 fn are_some(replay: &Replay<'_>) -> bool
-    ensures { result ≡ ((is_some_word replay.now.symbols.now && is_some_word replay.now.dump.now) && (is_some_word replay.now.scope.now && is_some_word replay.now.requests.now)) }
+    ensures { result ≡ ((is_some_word replay.now.symbols.now && is_some_word replay.now.dump.now) &&
+        (is_some_word replay.now.scope.now && is_some_word replay.now.requests.now)) }
 {
     !replay.symbols.is_empty()
         && !replay.dump.is_empty()

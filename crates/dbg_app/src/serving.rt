@@ -60,8 +60,10 @@ pub fn serve<R: Threads + Wait + Sync, F: Files, S: Sink, D: Door>(
     ensures usage_line { result.status ≡ 2 → Appends (S.taken out.old) (S.taken out.new) usage_fault }
     ensures design_line { result.status ≡ 3 → TakesDesignLine (S.taken out.old) (S.taken out.new) }
     ensures stimulus_line { result.status ≡ 4 → TakesStimulusLine (S.taken out.old) (S.taken out.new) }
-    ensures unserved { result.status ≢ 0 → result.status < 8 → AsksNone (D.left door.old) (D.left door.new) (D.fault_count door.old) (D.fault_count door.new) result.served.items }
-    ensures no_link { offer_of words.now ≡ None → AsksNone (D.left door.old) (D.left door.new) (D.fault_count door.old) (D.fault_count door.new) result.served.items }
+    ensures unserved { result.status ≢ 0 → result.status < 8 → AsksNone (D.left door.old) (D.left door.new) (D.fault_count door.old)
+        (D.fault_count door.new) result.served.items }
+    ensures no_link { offer_of words.now ≡ None → AsksNone (D.left door.old) (D.left door.new) (D.fault_count door.old)
+        (D.fault_count door.new) result.served.items }
 
     // Where the files are told: the status and the whole text that they ask for.
     ensures refused { result.status ≢ 0 → result.status < 7
@@ -80,7 +82,8 @@ pub fn serve<R: Threads + Wait + Sync, F: Files, S: Sink, D: Door>(
     // numbers: up to the one that is refused, or that was not read.
     ensures asked { AsksFrontOf (F.told files.old) (option_map offer_files (offer_of words.now)) (F.asked files.old) (F.asked files.new) }
     ensures files { AsksByStatus (F.told files.old) (offer_of words.now) result.status (F.asked files.old) (F.asked files.new) }
-    ensures unread { result.status ≡ 7 → StopsInsideOf (F.told files.old) (option_map offer_files (offer_of words.now)) F.asked F.fault_count files.old files.new }
+    ensures unread { result.status ≡ 7 → StopsInsideOf (F.told files.old)
+        (option_map offer_files (offer_of words.now)) F.asked F.fault_count files.old files.new }
 
     // A fault of the files, before anything was written.
     ensures read { result.status ≡ 7 → Rose (F.fault_count files.old) (F.fault_count files.new) }
@@ -91,7 +94,8 @@ pub fn serve<R: Threads + Wait + Sync, F: Files, S: Sink, D: Door>(
     ensures front { 7 < result.status
         → IfOffered (F.told files.old) (offer_of words.now) (λ told offer.
         ServesFront (λ l. D.Out.meaning l) told offer (reverse (map (λ s. map (λ b. heard b) s.items) sets.items))
-        (D.left door.old) (D.left door.new) (D.fault_count door.old) (D.fault_count door.new) result.served.items (S.taken out.old) (S.taken out.new) result.status) }
+        (D.left door.old) (D.left door.new) (D.fault_count door.old) (D.fault_count door.new) result.served.items (S.taken out.old)
+        (S.taken out.new) result.status) }
     ensures usage_front { offer_of words.now ≡ None → AppendsFront (S.taken out.old) (S.taken out.new) usage_fault }
 
     // What stays: what the files tell, the bytes that the sink took before, and no count falls.

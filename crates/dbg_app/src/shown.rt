@@ -67,7 +67,8 @@ fn show<F: Files>(
 ) -> Result<Shown, Halt>
     requires stimulus { stimulus_as command.now.task ≡ Some stimulus.now }
     requires kept { IsKept (accepting_of accepted) }
-    ensures judged { IfOk result (λ shown. IfSome (F.told files.old) (λ told. HoldsDesign told (command_as command.now) (design_of accepted.design) → JudgesOffer told (command_as command.now) shown)) }
+    ensures judged { IfOk result (λ shown. IfSome (F.told files.old) (λ told. HoldsDesign told (command_as command.now) (design_of accepted.design)
+        → JudgesOffer told (command_as command.now) shown)) }
     ensures shown { IfOk result IsShown }
     ensures same { F.told files.new ≡ F.told files.old }
     ensures asked { IfOk result (λ shown. Appends (F.asked files.old) (F.asked files.new) (asked_show stimulus.now shown)) }
@@ -102,7 +103,8 @@ pub(crate) fn judge_shown<F: Files>(
     ensures asked { IfOk result (AsksShown (F.told files.old) (command_as command.now) (F.asked files.old) (F.asked files.new)) }
     ensures front { AsksFrontOf (F.told files.old) (Some (command_as command.now)) (F.asked files.old) (F.asked files.new) }
     ensures read { IsErrOf result Halt.ReadFault → Rose (F.fault_count files.old) (F.fault_count files.new) }
-    ensures unread { IsErrOf result Halt.ReadFault → StopsInsideOf (F.told files.old) (Some (command_as command.now)) F.asked F.fault_count files.old files.new }
+    ensures unread { IsErrOf result Halt.ReadFault → StopsInsideOf (F.told files.old)
+        (Some (command_as command.now)) F.asked F.fault_count files.old files.new }
     ensures no_write { IsErrOf result Halt.WriteFault → ⊥ }
     ensures later { F.fault_count files.old ≤ F.fault_count files.new }
 {

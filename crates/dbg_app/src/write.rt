@@ -91,8 +91,10 @@ fn write_asked<S: Sink>(
     requires kept { IsKept (accepting_of accepted.now) }
     requires ports { stim.ports ≡ accepted.now.ports }
     requires few { length listeners.items ≤ 65536 }
-    ensures ok { OnOk result (TakesSession (design_of accepted.now.design) (length accepted.now.order) mode stim.rows (map (λ b. heard b) listeners.items) requests.now (S.taken out.old) (S.taken out.new)) }
-    ensures front { OnErr result (TakesSessionFront (design_of accepted.now.design) (length accepted.now.order) mode stim.rows (map (λ b. heard b) listeners.items) requests.now (S.taken out.old) (S.taken out.new)) }
+    ensures ok { OnOk result (TakesSession (design_of accepted.now.design) (length accepted.now.order) mode stim.rows
+        (map (λ b. heard b) listeners.items) requests.now (S.taken out.old) (S.taken out.new)) }
+    ensures front { OnErr result (TakesSessionFront (design_of accepted.now.design) (length accepted.now.order) mode stim.rows
+        (map (λ b. heard b) listeners.items) requests.now (S.taken out.old) (S.taken out.new)) }
     ensures compiled { OnOk result (HasNet (design_of accepted.now.design) (length accepted.now.order) mode) }
     ensures write { IsErrOf result Halt.WriteFault → Rose (S.fault_count out.old) (S.fault_count out.new) }
     ensures later { S.fault_count out.old ≤ S.fault_count out.new }

@@ -43,8 +43,16 @@ impl<T: Trace> Session<T> {
     fn run_out(&mut self, listeners: &mut Listeners) -> Result<Option<Notice>, NoMemory>
         ensures table { self.new.table ≡ self.old.table }
         ensures samples { T.samples self.new.trace ≡ T.samples self.old.trace }
-        ensures ran { IfOk result (λ notice. (let ran : Ran = record { after = machine_of self.new (map (option_map (λ b. heard b)) listeners.new.boxes.items); lines = told_lines notice } in ran) ≡ until_idle (world_of self.old.table (T.samples self.old.trace)) (machine_of self.old (map (option_map (λ b. heard b)) listeners.old.boxes.items))) }
-        ensures after { machine_of self.new (map (option_map (λ b. heard b)) listeners.new.boxes.items) ≡ (until_idle (world_of self.old.table (T.samples self.old.trace)) (machine_of self.old (map (option_map (λ b. heard b)) listeners.old.boxes.items))).after }
+        ensures ran { IfOk result (λ notice. (let ran : Ran = record {
+          after = machine_of self.new
+              (map (option_map (λ b. heard b)) listeners.new.boxes.items);
+          lines = told_lines notice;
+        } in ran)
+            ≡ until_idle (world_of self.old.table (T.samples self.old.trace))
+            (machine_of self.old (map (option_map (λ b. heard b)) listeners.old.boxes.items))) }
+        ensures after { machine_of self.new (map (option_map (λ b. heard b)) listeners.new.boxes.items)
+            ≡ (until_idle (world_of self.old.table (T.samples self.old.trace))
+            (machine_of self.old (map (option_map (λ b. heard b)) listeners.old.boxes.items))).after }
     {
         let turned = self.settle(listeners);
         self.notice(turned)
@@ -55,8 +63,16 @@ impl<T: Trace> Session<T> {
     fn follow(&mut self, reply: Reply, listeners: &mut Listeners) -> Result<Answered, NoMemory>
         ensures table { self.new.table ≡ self.old.table }
         ensures samples { T.samples self.new.trace ≡ T.samples self.old.trace }
-        ensures ran { IfOk result (λ answered. (let ran : Ran = record { after = machine_of self.new (map (option_map (λ b. heard b)) listeners.new.boxes.items); lines = answered_lines answered.reply answered.notice } in ran) ≡ followed (world_of self.old.table (T.samples self.old.trace)) reply (machine_of self.old (map (option_map (λ b. heard b)) listeners.old.boxes.items))) }
-        ensures after { machine_of self.new (map (option_map (λ b. heard b)) listeners.new.boxes.items) ≡ (followed (world_of self.old.table (T.samples self.old.trace)) reply (machine_of self.old (map (option_map (λ b. heard b)) listeners.old.boxes.items))).after }
+        ensures ran { IfOk result (λ answered. (let ran : Ran = record {
+          after = machine_of self.new
+              (map (option_map (λ b. heard b)) listeners.new.boxes.items);
+          lines = answered_lines answered.reply answered.notice;
+        } in ran)
+            ≡ followed (world_of self.old.table (T.samples self.old.trace)) reply
+            (machine_of self.old (map (option_map (λ b. heard b)) listeners.old.boxes.items))) }
+        ensures after { machine_of self.new (map (option_map (λ b. heard b)) listeners.new.boxes.items)
+            ≡ (followed (world_of self.old.table (T.samples self.old.trace)) reply
+            (machine_of self.old (map (option_map (λ b. heard b)) listeners.old.boxes.items))).after }
     {
         if is_bye(&reply.body) {
             return Ok(Answered {
@@ -73,8 +89,18 @@ impl<T: Trace> Session<T> {
     pub fn answer(&mut self, asked: &Asked, listeners: &mut Listeners) -> Result<Answered, NoMemory>
         ensures table { self.new.table ≡ self.old.table }
         ensures samples { T.samples self.new.trace ≡ T.samples self.old.trace }
-        ensures ran { IfOk result (λ answered. (read : Reader) → IsReader read → (let ran : Ran = record { after = machine_of self.new (map (option_map (λ b. heard b)) listeners.new.boxes.items); lines = answered_lines answered.reply answered.notice } in ran) ≡ batch_from read (world_of self.old.table (T.samples self.old.trace)) (asked.now ∷ []) (machine_of self.old (map (option_map (λ b. heard b)) listeners.old.boxes.items))) }
-        ensures left { OnErr result ((read : Reader) → IsReader read → IsLeft read (world_of self.old.table (T.samples self.old.trace)) asked.now (machine_of self.old (map (option_map (λ b. heard b)) listeners.old.boxes.items)) (machine_of self.new (map (option_map (λ b. heard b)) listeners.new.boxes.items))) }
+        ensures ran { IfOk result (λ answered. (read : Reader) → IsReader read
+            → (let ran : Ran = record {
+              after = machine_of self.new
+                  (map (option_map (λ b. heard b)) listeners.new.boxes.items);
+              lines = answered_lines answered.reply answered.notice;
+            } in ran)
+            ≡ batch_from read (world_of self.old.table (T.samples self.old.trace)) (asked.now ∷ [])
+            (machine_of self.old (map (option_map (λ b. heard b)) listeners.old.boxes.items))) }
+        ensures left { OnErr result ((read : Reader) → IsReader read
+            → IsLeft read (world_of self.old.table (T.samples self.old.trace)) asked.now
+            (machine_of self.old (map (option_map (λ b. heard b)) listeners.old.boxes.items))
+            (machine_of self.new (map (option_map (λ b. heard b)) listeners.new.boxes.items))) }
     {
         match self.request(asked, listeners) {
             Ok(reply) => self.follow(reply, listeners),

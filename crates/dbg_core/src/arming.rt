@@ -44,7 +44,9 @@ fn commit_asked(
     unarmed: Sited,
 ) -> Result<Body, NoMemory>
     requires armable { IsArmable table.now unarmed }
-    ensures body { IfOk result (λ body. (breakpoints schedule.new, next_number schedule.new, body) ≡ broken (unless_refused (limit_refusal (length (breakpoints schedule.old)) (next_number schedule.old)) (as_breakpoint (next_number schedule.old) unarmed)) (breakpoints schedule.old) (next_number schedule.old)) }
+    ensures body { IfOk result (λ body. (breakpoints schedule.new, next_number schedule.new, body)
+        ≡ broken (unless_refused (limit_refusal (length (breakpoints schedule.old)) (next_number schedule.old))
+        (as_breakpoint (next_number schedule.old) unarmed)) (breakpoints schedule.old) (next_number schedule.old)) }
     ensures kept { OnErr result (breakpoints schedule.new ≡ breakpoints schedule.old) }
     ensures same { OnErr result (next_number schedule.new ≡ next_number schedule.old) }
     ensures own { AreOf table.now schedule.old → AreOf table.now schedule.new }
@@ -66,7 +68,10 @@ pub(crate) fn break_asked(
     path: Option<&str>,
     text: Option<&[u8]>,
 ) -> Result<Body, NoMemory>
-    ensures body { (read : Reader) (s : Samples) → IsReader read → IfOk result (λ body. (breakpoints schedule.new, next_number schedule.new, body) ≡ broken (breakpoint_on read (world_of table.now s) (length (breakpoints schedule.old)) (next_number schedule.old) line (option_map (λ p. p.now) path.entry) (option_map (λ t. t.now) text.entry)) (breakpoints schedule.old) (next_number schedule.old)) }
+    ensures body { (read : Reader) (s : Samples) → IsReader read
+        → IfOk result (λ body. (breakpoints schedule.new, next_number schedule.new, body)
+        ≡ broken (breakpoint_on read (world_of table.now s) (length (breakpoints schedule.old)) (next_number schedule.old) line
+        (option_map (λ p. p.now) path.entry) (option_map (λ t. t.now) text.entry)) (breakpoints schedule.old) (next_number schedule.old)) }
     ensures kept { OnErr result (breakpoints schedule.new ≡ breakpoints schedule.old) }
     ensures same { OnErr result (next_number schedule.new ≡ next_number schedule.old) }
     ensures own { AreOf table.now schedule.old → AreOf table.now schedule.new }
@@ -114,7 +119,9 @@ fn commit_watch(
     found: Unwatched,
 ) -> Result<Body, NoMemory>
     requires armable { watch_arm.IsArmable table.now found }
-    ensures body { IfOk result (λ body. (watching.watches list.new, watching.next_watch list.new, body) ≡ watched (unless_refused (watch_limit (length (watching.watches list.old)) (watching.next_watch list.old)) (watch_arm.as_watch (watching.next_watch list.old) found)) (watching.watches list.old) (watching.next_watch list.old)) }
+    ensures body { IfOk result (λ body. (watching.watches list.new, watching.next_watch list.new, body)
+        ≡ watched (unless_refused (watch_limit (length (watching.watches list.old)) (watching.next_watch list.old))
+        (watch_arm.as_watch (watching.next_watch list.old) found)) (watching.watches list.old) (watching.next_watch list.old)) }
     ensures kept { OnErr result (watching.watches list.new ≡ watching.watches list.old) }
     ensures same { OnErr result (watching.next_watch list.new ≡ watching.next_watch list.old) }
     ensures own { watching.AreOf table.now list.old → watching.AreOf table.now list.new }
@@ -135,7 +142,10 @@ pub(crate) fn watch_asked(
     path: &str,
     text: &[u8],
 ) -> Result<Body, NoMemory>
-    ensures body { (read : Reader) (s : Samples) → IsReader read → IfOk result (λ body. (watching.watches list.new, watching.next_watch list.new, body) ≡ watched (watch_on read (world_of table.now s) (length (watching.watches list.old)) (watching.next_watch list.old) line path.now text.now) (watching.watches list.old) (watching.next_watch list.old)) }
+    ensures body { (read : Reader) (s : Samples) → IsReader read
+        → IfOk result (λ body. (watching.watches list.new, watching.next_watch list.new, body)
+        ≡ watched (watch_on read (world_of table.now s) (length (watching.watches list.old)) (watching.next_watch list.old) line path.now text.now)
+        (watching.watches list.old) (watching.next_watch list.old)) }
     ensures kept { OnErr result (watching.watches list.new ≡ watching.watches list.old) }
     ensures same { OnErr result (watching.next_watch list.new ≡ watching.next_watch list.old) }
     ensures own { watching.AreOf table.now list.old → watching.AreOf table.now list.new }

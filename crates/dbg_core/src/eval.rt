@@ -79,7 +79,8 @@ pub(crate) fn eval_in<T: Trace>(
     requires fits { FitsTable table.now (T.samples trace.now) }
     requires set { IsSet (T.samples trace.now) (T.cursor trace.now) }
     requires there { Contains (instances_of table.now slot) instance }
-    ensures { (read : Reader) → IsReader read → IfOk result (λ body. body ≡ table_body table.now (cycle_samples (T.samples trace.now) (T.cursor trace.now)) slot instance (read text.now)) }
+    ensures { (read : Reader) → IsReader read → IfOk result (λ body. body
+        ≡ table_body table.now (cycle_samples (T.samples trace.now) (T.cursor trace.now)) slot instance (read text.now)) }
 {
     match read_cond(alloc, text.as_bytes()) {
         Ok(text) => bound(alloc, table, trace, slot, instance, &text),

@@ -123,7 +123,8 @@ impl Listeners {
     /// The pairs of a listener that remains.
     pub fn table(&self, k: u32) -> Result<Vec<(u64, u64)>, NoMemory>
         requires { IsTrue (is_some (slice_index_or (map (option_map (λ b. heard b)) self.now.boxes.items) k None)) }
-        ensures { IfOk result (λ pairs. option_map (λ h. h.pairs) (slice_index_or (map (option_map (λ b. heard b)) self.now.boxes.items) k None) ≡ Some pairs.items) }
+        ensures { IfOk result (λ pairs. option_map (λ h. h.pairs) (slice_index_or (map (option_map (λ b. heard b)) self.now.boxes.items) k None)
+            ≡ Some pairs.items) }
     {
         pairs_left(self.alloc, &self.boxes[k as usize])
     }
@@ -138,7 +139,8 @@ impl Listeners {
 
     /// Tells each listener that remains of a stop, in order. Takes no memory.
     pub(crate) fn tell(&mut self, note: &StopNote)
-        ensures { map (option_map (λ b. heard b)) self.new.boxes.items ≡ map (option_map (after note.now)) (map (option_map (λ b. heard b)) self.old.boxes.items) }
+        ensures { map (option_map (λ b. heard b)) self.new.boxes.items
+            ≡ map (option_map (after note.now)) (map (option_map (λ b. heard b)) self.old.boxes.items) }
     {
         tell_each(&mut self.boxes, note);
     }
@@ -159,7 +161,8 @@ impl Listeners {
     /// The last line of the one of this number.
     fn closing_line(&self, k: u32) -> Result<Notice, NoMemory>
         requires { IsTrue (is_some (slice_index_or (map (option_map (λ b. heard b)) self.now.boxes.items) k None)) }
-        ensures { IfOk result (λ notice. option_map (λ h. Notice.Rows k h.pairs) (slice_index_or (map (option_map (λ b. heard b)) self.now.boxes.items) k None) ≡ Some notice) }
+        ensures { IfOk result (λ notice. option_map (λ h. Notice.Rows k h.pairs)
+            (slice_index_or (map (option_map (λ b. heard b)) self.now.boxes.items) k None) ≡ Some notice) }
     {
         let rows = self.table(k)?;
         Ok(Notice::Rows {
@@ -184,7 +187,9 @@ impl Listeners {
 
     /// What is answered to a request to drop a listener.
     pub(crate) fn drop_answer(&self, k: u64) -> Result<Body, NoMemory>
-        ensures { IfOk result (λ body. (without (Some k) (map (option_map (λ b. heard b)) self.now.boxes.items), body) ≡ dropped (map (option_map (λ b. heard b)) self.now.boxes.items) k (slice_index_or (map (option_map (λ b. heard b)) self.now.boxes.items) k None)) }
+        ensures { IfOk result (λ body. (without (Some k) (map (option_map (λ b. heard b)) self.now.boxes.items), body)
+            ≡ dropped (map (option_map (λ b. heard b)) self.now.boxes.items) k
+            (slice_index_or (map (option_map (λ b. heard b)) self.now.boxes.items) k None)) }
     {
         if k >= u64::from(self.count()) || !self.has(k as u32) {
             return Ok(Body::NoListener { k });

@@ -30,7 +30,8 @@ pub(crate) fn watches_at<T: Trace>(
     requires fits { FitsTable table.now (T.samples trace.old) }
     requires own { AreOf table.now watch.now }
     ensures kept { T.samples trace.new ≡ T.samples trace.old }
-    ensures numbers { IfOk result (λ numbers. (m : Machine) → m.watches ≡ watches watch.now → numbers.items ≡ watch_numbers (world_of table.now (T.samples trace.old)) m cycle slot) }
+    ensures numbers { IfOk result (λ numbers. (m : Machine) → m.watches ≡ watches watch.now
+        → numbers.items ≡ watch_numbers (world_of table.now (T.samples trace.old)) m cycle slot) }
 {
     let mut numbers = Vec::new(alloc);
     if slot >= table.slots() {
@@ -56,7 +57,8 @@ fn stopped<T: Trace>(
     requires fits { FitsTable table.now (T.samples trace.old) }
     requires own { AreOf table.now watch.now }
     ensures kept { T.samples trace.new ≡ T.samples trace.old }
-    ensures lines { IfOk result (λ notice. (m : Machine) → m.watches ≡ watches watch.now → told_lines (Some notice) ≡ notices_of (world_of table.now (T.samples trace.old)) m (Turned.Stopped note)) }
+    ensures lines { IfOk result (λ notice. (m : Machine) → m.watches ≡ watches watch.now
+        → told_lines (Some notice) ≡ notices_of (world_of table.now (T.samples trace.old)) m (Turned.Stopped note)) }
 {
     let threads = threads_in(alloc, table, trace, note.cycle, note.slot)?;
     let paths = paths_of(alloc, table, &threads)?;
@@ -81,7 +83,8 @@ pub(crate) fn notice_of<T: Trace>(
     requires fits { FitsTable table.now (T.samples trace.old) }
     requires own { AreOf table.now watch.now }
     ensures kept { T.samples trace.new ≡ T.samples trace.old }
-    ensures lines { IfOk result (λ notice. (m : Machine) → m.watches ≡ watches watch.now → told_lines notice ≡ notices_of (world_of table.now (T.samples trace.old)) m turned) }
+    ensures lines { IfOk result (λ notice. (m : Machine) → m.watches ≡ watches watch.now
+        → told_lines notice ≡ notices_of (world_of table.now (T.samples trace.old)) m turned) }
 {
     match turned {
         Turned::Idle | Turned::Moved => Ok(None),

@@ -96,7 +96,11 @@ impl<T: Trace> Session<T> {
         ensures table { self.new.table ≡ self.old.table }
         ensures samples { T.samples self.new.trace ≡ T.samples self.old.trace }
         ensures ordinal { self.new.ordinal ≡ self.old.ordinal }
-        ensures answer { IfOk result (λ body. (read : Reader) (ordinal : ℕ) (heard : List (Option Heard)) (id : Option ℕ) → IsReader read → answered (counted_as self.new ordinal heard) id body ≡ answer_by (counted_as self.old ordinal heard) id (obey read (world_of self.old.table (T.samples self.old.trace)) (counted_as self.old ordinal heard) (Cmd.Break line instance.now cond.now))) }
+        ensures answer { IfOk result (λ body. (read : Reader) (ordinal : ℕ) (heard : List (Option Heard)) (id : Option ℕ) → IsReader read
+            → answered (counted_as self.new ordinal heard) id body
+            ≡ answer_by (counted_as self.old ordinal heard) id
+            (obey read (world_of self.old.table (T.samples self.old.trace)) (counted_as self.old ordinal heard)
+            (Cmd.Break line instance.now cond.now))) }
         ensures kept { OnErr result ((heard : List (Option Heard)) → machine_of self.new heard ≡ machine_of self.old heard) }
     {
         break_asked(
@@ -114,7 +118,9 @@ impl<T: Trace> Session<T> {
         ensures table { self.new.table ≡ self.old.table }
         ensures samples { T.samples self.new.trace ≡ T.samples self.old.trace }
         ensures ordinal { self.new.ordinal ≡ self.old.ordinal }
-        ensures answer { (ordinal : ℕ) (heard : List (Option Heard)) (id : Option ℕ) → answered (counted_as self.new ordinal heard) id result ≡ answer_by (counted_as self.old ordinal heard) id (delete (counted_as self.old ordinal heard) bp) }
+        ensures answer { (ordinal : ℕ) (heard : List (Option Heard)) (id : Option ℕ)
+            → answered (counted_as self.new ordinal heard) id result
+            ≡ answer_by (counted_as self.old ordinal heard) id (delete (counted_as self.old ordinal heard) bp) }
     {
         if self.schedule.disarm(bp) {
             Body::Delete
@@ -128,7 +134,11 @@ impl<T: Trace> Session<T> {
         ensures table { self.new.table ≡ self.old.table }
         ensures samples { T.samples self.new.trace ≡ T.samples self.old.trace }
         ensures ordinal { self.new.ordinal ≡ self.old.ordinal }
-        ensures answer { IfOk result (λ body. (read : Reader) (ordinal : ℕ) (heard : List (Option Heard)) (id : Option ℕ) → IsReader read → answered (counted_as self.new ordinal heard) id body ≡ answer_by (counted_as self.old ordinal heard) id (obey read (world_of self.old.table (T.samples self.old.trace)) (counted_as self.old ordinal heard) (Cmd.Watch line instance.now expr.now))) }
+        ensures answer { IfOk result (λ body. (read : Reader) (ordinal : ℕ) (heard : List (Option Heard)) (id : Option ℕ) → IsReader read
+            → answered (counted_as self.new ordinal heard) id body
+            ≡ answer_by (counted_as self.old ordinal heard) id
+            (obey read (world_of self.old.table (T.samples self.old.trace)) (counted_as self.old ordinal heard)
+            (Cmd.Watch line instance.now expr.now))) }
         ensures kept { OnErr result ((heard : List (Option Heard)) → machine_of self.new heard ≡ machine_of self.old heard) }
     {
         watch_asked(
@@ -146,7 +156,9 @@ impl<T: Trace> Session<T> {
         ensures table { self.new.table ≡ self.old.table }
         ensures samples { T.samples self.new.trace ≡ T.samples self.old.trace }
         ensures ordinal { self.new.ordinal ≡ self.old.ordinal }
-        ensures answer { (ordinal : ℕ) (heard : List (Option Heard)) (id : Option ℕ) → answered (counted_as self.new ordinal heard) id result ≡ answer_by (counted_as self.old ordinal heard) id (unwatch (counted_as self.old ordinal heard) wp) }
+        ensures answer { (ordinal : ℕ) (heard : List (Option Heard)) (id : Option ℕ)
+            → answered (counted_as self.new ordinal heard) id result
+            ≡ answer_by (counted_as self.old ordinal heard) id (unwatch (counted_as self.old ordinal heard) wp) }
     {
         if self.watch.disarm(wp) {
             Body::Unwatch
@@ -160,7 +172,10 @@ impl<T: Trace> Session<T> {
         ensures table { self.new.table ≡ self.old.table }
         ensures samples { T.samples self.new.trace ≡ T.samples self.old.trace }
         ensures ordinal { self.new.ordinal ≡ self.old.ordinal }
-        ensures answer { (ordinal : ℕ) (heard : List (Option Heard)) (id : Option ℕ) → answered (counted_as self.new ordinal heard) id result ≡ answer_by (counted_as self.old ordinal heard) id (if_idle self.old.motion (Accepted (record (counted_as self.old ordinal heard) { motion = Running way Breakpoints }) (run_granted way))) }
+        ensures answer { (ordinal : ℕ) (heard : List (Option Heard)) (id : Option ℕ)
+            → answered (counted_as self.new ordinal heard) id result
+            ≡ answer_by (counted_as self.old ordinal heard) id
+            (if_idle self.old.motion (Accepted (record (counted_as self.old ordinal heard) { motion = Running way Breakpoints }) (run_granted way))) }
     {
         if let Some(refusal) = busy(self.motion) {
             return refusal;
@@ -174,7 +189,11 @@ impl<T: Trace> Session<T> {
         ensures table { self.new.table ≡ self.old.table }
         ensures samples { T.samples self.new.trace ≡ T.samples self.old.trace }
         ensures ordinal { self.new.ordinal ≡ self.old.ordinal }
-        ensures answer { IfOk result (λ body. (ordinal : ℕ) (heard : List (Option Heard)) (id : Option ℕ) → answered (counted_as self.new ordinal heard) id body ≡ answer_by (counted_as self.old ordinal heard) id (if_idle self.old.motion (step (world_of self.old.table (T.samples self.old.trace)) (counted_as self.old ordinal heard) way (step_granted way) path.now))) }
+        ensures answer { IfOk result (λ body. (ordinal : ℕ) (heard : List (Option Heard)) (id : Option ℕ)
+            → answered (counted_as self.new ordinal heard) id body
+            ≡ answer_by (counted_as self.old ordinal heard) id
+            (if_idle self.old.motion (step (world_of self.old.table (T.samples self.old.trace)) (counted_as self.old ordinal heard) way
+            (step_granted way) path.now))) }
         ensures kept { OnErr result ((heard : List (Option Heard)) → machine_of self.new heard ≡ machine_of self.old heard) }
     {
         if let Some(refusal) = busy(self.motion) {
@@ -201,7 +220,10 @@ impl<T: Trace> Session<T> {
         ensures table { self.new.table ≡ self.old.table }
         ensures samples { T.samples self.new.trace ≡ T.samples self.old.trace }
         ensures ordinal { self.new.ordinal ≡ self.old.ordinal }
-        ensures answer { (read : Reader) (ordinal : ℕ) (heard : List (Option Heard)) (id : Option ℕ) → answered (counted_as self.new ordinal heard) id result ≡ answer_by (counted_as self.old ordinal heard) id (obey read (world_of self.old.table (T.samples self.old.trace)) (counted_as self.old ordinal heard) Cmd.Pause) }
+        ensures answer { (read : Reader) (ordinal : ℕ) (heard : List (Option Heard)) (id : Option ℕ)
+            → answered (counted_as self.new ordinal heard) id result
+            ≡ answer_by (counted_as self.old ordinal heard) id
+            (obey read (world_of self.old.table (T.samples self.old.trace)) (counted_as self.old ordinal heard) Cmd.Pause) }
     {
         if self.motion == Motion::Idle {
             return Body::NotRunning;
@@ -217,7 +239,10 @@ impl<T: Trace> Session<T> {
         ensures table { self.new.table ≡ self.old.table }
         ensures samples { T.samples self.new.trace ≡ T.samples self.old.trace }
         ensures ordinal { self.new.ordinal ≡ self.old.ordinal }
-        ensures answer { IfOk result (λ body. (read : Reader) (ordinal : ℕ) (heard : List (Option Heard)) (id : Option ℕ) → answered (counted_as self.new ordinal heard) id body ≡ answer_by (counted_as self.old ordinal heard) id (obey read (world_of self.old.table (T.samples self.old.trace)) (counted_as self.old ordinal heard) Cmd.Threads)) }
+        ensures answer { IfOk result (λ body. (read : Reader) (ordinal : ℕ) (heard : List (Option Heard)) (id : Option ℕ)
+            → answered (counted_as self.new ordinal heard) id body
+            ≡ answer_by (counted_as self.old ordinal heard) id
+            (obey read (world_of self.old.table (T.samples self.old.trace)) (counted_as self.old ordinal heard) Cmd.Threads)) }
         ensures kept { OnErr result ((heard : List (Option Heard)) → machine_of self.new heard ≡ machine_of self.old heard) }
     {
         threads_asked(
@@ -234,7 +259,10 @@ impl<T: Trace> Session<T> {
         ensures table { self.new.table ≡ self.old.table }
         ensures samples { T.samples self.new.trace ≡ T.samples self.old.trace }
         ensures ordinal { self.new.ordinal ≡ self.old.ordinal }
-        ensures answer { IfOk result (λ body. (read : Reader) (ordinal : ℕ) (heard : List (Option Heard)) (id : Option ℕ) → answered (counted_as self.new ordinal heard) id body ≡ answer_by (counted_as self.old ordinal heard) id (obey read (world_of self.old.table (T.samples self.old.trace)) (counted_as self.old ordinal heard) (Cmd.Values path.now))) }
+        ensures answer { IfOk result (λ body. (read : Reader) (ordinal : ℕ) (heard : List (Option Heard)) (id : Option ℕ)
+            → answered (counted_as self.new ordinal heard) id body
+            ≡ answer_by (counted_as self.old ordinal heard) id
+            (obey read (world_of self.old.table (T.samples self.old.trace)) (counted_as self.old ordinal heard) (Cmd.Values path.now))) }
         ensures kept { OnErr result ((heard : List (Option Heard)) → machine_of self.new heard ≡ machine_of self.old heard) }
     {
         values_asked(
@@ -252,7 +280,10 @@ impl<T: Trace> Session<T> {
         ensures table { self.new.table ≡ self.old.table }
         ensures samples { T.samples self.new.trace ≡ T.samples self.old.trace }
         ensures ordinal { self.new.ordinal ≡ self.old.ordinal }
-        ensures answer { IfOk result (λ body. (read : Reader) (ordinal : ℕ) (heard : List (Option Heard)) (id : Option ℕ) → IsReader read → answered (counted_as self.new ordinal heard) id body ≡ answer_by (counted_as self.old ordinal heard) id (obey read (world_of self.old.table (T.samples self.old.trace)) (counted_as self.old ordinal heard) (Cmd.Eval path.now expr.now))) }
+        ensures answer { IfOk result (λ body. (read : Reader) (ordinal : ℕ) (heard : List (Option Heard)) (id : Option ℕ) → IsReader read
+            → answered (counted_as self.new ordinal heard) id body
+            ≡ answer_by (counted_as self.old ordinal heard) id
+            (obey read (world_of self.old.table (T.samples self.old.trace)) (counted_as self.old ordinal heard) (Cmd.Eval path.now expr.now))) }
         ensures kept { OnErr result ((heard : List (Option Heard)) → machine_of self.new heard ≡ machine_of self.old heard) }
     {
         eval_asked(
@@ -268,7 +299,11 @@ impl<T: Trace> Session<T> {
 
     /// Tells where the session stands, its breakpoints and its listeners, and whether it runs.
     fn status(&self, listeners: &Listeners) -> Result<Body, NoMemory>
-        ensures { IfOk result (λ body. (read : Reader) (ordinal : ℕ) (id : Option ℕ) → answered (counted_as self.now ordinal (map (option_map (λ b. heard b)) listeners.now.boxes.items)) id body ≡ answer_by (counted_as self.now ordinal (map (option_map (λ b. heard b)) listeners.now.boxes.items)) id (obey read (world_of self.now.table (T.samples self.now.trace)) (counted_as self.now ordinal (map (option_map (λ b. heard b)) listeners.now.boxes.items)) Cmd.Status)) }
+        ensures { IfOk result (λ body. (read : Reader) (ordinal : ℕ) (id : Option ℕ)
+            → answered (counted_as self.now ordinal (map (option_map (λ b. heard b)) listeners.now.boxes.items)) id body
+            ≡ answer_by (counted_as self.now ordinal (map (option_map (λ b. heard b)) listeners.now.boxes.items)) id
+            (obey read (world_of self.now.table (T.samples self.now.trace))
+            (counted_as self.now ordinal (map (option_map (λ b. heard b)) listeners.now.boxes.items)) Cmd.Status)) }
     {
         let bps = numbers_of(self.alloc, &self.schedule)?;
         let listeners = listeners.remaining()?;
@@ -285,7 +320,12 @@ impl<T: Trace> Session<T> {
         ensures table { self.new.table ≡ self.old.table }
         ensures samples { T.samples self.new.trace ≡ T.samples self.old.trace }
         ensures ordinal { self.new.ordinal ≡ self.old.ordinal }
-        ensures answer { IfOk result (λ body. (read : Reader) (ordinal : ℕ) (id : Option ℕ) → IsReader read → answered (counted_as self.new ordinal (without (dropped_by cmd.now) (map (option_map (λ b. heard b)) listeners.now.boxes.items))) id body ≡ answer_by (counted_as self.old ordinal (map (option_map (λ b. heard b)) listeners.now.boxes.items)) id (obey read (world_of self.old.table (T.samples self.old.trace)) (counted_as self.old ordinal (map (option_map (λ b. heard b)) listeners.now.boxes.items)) cmd.now)) }
+        ensures answer { IfOk result (λ body. (read : Reader) (ordinal : ℕ) (id : Option ℕ) → IsReader read
+            → answered (counted_as self.new ordinal (without (dropped_by cmd.now)
+            (map (option_map (λ b. heard b)) listeners.now.boxes.items))) id body
+            ≡ answer_by (counted_as self.old ordinal (map (option_map (λ b. heard b)) listeners.now.boxes.items)) id
+            (obey read (world_of self.old.table (T.samples self.old.trace))
+            (counted_as self.old ordinal (map (option_map (λ b. heard b)) listeners.now.boxes.items)) cmd.now)) }
         ensures kept { OnErr result ((heard : List (Option Heard)) → machine_of self.new heard ≡ machine_of self.old heard) }
     {
         match cmd {
@@ -320,7 +360,11 @@ impl<T: Trace> Session<T> {
         ensures table { self.new.table ≡ self.old.table }
         ensures samples { T.samples self.new.trace ≡ T.samples self.old.trace }
         ensures ordinal { self.new.ordinal ≡ self.old.ordinal }
-        ensures answer { IfOk result (λ body. (read : Reader) (ordinal : ℕ) (id : Option ℕ) → IsReader read → answered (counted_as self.new ordinal (without (to_drop asked.now) (map (option_map (λ b. heard b)) listeners.now.boxes.items))) id body ≡ answer_by (counted_as self.old ordinal (map (option_map (λ b. heard b)) listeners.now.boxes.items)) id (asked_outcome read (world_of self.old.table (T.samples self.old.trace)) (counted_as self.old ordinal (map (option_map (λ b. heard b)) listeners.now.boxes.items)) asked.now)) }
+        ensures answer { IfOk result (λ body. (read : Reader) (ordinal : ℕ) (id : Option ℕ) → IsReader read
+            → answered (counted_as self.new ordinal (without (to_drop asked.now) (map (option_map (λ b. heard b)) listeners.now.boxes.items))) id body
+            ≡ answer_by (counted_as self.old ordinal (map (option_map (λ b. heard b)) listeners.now.boxes.items)) id
+            (asked_outcome read (world_of self.old.table (T.samples self.old.trace))
+            (counted_as self.old ordinal (map (option_map (λ b. heard b)) listeners.now.boxes.items)) asked.now)) }
         ensures kept { OnErr result ((heard : List (Option Heard)) → machine_of self.new heard ≡ machine_of self.old heard) }
     {
         match asked {
@@ -335,7 +379,14 @@ impl<T: Trace> Session<T> {
     pub fn request_alone(&mut self, asked: &Asked, listeners: &Listeners) -> Result<Reply, NoMemory>
         ensures table { self.new.table ≡ self.old.table }
         ensures samples { T.samples self.new.trace ≡ T.samples self.old.trace }
-        ensures answer { IfOk result (λ reply. (read : Reader) → IsReader read → (let answer : Answer = record { after = machine_of self.new (without (to_drop asked.now) (map (option_map (λ b. heard b)) listeners.now.boxes.items)); reply = reply } in answer) ≡ answer_of read (world_of self.old.table (T.samples self.old.trace)) (machine_of self.old (map (option_map (λ b. heard b)) listeners.now.boxes.items)) asked.now) }
+        ensures answer { IfOk result (λ reply. (read : Reader) → IsReader read
+            → (let answer : Answer = record {
+              after = machine_of self.new
+                  (without (to_drop asked.now) (map (option_map (λ b. heard b)) listeners.now.boxes.items));
+              reply = reply;
+            } in answer)
+            ≡ answer_of read (world_of self.old.table (T.samples self.old.trace))
+            (machine_of self.old (map (option_map (λ b. heard b)) listeners.now.boxes.items)) asked.now) }
         ensures memory { OnErr result ((heard : List (Option Heard)) → machine_of self.new heard ≡ machine_of self.old heard) }
     {
         let body = self.answer_to(asked, listeners)?;
@@ -353,8 +404,12 @@ impl<T: Trace> Session<T> {
     pub fn request(&mut self, asked: &Asked, listeners: &mut Listeners) -> Result<Reply, NoMemory>
         ensures table { self.new.table ≡ self.old.table }
         ensures samples { T.samples self.new.trace ≡ T.samples self.old.trace }
-        ensures answer { IfOk result (λ reply. (read : Reader) → IsReader read → (let answer : Answer = record { after = machine_of self.new (map (option_map (λ b. heard b)) listeners.new.boxes.items); reply = reply } in answer) ≡ answer_of read (world_of self.old.table (T.samples self.old.trace)) (machine_of self.old (map (option_map (λ b. heard b)) listeners.old.boxes.items)) asked.now) }
-        ensures memory { OnErr result (machine_of self.new (map (option_map (λ b. heard b)) listeners.new.boxes.items) ≡ machine_of self.old (map (option_map (λ b. heard b)) listeners.old.boxes.items)) }
+        ensures answer { IfOk result (λ reply. (read : Reader) → IsReader read
+            → (let answer : Answer = record { after = machine_of self.new (map (option_map (λ b. heard b)) listeners.new.boxes.items); reply = reply }
+            in answer) ≡ answer_of read (world_of self.old.table (T.samples self.old.trace))
+            (machine_of self.old (map (option_map (λ b. heard b)) listeners.old.boxes.items)) asked.now) }
+        ensures memory { OnErr result (machine_of self.new (map (option_map (λ b. heard b)) listeners.new.boxes.items)
+            ≡ machine_of self.old (map (option_map (λ b. heard b)) listeners.old.boxes.items)) }
     {
         let reply = self.request_alone(asked, listeners)?;
         listeners.leave_out(to_drop(asked));

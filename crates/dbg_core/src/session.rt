@@ -90,7 +90,12 @@ impl<T: Trace> Session<T> {
         requires { p < total_of self.old.table (T.samples self.old.trace) }
         ensures table { self.new.table ≡ self.old.table }
         ensures samples { T.samples self.new.trace ≡ T.samples self.old.trace }
-        ensures turn { (heard : List (Option Heard)) → (let turn : Turn = record { after = machine_of self.new (heard_after result heard); turned = result } in turn) ≡ stopped_at (world_of self.old.table (T.samples self.old.trace)) (machine_of self.old heard) p }
+        ensures turn { (heard : List (Option Heard)) → (let turn : Turn = record {
+          after = machine_of self.new
+              (heard_after result heard);
+          turned = result;
+        } in turn)
+            ≡ stopped_at (world_of self.old.table (T.samples self.old.trace)) (machine_of self.old heard) p }
     {
         let note = note_at(&self.table, &mut self.trace, &self.watch, p);
         self.place = p + 1;
@@ -102,7 +107,12 @@ impl<T: Trace> Session<T> {
     fn stop_at_edge(&mut self, way: Way) -> Turned
         ensures table { self.new.table ≡ self.old.table }
         ensures samples { T.samples self.new.trace ≡ T.samples self.old.trace }
-        ensures turn { (heard : List (Option Heard)) → (let turn : Turn = record { after = machine_of self.new (heard_after result heard); turned = result } in turn) ≡ edge_turn (world_of self.old.table (T.samples self.old.trace)) way (machine_of self.old heard) }
+        ensures turn { (heard : List (Option Heard)) → (let turn : Turn = record {
+          after = machine_of self.new
+              (heard_after result heard);
+          turned = result;
+        } in turn)
+            ≡ edge_turn (world_of self.old.table (T.samples self.old.trace)) way (machine_of self.old heard) }
     {
         self.motion = Motion::Idle;
         match way {
@@ -122,7 +132,11 @@ impl<T: Trace> Session<T> {
         requires { 64 ≤ left_ahead (total_of self.old.table (T.samples self.old.trace)) way self.old.place }
         ensures table { self.new.table ≡ self.old.table }
         ensures samples { T.samples self.new.trace ≡ T.samples self.old.trace }
-        ensures turn { (heard : List (Option Heard)) → (let turn : Turn = record { after = machine_of self.new (heard_after result heard); turned = result } in turn) ≡ moved_turn way (machine_of self.old heard) }
+        ensures turn { (heard : List (Option Heard)) → (let turn : Turn = record {
+          after = machine_of self.new
+              (heard_after result heard);
+          turned = result;
+        } in turn) ≡ moved_turn way (machine_of self.old heard) }
     {
         match way {
             Way::Forward => self.place += REACH,
@@ -136,7 +150,8 @@ impl<T: Trace> Session<T> {
         ensures table { self.new.table ≡ self.old.table }
         ensures samples { T.samples self.new.trace ≡ T.samples self.old.trace }
         ensures state { (heard : List (Option Heard)) → machine_of self.new heard ≡ machine_of self.old heard }
-        ensures value { (heard : List (Option Heard)) → result ≡ found_by (world_of self.old.table (T.samples self.old.trace)) (machine_of self.old heard) way want }
+        ensures value { (heard : List (Option Heard)) → result
+            ≡ found_by (world_of self.old.table (T.samples self.old.trace)) (machine_of self.old heard) way want }
         ensures hit { (p : ℕ) → result ≡ Found.At p → p < total_of self.old.table (T.samples self.old.trace) }
     {
         let found = self
@@ -158,7 +173,12 @@ impl<T: Trace> Session<T> {
         requires { self.old.motion ≡ Running way want }
         ensures table { self.new.table ≡ self.old.table }
         ensures samples { T.samples self.new.trace ≡ T.samples self.old.trace }
-        ensures turn { (heard : List (Option Heard)) → (let turn : Turn = record { after = machine_of self.new (heard_after result heard); turned = result } in turn) ≡ turn_of (world_of self.old.table (T.samples self.old.trace)) (machine_of self.old heard) }
+        ensures turn { (heard : List (Option Heard)) → (let turn : Turn = record {
+          after = machine_of self.new
+              (heard_after result heard);
+          turned = result;
+        } in turn)
+            ≡ turn_of (world_of self.old.table (T.samples self.old.trace)) (machine_of self.old heard) }
     {
         match self.look(way, want) {
             Found::At(p) => self.stop(p),
@@ -173,7 +193,12 @@ impl<T: Trace> Session<T> {
     pub fn turn_alone(&mut self) -> Turned
         ensures table { self.new.table ≡ self.old.table }
         ensures samples { T.samples self.new.trace ≡ T.samples self.old.trace }
-        ensures turn { (heard : List (Option Heard)) → (let turn : Turn = record { after = machine_of self.new (heard_after result heard); turned = result } in turn) ≡ turn_of (world_of self.old.table (T.samples self.old.trace)) (machine_of self.old heard) }
+        ensures turn { (heard : List (Option Heard)) → (let turn : Turn = record {
+          after = machine_of self.new
+              (heard_after result heard);
+          turned = result;
+        } in turn)
+            ≡ turn_of (world_of self.old.table (T.samples self.old.trace)) (machine_of self.old heard) }
     {
         match self.motion {
             Motion::Idle => Turned::Idle,
@@ -187,7 +212,13 @@ impl<T: Trace> Session<T> {
     pub fn turn(&mut self, listeners: &mut Listeners) -> Turned
         ensures table { self.new.table ≡ self.old.table }
         ensures samples { T.samples self.new.trace ≡ T.samples self.old.trace }
-        ensures turn { (let turn : Turn = record { after = machine_of self.new (map (option_map (λ b. heard b)) listeners.new.boxes.items); turned = result } in turn) ≡ turn_of (world_of self.old.table (T.samples self.old.trace)) (machine_of self.old (map (option_map (λ b. heard b)) listeners.old.boxes.items)) }
+        ensures turn { (let turn : Turn = record {
+          after = machine_of self.new
+              (map (option_map (λ b. heard b)) listeners.new.boxes.items);
+          turned = result;
+        } in turn)
+            ≡ turn_of (world_of self.old.table (T.samples self.old.trace))
+            (machine_of self.old (map (option_map (λ b. heard b)) listeners.old.boxes.items)) }
     {
         let turned = self.turn_alone();
         match &turned {
@@ -201,7 +232,14 @@ impl<T: Trace> Session<T> {
     pub fn settle(&mut self, listeners: &mut Listeners) -> Turned
         ensures table { self.new.table ≡ self.old.table }
         ensures samples { T.samples self.new.trace ≡ T.samples self.old.trace }
-        ensures ran { (let ran : Ran = record { after = machine_of self.new (map (option_map (λ b. heard b)) listeners.new.boxes.items); lines = notices_of (world_of self.old.table (T.samples self.old.trace)) (machine_of self.new (map (option_map (λ b. heard b)) listeners.new.boxes.items)) result } in ran) ≡ until_idle (world_of self.old.table (T.samples self.old.trace)) (machine_of self.old (map (option_map (λ b. heard b)) listeners.old.boxes.items)) }
+        ensures ran { (let ran : Ran = record {
+          after = machine_of self.new
+              (map (option_map (λ b. heard b)) listeners.new.boxes.items);
+          lines = notices_of (world_of self.old.table (T.samples self.old.trace))
+              (machine_of self.new (map (option_map (λ b. heard b)) listeners.new.boxes.items)) result;
+        } in ran)
+            ≡ until_idle (world_of self.old.table (T.samples self.old.trace))
+            (machine_of self.old (map (option_map (λ b. heard b)) listeners.old.boxes.items)) }
     {
         loop {
             let turned = self.turn(listeners);
@@ -250,7 +288,10 @@ impl<T: Trace> Session<T> {
         ensures table { self.new.table ≡ self.old.table }
         ensures samples { T.samples self.new.trace ≡ T.samples self.old.trace }
         ensures state { (heard : List (Option Heard)) → machine_of self.new heard ≡ machine_of self.old heard }
-        ensures numbers { IfOk result (λ numbers. (heard : List (Option Heard)) → numbers.items ≡ watch_numbers (world_of self.old.table (T.samples self.old.trace)) (machine_of self.old heard) (cycle_at (world_of self.old.table (T.samples self.old.trace)) (self.old.place - 1)) (slot_at (world_of self.old.table (T.samples self.old.trace)) (self.old.place - 1))) }
+        ensures numbers { IfOk result (λ numbers. (heard : List (Option Heard))
+            → numbers.items ≡ watch_numbers (world_of self.old.table (T.samples self.old.trace)) (machine_of self.old heard)
+            (cycle_at (world_of self.old.table (T.samples self.old.trace)) (self.old.place - 1))
+            (slot_at (world_of self.old.table (T.samples self.old.trace)) (self.old.place - 1))) }
     {
         match at_place(&self.table, &self.trace, self.place) {
             At::Position { cycle, slot } => {
@@ -274,7 +315,8 @@ impl<T: Trace> Session<T> {
         ensures table { self.new.table ≡ self.old.table }
         ensures samples { T.samples self.new.trace ≡ T.samples self.old.trace }
         ensures state { (heard : List (Option Heard)) → machine_of self.new heard ≡ machine_of self.old heard }
-        ensures lines { IfOk result (λ notice. (heard : List (Option Heard)) → told_lines notice ≡ notices_of (world_of self.old.table (T.samples self.old.trace)) (machine_of self.old heard) turned) }
+        ensures lines { IfOk result (λ notice. (heard : List (Option Heard))
+            → told_lines notice ≡ notices_of (world_of self.old.table (T.samples self.old.trace)) (machine_of self.old heard) turned) }
     {
         notice_of(
             self.alloc,

@@ -127,7 +127,8 @@ pub(crate) fn threads_asked<T: Trace>(
     requires fits { FitsTable table.now (T.samples trace.old) }
     requires within { place ≤ total_of table.now (T.samples trace.old) + 1 }
     ensures kept { T.samples trace.new ≡ T.samples trace.old }
-    ensures body { IfOk result (λ body. body ≡ told_of (threads_body (world_of table.now (T.samples trace.old)) place) (stand (world_of table.now (T.samples trace.old)) motion place)) }
+    ensures body { IfOk result (λ body. body ≡ told_of (threads_body (world_of table.now (T.samples trace.old)) place)
+        (stand (world_of table.now (T.samples trace.old)) motion place)) }
 {
     match stand(table, trace, motion, place) {
         Ok(p) => threads_body(alloc, table, trace, place, p),
@@ -165,7 +166,8 @@ pub(crate) fn values_asked<T: Trace>(
     requires fits { FitsTable table.now (T.samples trace.old) }
     requires within { place ≤ total_of table.now (T.samples trace.old) + 1 }
     ensures kept { T.samples trace.new ≡ T.samples trace.old }
-    ensures body { IfOk result (λ body. body ≡ told_of (values_body (world_of table.now (T.samples trace.old))) (thread_of (world_of table.now (T.samples trace.old)) motion place path.now)) }
+    ensures body { IfOk result (λ body. body ≡ told_of (values_body (world_of table.now (T.samples trace.old)))
+        (thread_of (world_of table.now (T.samples trace.old)) motion place path.now)) }
 {
     match thread_of(table, trace, motion, place, path) {
         Ok((p, instance)) => {
@@ -192,7 +194,9 @@ pub(crate) fn eval_asked<T: Trace>(
     requires fits { FitsTable table.now (T.samples trace.old) }
     requires within { place ≤ total_of table.now (T.samples trace.old) + 1 }
     ensures kept { T.samples trace.new ≡ T.samples trace.old }
-    ensures body { (read : Reader) → IsReader read → IfOk result (λ body. body ≡ told_of (eval_body (world_of table.now (T.samples trace.old)) (read expr.now)) (thread_of (world_of table.now (T.samples trace.old)) motion place path.now)) }
+    ensures body { (read : Reader) → IsReader read → IfOk result (λ body. body
+        ≡ told_of (eval_body (world_of table.now (T.samples trace.old)) (read expr.now))
+        (thread_of (world_of table.now (T.samples trace.old)) motion place path.now)) }
 {
     let _parts = table.parts();
     match thread_of(table, trace, motion, place, path) {

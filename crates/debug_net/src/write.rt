@@ -46,8 +46,10 @@ pub fn write_session<S: Sink>(
     requires order { TellsOrder (design_of design.now) order.now }
     requires inputs { HasInputs (design_of design.now) script.stim.ports }
     requires few { length listeners.items ≤ 65536 }
-    ensures ok { OnOk result (TakesSession (design_of design.now) (length order.now) mode script.entry.stim.rows (map (λ b. heard b) listeners.items) script.entry.requests.now (S.taken out.old) (S.taken out.new)) }
-    ensures front { OnErr result (TakesSessionFront (design_of design.now) (length order.now) mode script.entry.stim.rows (map (λ b. heard b) listeners.items) script.entry.requests.now (S.taken out.old) (S.taken out.new)) }
+    ensures ok { OnOk result (TakesSession (design_of design.now) (length order.now) mode script.entry.stim.rows
+        (map (λ b. heard b) listeners.items) script.entry.requests.now (S.taken out.old) (S.taken out.new)) }
+    ensures front { OnErr result (TakesSessionFront (design_of design.now) (length order.now) mode script.entry.stim.rows
+        (map (λ b. heard b) listeners.items) script.entry.requests.now (S.taken out.old) (S.taken out.new)) }
     ensures compiled { OnOk result ((net : NetParts) × (parts : TableParts) × IsTrimmed (design_of design.now) (length order.now) mode net parts) }
     ensures failed { IsErrOf result SinkEnd.Failed → Rose (S.fault_count out.old) (S.fault_count out.new) }
     ensures later { S.fault_count out.old ≤ S.fault_count out.new }

@@ -26,7 +26,9 @@ pub(crate) fn count_batch<T: Trace + Drop>(
 ) -> Result<Counts, NoMemory>
     requires idle { session.motion ≡ Idle }
     requires short { length requests.now ≤ 16777216 }
-    ensures { IfOk result (λ counts. (read : Reader) → IsReader read → Counted (batch_stops read (world_of session.table (T.samples session.trace)) (requests_of requests.now) (machine_of session (map (option_map (λ b. heard (b.vtable, b.value))) listeners.boxes.items))) counts) }
+    ensures { IfOk result (λ counts. (read : Reader) → IsReader read
+        → Counted (batch_stops read (world_of session.table (T.samples session.trace)) (requests_of requests.now)
+        (machine_of session (map (option_map (λ b. heard (b.vtable, b.value))) listeners.boxes.items))) counts) }
 {
     let mut session = Box::new(alloc, session)?;
     let mut listeners = listeners;

@@ -33,7 +33,8 @@ impl Counts {
     /// With a stop of so many threads that was reached while running this way.
     fn with_stop(self, way: Way, threads: u32) -> Counts
         requires few { self.forward + self.backward < 16777216 }
-        ensures forward { way ≡ Way.Forward → (result.forward ≡ self.forward + 1) × (result.backward ≡ self.backward) × (result.threads ≡ self.threads + threads) }
+        ensures forward { way ≡ Way.Forward → (result.forward ≡ self.forward + 1) × (result.backward ≡ self.backward)
+            × (result.threads ≡ self.threads + threads) }
         ensures backward { way ≡ Way.Backward → (result.forward ≡ self.forward) × (result.backward ≡ self.backward + 1) × (result.threads ≡ self.threads) }
     {
         match way {

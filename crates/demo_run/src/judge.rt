@@ -80,7 +80,8 @@ fn read_requests<F: Files>(
     demo: &Demo<'_>,
     files: &mut F,
 ) -> Result<Option<Vec<u8>>, ReadEnd>
-    ensures found { IfOk result (λ found. IfSome (F.told files.old) (λ told. HoldsRequests told (given_as demo.now) (option_map (λ bytes. bytes.items) found))) }
+    ensures found { IfOk result (λ found. IfSome (F.told files.old)
+        (λ told. HoldsRequests told (given_as demo.now) (option_map (λ bytes. bytes.items) found))) }
     ensures short { IfOk result (λ found. IfSome found (λ bytes. length bytes.items ≤ 16777216)) }
     ensures same { F.told files.new ≡ F.told files.old }
     ensures asked { OnOk result (Appends (F.asked files.old) (F.asked files.new) (demo.now.requests.now ∷ [])) }

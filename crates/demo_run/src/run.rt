@@ -69,8 +69,10 @@ pub fn run_demo<F: Files, S: Sink>(
     // Where the files are told: the status and the whole text that they ask for; and where nothing fails, no other but want of memory.
     // Where the design has several loops, it may be the line of another of them.
     ensures done { result < 7
-        → IfSome (F.told files.old) (λ told. EndsAsAsked (map (λ b. heard b) listeners.items) told (given_as demo.now) result (S.taken out.old) (S.taken out.new)) }
-    ensures complete { IfSome (F.told files.old) (λ told. Completes (map (λ b. heard b) listeners.items) told (given_as demo.now) result (S.taken out.old) (S.taken out.new)
+        → IfSome (F.told files.old) (λ told. EndsAsAsked (map (λ b. heard b) listeners.items) told (given_as demo.now) result (S.taken out.old)
+        (S.taken out.new)) }
+    ensures complete { IfSome (F.told files.old) (λ told. Completes (map (λ b. heard b) listeners.items) told (given_as demo.now) result
+        (S.taken out.old) (S.taken out.new)
         (Rose (F.fault_count files.old) (F.fault_count files.new)) (Rose (S.fault_count out.old) (S.fault_count out.new))) }
 
     // No other file is asked for than that of the requests; it is, unless the design or the stimulus is refused.

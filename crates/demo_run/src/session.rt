@@ -79,7 +79,8 @@ pub(crate) fn count_session(
     requires inputs { HasInputs (design_of design.now) script.stim.ports }
     requires few { length listeners.items ≤ 65536 }
     requires short { length script.requests.now ≤ 16777216 }
-    ensures { IfOk result (TellsSession (design_of design.now) (length order.now) mode script.entry.stim.rows (map (λ b. heard b) listeners.items) script.entry.requests.now) }
+    ensures { IfOk result (TellsSession (design_of design.now) (length order.now) mode script.entry.stim.rows
+        (map (λ b. heard b) listeners.items) script.entry.requests.now) }
 {
     let Script { stim, requests } = script;
     let Compiled { net, table } = compile(alloc, design, order, mode)?;

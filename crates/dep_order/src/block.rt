@@ -111,7 +111,9 @@ fn end_version(
     requires count { length vertices.now ≡ length terms.now.terms }
     ensures grown { OnOk result (Grown graph.old graph.new) }
     ensures graph { OnOk result (IsGraph graph.new) }
-    ensures end { IfOk result (λ version. (base : ℕ) → base ≤ length graph.old → AreFollowed base graph.old (value_of numbers.now) terms.now.terms (length terms.now.terms) vertices.now → EndIs base graph.new (value_of numbers.now) version (end_of terms.now name.now)) }
+    ensures end { IfOk result (λ version. (base : ℕ) → base ≤ length graph.old
+        → AreFollowed base graph.old (value_of numbers.now) terms.now.terms (length terms.now.terms) vertices.now
+        → EndIs base graph.new (value_of numbers.now) version (end_of terms.now name.now)) }
 {
     match terms.name(name) {
         Some(Some(id)) => Ok(Some(vertices[id.0])),
@@ -137,7 +139,9 @@ fn end_versions(
     requires count { length vertices.now ≡ length terms.now.terms }
     ensures grown { OnOk result (Grown graph.old graph.new) }
     ensures graph { OnOk result (IsGraph graph.new) }
-    ensures ends { IfOk result (λ ends. (base : ℕ) → base ≤ length graph.old → AreFollowed base graph.old (value_of numbers.now) terms.now.terms (length terms.now.terms) vertices.now → EndsStand base graph.new (value_of numbers.now) (has (names_at names.now)) terms.now (version_of ends)) }
+    ensures ends { IfOk result (λ ends. (base : ℕ) → base ≤ length graph.old
+        → AreFollowed base graph.old (value_of numbers.now) terms.now.terms (length terms.now.terms) vertices.now
+        → EndsStand base graph.new (value_of numbers.now) (has (names_at names.now)) terms.now (version_of ends)) }
 {
     let mut ends = VersionMap::new(alloc);
     for name in names {

@@ -52,7 +52,8 @@ fn drive_child(
     requires number { (j : ℕ) → number ≡ Some j → j < length maps.now }
     ensures graph { OnOk result (IsGraph graph.new) }
     ensures count { length graph.new ≡ length graph.old }
-    ensures drives { OnOk result (DrivesLinks graph.old driven.old graph.new driven.new (numbers_of maps.now) (none_or (λ j. map (conn_link instance j) (child_of child.now).conns) number)) }
+    ensures drives { OnOk result (DrivesLinks graph.old driven.old graph.new driven.new (numbers_of maps.now)
+        (none_or (λ j. map (conn_link instance j) (child_of child.now).conns) number)) }
     ensures layers { OnOk result (AllLayered graph.old graph.new (numbers_of maps.now)) }
 {
     match number {
@@ -86,7 +87,8 @@ fn drive_children(
     requires numbers { EachOf (λ j. j < length maps.now) below.now }
     ensures graph { OnOk result (IsGraph graph.new) }
     ensures count { length graph.new ≡ length graph.old }
-    ensures drives { OnOk result (DrivesLinks graph.old driven.old graph.new driven.new (numbers_of maps.now) (flat_map (links_of_child instance below.now) (enumerate_from 0 (map child_of children.now)))) }
+    ensures drives { OnOk result (DrivesLinks graph.old driven.old graph.new driven.new (numbers_of maps.now)
+        (flat_map (links_of_child instance below.now) (enumerate_from 0 (map child_of children.now)))) }
     ensures layers { OnOk result (AllLayered graph.old graph.new (numbers_of maps.now)) }
 {
     for (place, child) in children.iter().enumerate() {
@@ -114,7 +116,8 @@ fn drive_child_output(
     requires number { (j : ℕ) → number ≡ Some j → j < length maps.now }
     ensures graph { OnOk result (IsGraph graph.new) }
     ensures count { length graph.new ≡ length graph.old }
-    ensures drives { OnOk result (DrivesLinks graph.old driven.old graph.new driven.new (numbers_of maps.now) (none_or (λ j. (place instance name.now, Leaf (place j output.now)) ∷ []) number)) }
+    ensures drives { OnOk result (DrivesLinks graph.old driven.old graph.new driven.new (numbers_of maps.now)
+        (none_or (λ j. (place instance name.now, Leaf (place j output.now)) ∷ []) number)) }
     ensures layers { OnOk result (AllLayered graph.old graph.new (numbers_of maps.now)) }
 {
     match number {
@@ -147,7 +150,8 @@ fn drive_child_out(
     requires numbers { EachOf (λ j. j < length maps.now) below.now }
     ensures graph { OnOk result (IsGraph graph.new) }
     ensures count { length graph.new ≡ length graph.old }
-    ensures drives { OnOk result (DrivesLinks graph.old driven.old graph.new driven.new (numbers_of maps.now) (link_of_output instance below.now signal.now.name signal.now.kind)) }
+    ensures drives { OnOk result (DrivesLinks graph.old driven.old graph.new driven.new (numbers_of maps.now)
+        (link_of_output instance below.now signal.now.name signal.now.kind)) }
     ensures layers { OnOk result (AllLayered graph.old graph.new (numbers_of maps.now)) }
 {
     match &signal.kind {
@@ -180,7 +184,8 @@ fn drive_child_outs(
     requires numbers { EachOf (λ j. j < length maps.now) below.now }
     ensures graph { OnOk result (IsGraph graph.new) }
     ensures count { length graph.new ≡ length graph.old }
-    ensures drives { OnOk result (DrivesLinks graph.old driven.old graph.new driven.new (numbers_of maps.now) (flat_map (λ (s : Signal). link_of_output instance below.now s.name s.kind) signals.now)) }
+    ensures drives { OnOk result (DrivesLinks graph.old driven.old graph.new driven.new (numbers_of maps.now)
+        (flat_map (λ (s : Signal). link_of_output instance below.now s.name s.kind) signals.now)) }
     ensures layers { OnOk result (AllLayered graph.old graph.new (numbers_of maps.now)) }
 {
     for signal in signals {
@@ -214,7 +219,8 @@ fn drive_instance(
     requires children { parent.below.now ≡ numbers_below (design_of design.now) parent.number }
     ensures graph { OnOk result (IsGraph graph.new) }
     ensures count { length graph.new ≡ length graph.old }
-    ensures drives { OnOk result (DrivesLinks graph.old driven.old graph.new driven.new (numbers_of maps.now) (links_at (design_of design.now) (parent.entry.number, parent.entry.instance.now))) }
+    ensures drives { OnOk result (DrivesLinks graph.old driven.old graph.new driven.new (numbers_of maps.now)
+        (links_at (design_of design.now) (parent.entry.number, parent.entry.instance.now))) }
     ensures layers { OnOk result (AllLayered graph.old graph.new (numbers_of maps.now)) }
 {
     let Parent {
@@ -243,7 +249,8 @@ pub(crate) fn drive_links(
     requires maps { length maps.now ≡ length design.now.instances }
     ensures graph { OnOk result (IsGraph graph.new) }
     ensures count { length graph.new ≡ length graph.old }
-    ensures drives { OnOk result (DrivesLinks graph.old driven.old graph.new driven.new (numbers_of maps.now) (flat_map (links_at (design_of design.now)) (instances_of (design_of design.now)))) }
+    ensures drives { OnOk result (DrivesLinks graph.old driven.old graph.new driven.new (numbers_of maps.now)
+        (flat_map (links_at (design_of design.now)) (instances_of (design_of design.now)))) }
     ensures layers { OnOk result (AllLayered graph.old graph.new (numbers_of maps.now)) }
 {
     let below = numbers_by_parent(alloc, design)?;
@@ -285,7 +292,8 @@ pub(crate) fn drive_processes(
     requires tell { TellDesign (design_of design.now) (lists_of terms.now) }
     ensures graph { OnOk result (IsGraph graph.new) }
     ensures longer { OnOk result (length graph.old ≤ length graph.new) }
-    ensures drives { OnOk result (DrivesProcesses graph.old driven.old graph.new driven.new (numbers_of maps.now) (flat_map (processes_at (design_of design.now)) (instances_of (design_of design.now)))) }
+    ensures drives { OnOk result (DrivesProcesses graph.old driven.old graph.new driven.new (numbers_of maps.now)
+        (flat_map (processes_at (design_of design.now)) (instances_of (design_of design.now)))) }
     ensures layers { OnOk result (AllLayered graph.old graph.new (numbers_of maps.now)) }
 {
     for (number, instance) in design.instances.items().iter().enumerate() {

@@ -1,3 +1,5 @@
+//! Signals in an order in which each is computed after what it needs, with the versions of a block between them left out.
+
 ghost use Rattle.std.specs.Prelude.{◌≡◌, ◌≤◌, length, IfErr, IfOk};
 ghost use Rattle.dep_order.specs.Reaching.{IsLayered};
 ghost use Rattle.dep_order.specs.Signals.{signals_in, IsSignalOrder, TellsSignalCycle};

@@ -52,7 +52,8 @@ pub(crate) fn drive(
 /// The vertices that an expression over the names of an instance reads.
 fn reads_of(alloc: Global, numbers: &NameMap<u32>, expr: &Expr) -> Result<Vec<u32>, NoMemory>
     ensures within { IfOk result (λ read. (g : graphs.Graph) → AreSignals (length g) (value_of numbers.now) → EachOf (λ v. v < length g) read.items) }
-    ensures stand { IfOk result (λ read. (signals : ℕ) (g : graphs.Graph) → AreSignals signals (value_of numbers.now) → StandFor signals g (value_of numbers.now) read.items (tree_of (expr_of expr.now))) }
+    ensures stand { IfOk result (λ read. (signals : ℕ) (g : graphs.Graph) → AreSignals signals (value_of numbers.now)
+        → StandFor signals g (value_of numbers.now) read.items (tree_of (expr_of expr.now))) }
 {
     let mut read = Vec::new(alloc);
     read_expr(alloc, numbers, expr, &mut read)?;
@@ -121,7 +122,8 @@ fn drive_names(
     requires marked { AreSignals (length driven.old) (value_of numbers.now) }
     requires versions { (x : Name) → has (names_at names.now) x ≡ true → AreVertices (length graph.old) (option_map single (version_of ends.now x)) }
     ensures others { OnOk result (KeepsOthers graph.old graph.new (value_of numbers.now)) }
-    ensures drives { OnOk result (DrivesNames graph.old driven.old graph.new driven.new (value_of numbers.now) (has (names_at names.now)) (version_of ends.now)) }
+    ensures drives { OnOk result (DrivesNames graph.old driven.old graph.new driven.new (value_of numbers.now) (has (names_at names.now))
+        (version_of ends.now)) }
 {
     for name in names {
         drive_name(graph, driven, numbers, ends, name)?;

@@ -1,3 +1,5 @@
+//! An elaborated design: modules without parameters, loops or `gen`.
+
 ghost use Rattle.std.specs.Prelude.{map};
 ghost use Rattle.design_core.specs.View.{variant_of};
 ghost use Rattle.design_core.specs.WellFormed.{IsDesign};
@@ -21,5 +23,6 @@ pub struct Design {
     pub top: Text,
     pub variants: Vec<Variant>,
     pub instances: Listed<Instance>,
-    pub ghost kept: { IsDesign (record { top = top; variants = map variant_of variants.items; instances = instances }) } by { design_prop (record { top = top; variants = map variant_of variants.items; instances = instances }) },
+    pub ghost kept: { IsDesign (record { top = top; variants = map variant_of variants.items; instances = instances }) } by { design_prop
+        (record { top = top; variants = map variant_of variants.items; instances = instances }) },
 }

@@ -1,3 +1,5 @@
+//! Expressions of a design. Names are those of one instance; integers are computed, and not yet judged.
+
 use std::boxed::Box;
 use text_core::Text;
 

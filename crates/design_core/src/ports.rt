@@ -1,3 +1,5 @@
+//! The top of a design as its surroundings see it: what a stimulus and a dump file are judged by.
+
 ghost use Rattle.std.specs.Prelude.{◌≡◌, IsTrue, IfOk, ◌&&◌};
 ghost use Rattle.std.specs.List.{list_all};
 ghost use Rattle.design_core.specs.Ports.{has_width, have_names};

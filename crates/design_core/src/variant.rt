@@ -1,3 +1,5 @@
+//! A module with its parameters: what one instance of it has, told once for all of them.
+
 use crate::{Expr, Literal, Stmt};
 use gen_scope::Scope;
 use text_core::{Listed, Text};

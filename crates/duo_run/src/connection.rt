@@ -31,8 +31,10 @@ pub struct Ready<T> {
 
 /// A connection for which there was no memory: its link is not polled.
 pub(crate) fn unserved<L: Link>(alloc: Global, link: L) -> Served<L>
-    ensures carried { Carries (L.meaning link) (L.meaning result.link) result.journal.items result.unapplied.items result.sent.items result.unsent.items result.end }
-    ensures applied { (w : World) (m : Machine) (read : Reader) → IsReader read → Applies read w m result.journal.items result.sent.items result.unsent.items result.end }
+    ensures carried { Carries (L.meaning link) (L.meaning result.link) result.journal.items result.unapplied.items result.sent.items
+        result.unsent.items result.end }
+    ensures applied { (w : World) (m : Machine) (read : Reader) → IsReader read
+        → Applies read w m result.journal.items result.sent.items result.unsent.items result.end }
 {
     let mut desk = Desk::new(alloc, link);
     desk.outlet.lose();
@@ -54,8 +56,10 @@ pub fn serve_connection<R: Threads + Wait + Sync, T: Trace + Send + Drop, L: Lin
     requires fits { FitsTable ready.table (T.samples ready.trace) }
     requires usable { (L.meaning link).shut ≡ false }
     requires few { length listeners.items ≤ 65536 }
-    ensures carried { Carries (L.meaning link) (L.meaning result.link) result.journal.items result.unapplied.items result.sent.items result.unsent.items result.end }
-    ensures applied { (read : Reader) → IsReader read → Applies read (world_of ready.table (T.samples ready.trace)) (opening (map (λ b. heard b) listeners.items)) result.journal.items result.sent.items result.unsent.items result.end }
+    ensures carried { Carries (L.meaning link) (L.meaning result.link) result.journal.items result.unapplied.items result.sent.items
+        result.unsent.items result.end }
+    ensures applied { (read : Reader) → IsReader read → Applies read (world_of ready.table (T.samples ready.trace))
+        (opening (map (λ b. heard b) listeners.items)) result.journal.items result.sent.items result.unsent.items result.end }
 {
     match Listeners::new(alloc, listeners) {
         Ok(listeners) => {

@@ -59,7 +59,9 @@ impl<L: Link> Desk<L> {
     /// Takes the room for a message that is not applied.
     pub(crate) fn make_room(&mut self)
         requires { self.old.unapplied.items ≡ [] }
-        ensures keeps { (start : Meaning) (polls : List Poll) (deeds : List Deed) (made : List (List ℕ)) → Held start (L.meaning self.old.outlet.link) self.old polls deeds [] made → Held start (L.meaning self.new.outlet.link) self.new polls deeds [] made }
+        ensures keeps { (start : Meaning) (polls : List Poll) (deeds : List Deed) (made : List (List ℕ))
+            → Held start (L.meaning self.old.outlet.link) self.old polls deeds [] made
+            → Held start (L.meaning self.new.outlet.link) self.new polls deeds [] made }
         ensures room { HasRoom self.new }
         ensures left { self.new.left ≡ self.old.left }
         ensures over { (self.new.outlet.over ≡ self.old.outlet.over) ⊎ (self.new.outlet.over ≡ Some Cause.NoMemory) }
@@ -81,7 +83,9 @@ impl<L: Link> Desk<L> {
     /// Puts a message for which memory ran out with those that are not applied.
     fn starve(&mut self, text: Listed<u8>)
         requires room { (self.old.unapplied.items ≡ []) × (1 ≤ vec_capacity self.old.unapplied) }
-        ensures keeps { (start : Meaning) (polls : List Poll) (deeds : List Deed) (made : List (List ℕ)) → Held start (L.meaning self.old.outlet.link) self.old polls deeds (text ∷ []) made → Held start (L.meaning self.new.outlet.link) self.new polls deeds [] made }
+        ensures keeps { (start : Meaning) (polls : List Poll) (deeds : List Deed) (made : List (List ℕ))
+            → Held start (L.meaning self.old.outlet.link) self.old polls deeds (text ∷ []) made
+            → Held start (L.meaning self.new.outlet.link) self.new polls deeds [] made }
         ensures over { self.new.outlet.over ≡ Some Cause.NoMemory }
         ensures few { length self.new.unapplied.items ≤ 1 }
         ensures left { self.new.left ≡ self.old.left }
@@ -107,8 +111,12 @@ impl<L: Link> Desk<L> {
         requires usable { (L.meaning self.old.outlet.link).shut ≡ false }
         requires over { self.old.outlet.over ≡ None }
         requires room { HasRoom self.old }
-        ensures none { IfNone result ((start : Meaning) (polls : List Poll) (deeds : List Deed) (made : List (List ℕ)) → Held start (L.meaning self.old.outlet.link) self.old polls deeds [] made → NoRequest start (L.meaning self.new.outlet.link) self.new polls deeds made) }
-        ensures some { IfSome result (λ heard. (start : Meaning) (polls : List Poll) (deeds : List Deed) (made : List (List ℕ)) → Held start (L.meaning self.old.outlet.link) self.old polls deeds [] made → Held start (L.meaning self.new.outlet.link) self.new (polls ++ Some heard.0 ∷ []) deeds (heard.0 ∷ []) made) }
+        ensures none { IfNone result ((start : Meaning) (polls : List Poll) (deeds : List Deed) (made : List (List ℕ))
+            → Held start (L.meaning self.old.outlet.link) self.old polls deeds [] made
+            → NoRequest start (L.meaning self.new.outlet.link) self.new polls deeds made) }
+        ensures some { IfSome result (λ heard. (start : Meaning) (polls : List Poll) (deeds : List Deed) (made : List (List ℕ))
+            → Held start (L.meaning self.old.outlet.link) self.old polls deeds [] made
+            → Held start (L.meaning self.new.outlet.link) self.new (polls ++ Some heard.0 ∷ []) deeds (heard.0 ∷ []) made) }
         ensures asked { IfSome result (λ heard. heard.1 ≡ asked heard.0) }
         ensures events { OnSome result (vec_len self.new.journal.events < vec_capacity self.new.journal.events) }
         ensures open { OnSome result (self.new.outlet.over ≡ None) }
@@ -133,7 +141,9 @@ impl<L: Link> Desk<L> {
         requires usable { (L.meaning self.old.outlet.link).shut ≡ false }
         requires events { vec_len self.old.journal.events < vec_capacity self.old.journal.events }
         requires room { self.old.unapplied.items ≡ [] }
-        ensures keeps { (start : Meaning) (polls : List Poll) (deeds : List Deed) (made : List (List ℕ)) → Held start (L.meaning self.old.outlet.link) self.old polls deeds (text ∷ []) made → Held start (L.meaning self.new.outlet.link) self.new polls (deeds ++ Asks text ∷ []) [] (made ++ texts_of (Replied reply.now ∷ [])) }
+        ensures keeps { (start : Meaning) (polls : List Poll) (deeds : List Deed) (made : List (List ℕ))
+            → Held start (L.meaning self.old.outlet.link) self.old polls deeds (text ∷ []) made
+            → Held start (L.meaning self.new.outlet.link) self.new polls (deeds ++ Asks text ∷ []) [] (made ++ texts_of (Replied reply.now ∷ [])) }
         ensures left { self.new.left ≡ self.old.left || is_bye reply.now.body }
         ensures over { Lasts self.old.outlet.over self.new.outlet.over }
         ensures usable { (L.meaning self.new.outlet.link).shut ≡ false }
@@ -150,9 +160,13 @@ impl<L: Link> Desk<L> {
         requires events { vec_len self.old.journal.events < vec_capacity self.old.journal.events }
         requires room { HasRoom self.old }
         requires open { self.old.outlet.over ≡ None }
-        ensures ok { IfOk reply (λ reply. (start : Meaning) (polls : List Poll) (deeds : List Deed) (made : List (List ℕ)) → Held start (L.meaning self.old.outlet.link) self.old polls deeds (text ∷ []) made → Held start (L.meaning self.new.outlet.link) self.new polls (deeds ++ Asks text ∷ []) [] (made ++ texts_of (Replied reply ∷ []))) }
+        ensures ok { IfOk reply (λ reply. (start : Meaning) (polls : List Poll) (deeds : List Deed) (made : List (List ℕ))
+            → Held start (L.meaning self.old.outlet.link) self.old polls deeds (text ∷ []) made
+            → Held start (L.meaning self.new.outlet.link) self.new polls (deeds ++ Asks text ∷ []) [] (made ++ texts_of (Replied reply ∷ []))) }
         ensures left { IfOk reply (λ reply. self.new.left ≡ self.old.left || is_bye reply.body) }
-        ensures err { OnErr reply ((start : Meaning) (polls : List Poll) (deeds : List Deed) (made : List (List ℕ)) → Held start (L.meaning self.old.outlet.link) self.old polls deeds (text ∷ []) made → Held start (L.meaning self.new.outlet.link) self.new polls deeds [] made) }
+        ensures err { OnErr reply ((start : Meaning) (polls : List Poll) (deeds : List Deed) (made : List (List ℕ))
+            → Held start (L.meaning self.old.outlet.link) self.old polls deeds (text ∷ []) made
+            → Held start (L.meaning self.new.outlet.link) self.new polls deeds [] made) }
         ensures open { OnOk reply (self.new.outlet.over ≢ Some Cause.Closed) }
         ensures starved { OnErr reply ((self.new.outlet.over ≡ Some Cause.NoMemory) × (self.new.left ≡ self.old.left)) }
         ensures usable { (L.meaning self.new.outlet.link).shut ≡ false }
@@ -167,9 +181,13 @@ impl<L: Link> Desk<L> {
     /// Whether a turn is to be made, if the session runs: there is room for it in the journal.
     pub(crate) fn is_ready(&mut self) -> bool
         requires usable { (L.meaning self.old.outlet.link).shut ≡ false }
-        ensures keeps { (start : Meaning) (polls : List Poll) (deeds : List Deed) (made : List (List ℕ)) → Held start (L.meaning self.old.outlet.link) self.old polls deeds [] made → Held start (L.meaning self.new.outlet.link) self.new polls deeds [] made }
-        ensures yes { IsTrue result → (self.old.left ≡ false) × (self.old.outlet.over ≡ None) × (self.new.outlet.over ≡ None) × (vec_len self.new.journal.events < vec_capacity self.new.journal.events) }
-        ensures no { IsFalse result → ((self.old.left || is_some self.old.outlet.over) ≡ true) × (self.new.outlet.over ≡ self.old.outlet.over) ⊎ (self.new.outlet.over ≡ Some Cause.NoMemory) }
+        ensures keeps { (start : Meaning) (polls : List Poll) (deeds : List Deed) (made : List (List ℕ))
+            → Held start (L.meaning self.old.outlet.link) self.old polls deeds [] made
+            → Held start (L.meaning self.new.outlet.link) self.new polls deeds [] made }
+        ensures yes { IsTrue result → (self.old.left ≡ false) × (self.old.outlet.over ≡ None) × (self.new.outlet.over ≡ None)
+            × (vec_len self.new.journal.events < vec_capacity self.new.journal.events) }
+        ensures no { IsFalse result → ((self.old.left || is_some self.old.outlet.over) ≡ true) × (self.new.outlet.over ≡ self.old.outlet.over)
+            ⊎ (self.new.outlet.over ≡ Some Cause.NoMemory) }
         ensures usable { (L.meaning self.new.outlet.link).shut ≡ false }
         ensures room { HasRoom self.old → HasRoom self.new }
         ensures left { self.new.left ≡ self.old.left }
@@ -188,7 +206,9 @@ impl<L: Link> Desk<L> {
     pub(crate) fn turned(&mut self, notice: Result<Option<Notice>, NoMemory>)
         requires usable { (L.meaning self.old.outlet.link).shut ≡ false }
         requires events { vec_len self.old.journal.events < vec_capacity self.old.journal.events }
-        ensures keeps { (start : Meaning) (polls : List Poll) (deeds : List Deed) (made : List (List ℕ)) (lines : List Line) → IfOk notice (λ notice. told_lines notice ≡ lines) → Held start (L.meaning self.old.outlet.link) self.old polls deeds [] made → Held start (L.meaning self.new.outlet.link) self.new polls (deeds ++ Goes ∷ []) [] (made ++ texts_of lines) }
+        ensures keeps { (start : Meaning) (polls : List Poll) (deeds : List Deed) (made : List (List ℕ)) (lines : List Line)
+            → IfOk notice (λ notice. told_lines notice ≡ lines) → Held start (L.meaning self.old.outlet.link) self.old polls deeds [] made
+            → Held start (L.meaning self.new.outlet.link) self.new polls (deeds ++ Goes ∷ []) [] (made ++ texts_of lines) }
         ensures usable { (L.meaning self.new.outlet.link).shut ≡ false }
         ensures room { HasRoom self.old → HasRoom self.new }
         ensures left { self.new.left ≡ self.old.left }

@@ -46,8 +46,12 @@ fn serve_over<R: Threads + Wait + Sync, T: Trace + Send + Drop, L: Link, G: Gate
     requires undropped { (told : List Heard) × (map (option_map (λ b. heard (b.vtable, b.value))) listeners.boxes.items ≡ map (λ h. Some h) told) }
     requires usable { (L.meaning link).shut ≡ false }
     requires fresh { AreFresh rings.messages rings.from_link rings.to_link rings.lines rings.unapplied }
-    ensures carried { Carries (L.meaning link) (L.meaning result.link) result.journal.items result.unapplied.items result.sent.items result.unsent.items result.end }
-    ensures applied { (read : Reader) → IsReader read → (told : List Heard) → map (option_map (λ b. heard (b.vtable, b.value))) listeners.boxes.items ≡ map (λ h. Some h) told → Applies read (world_of session.table (T.samples session.trace)) (opening told) result.journal.items result.sent.items result.unsent.items result.end }
+    ensures carried { Carries (L.meaning link) (L.meaning result.link) result.journal.items result.unapplied.items result.sent.items
+        result.unsent.items result.end }
+    ensures applied { (read : Reader) → IsReader read → (told : List Heard)
+        → map (option_map (λ b. heard (b.vtable, b.value))) listeners.boxes.items ≡ map (λ h. Some h) told
+        → Applies read (world_of session.table (T.samples session.trace))
+        (opening told) result.journal.items result.sent.items result.unsent.items result.end }
 {
     let Rings {
         messages,
@@ -64,8 +68,12 @@ fn serve_over<R: Threads + Wait + Sync, T: Trace + Send + Drop, L: Link, G: Gate
             requires undropped { (told : List Heard) × (map (option_map (λ b. heard (b.vtable, b.value))) listeners.boxes.items ≡ map (λ h. Some h) told) }
             requires usable { (L.meaning link).shut ≡ false }
             requires fresh { AreFresh messages from_link to_link lines unapplied }
-            ensures carried { Carries (L.meaning link) (L.meaning result.link) result.journal.items result.unapplied.items result.sent.items result.unsent.items result.end }
-            ensures applied { (read : Reader) → IsReader read → (told : List Heard) → map (option_map (λ b. heard (b.vtable, b.value))) listeners.boxes.items ≡ map (λ h. Some h) told → Applies read (world_of session.table (T.samples session.trace)) (opening told) result.journal.items result.sent.items result.unsent.items result.end }
+            ensures carried { Carries (L.meaning link) (L.meaning result.link) result.journal.items result.unapplied.items result.sent.items
+                result.unsent.items result.end }
+            ensures applied { (read : Reader) → IsReader read → (told : List Heard)
+                → map (option_map (λ b. heard (b.vtable, b.value))) listeners.boxes.items ≡ map (λ h. Some h) told
+                → Applies read (world_of session.table (T.samples session.trace))
+                (opening told) result.journal.items result.sent.items result.unsent.items result.end }
         {
             let began = Began {
                 link: Snapshot::of(&link),
@@ -117,8 +125,12 @@ pub fn serve_duo<R: Threads + Wait + Sync, T: Trace + Send + Drop, L: Link, G: G
     requires undropped { (told : List Heard) × (map (option_map (λ b. heard (b.vtable, b.value))) listeners.boxes.items ≡ map (λ h. Some h) told) }
     requires usable { (L.meaning link).shut ≡ false }
 
-    ensures carried { Carries (L.meaning link) (L.meaning result.link) result.journal.items result.unapplied.items result.sent.items result.unsent.items result.end }
-    ensures applied { (read : Reader) → IsReader read → (told : List Heard) → map (option_map (λ b. heard (b.vtable, b.value))) listeners.boxes.items ≡ map (λ h. Some h) told → Applies read (world_of session.table (T.samples session.trace)) (opening told) result.journal.items result.sent.items result.unsent.items result.end }
+    ensures carried { Carries (L.meaning link) (L.meaning result.link) result.journal.items result.unapplied.items result.sent.items
+        result.unsent.items result.end }
+    ensures applied { (read : Reader) → IsReader read → (told : List Heard)
+        → map (option_map (λ b. heard (b.vtable, b.value))) listeners.boxes.items ≡ map (λ h. Some h) told
+        → Applies read (world_of session.table (T.samples session.trace))
+        (opening told) result.journal.items result.sent.items result.unsent.items result.end }
 {
     match Rings::new(alloc) {
         Ok(rings) => serve_over(rt, alloc, session, link, gate, listeners, rings),

@@ -28,8 +28,11 @@ pub(crate) fn gather<L: Link>(back: Pump<L>, side: Side, unapplied: Vec<Listed<u
     requires places { consumer_capacity side.messages ≡ 64 }
     requires room { (unapplied.items ≡ []) × (66 ≤ vec_capacity unapplied) }
     requires side { IsSide side.messages side.lines (requests_of side.journal.items) side.unapplied.items side.pushed.items side.end }
-    ensures carried { (start : Meaning) → Pumped start (L.meaning back.outlet.link) back → Carries start (L.meaning result.link) result.journal.items result.unapplied.items result.sent.items result.unsent.items result.end }
-    ensures applied { (start : Meaning) → Pumped start (L.meaning back.outlet.link) back → (read : Reader) (w : World) (m : Machine) → Applies read w m side.journal.items side.pushed.items side.kept.items side.end → Applies read w m result.journal.items result.sent.items result.unsent.items result.end }
+    ensures carried { (start : Meaning) → Pumped start (L.meaning back.outlet.link) back
+        → Carries start (L.meaning result.link) result.journal.items result.unapplied.items result.sent.items result.unsent.items result.end }
+    ensures applied { (start : Meaning) → Pumped start (L.meaning back.outlet.link) back → (read : Reader) (w : World) (m : Machine)
+        → Applies read w m side.journal.items side.pushed.items side.kept.items side.end
+        → Applies read w m result.journal.items result.sent.items result.unsent.items result.end }
 {
     let Side {
         messages,

@@ -7,7 +7,7 @@
 //! in lock step too, with its ends of the rings as its link; once the thread was joined, `gather` puts the sides together. So the same is
 //! promised of both ways.
 //!
-//! `specs/` has the definitions: `Texts` the text of a line, `Deeds` what is done with a session one by one, `Polls` what the polls of
+//! `specs/` has the definitions: `Deeds` what is done with a session one by one, `Polls` what the polls of
 //! a link come to, `Journals` the journal, `Connections` what a served connection is, and `Desks` what holds while it is served. What one
 //! link needs has its definitions in `link_pump`. No contract says when a message comes, nor that one comes: a connection may be served
 //! forever.

@@ -38,9 +38,16 @@ pub fn serve_lockstep<R: Wait, T: Trace + Drop, L: Link, G: Gate>(
     requires undropped { (told : List Heard) × (map (option_map (λ b. heard (b.vtable, b.value))) listeners.boxes.items ≡ map (λ h. Some h) told) }
     requires usable { (L.meaning link).shut ≡ false }
 
-    ensures carried { Carries (L.meaning link) (L.meaning result.link) result.journal.items result.unapplied.items result.sent.items result.unsent.items result.end }
-    ensures applied { (read : Reader) → IsReader read → (told : List Heard) → map (option_map (λ b. heard (b.vtable, b.value))) listeners.boxes.items ≡ map (λ h. Some h) told → Applies read (world_of session.table (T.samples session.trace)) (opening told) result.journal.items result.sent.items result.unsent.items result.end }
-    ensures in_lock_step { (read : Reader) → IsReader read → (told : List Heard) → map (option_map (λ b. heard (b.vtable, b.value))) listeners.boxes.items ≡ map (λ h. Some h) told → InLockStep read (world_of session.table (T.samples session.trace)) (opening told) (L.meaning link) (L.meaning result.link) result.journal.items result.end }
+    ensures carried { Carries (L.meaning link) (L.meaning result.link) result.journal.items result.unapplied.items result.sent.items
+        result.unsent.items result.end }
+    ensures applied { (read : Reader) → IsReader read → (told : List Heard)
+        → map (option_map (λ b. heard (b.vtable, b.value))) listeners.boxes.items ≡ map (λ h. Some h) told
+        → Applies read (world_of session.table (T.samples session.trace))
+        (opening told) result.journal.items result.sent.items result.unsent.items result.end }
+    ensures in_lock_step { (read : Reader) → IsReader read → (told : List Heard)
+        → map (option_map (λ b. heard (b.vtable, b.value))) listeners.boxes.items ≡ map (λ h. Some h) told
+        → InLockStep read (world_of session.table (T.samples session.trace)) (opening told) (L.meaning link)
+        (L.meaning result.link) result.journal.items result.end }
     ensures few { length result.unapplied.items ≤ 1 }
 {
     let mut session = session;

@@ -20,7 +20,9 @@ pub(crate) fn note<L: Link>(
     notice: Result<Option<Notice>, NoMemory>,
 )
     requires usable { (L.meaning outlet.old.link).shut ≡ false }
-    ensures keeps { (start : Meaning) (made : List (List ℕ)) (lines : List Line) → IfOk notice (λ notice. told_lines notice ≡ lines) → Delivered start (L.meaning outlet.old.link) outlet.old made → Delivered start (L.meaning outlet.new.link) outlet.new (made ++ texts_of lines) }
+    ensures keeps { (start : Meaning) (made : List (List ℕ)) (lines : List Line) → IfOk notice (λ notice. told_lines notice ≡ lines)
+        → Delivered start (L.meaning outlet.old.link) outlet.old made
+        → Delivered start (L.meaning outlet.new.link) outlet.new (made ++ texts_of lines) }
     ensures polls { (L.meaning outlet.new.link).polls ≡ (L.meaning outlet.old.link).polls }
     ensures received { (L.meaning outlet.new.link).received ≡ (L.meaning outlet.old.link).received }
     ensures shut { (L.meaning outlet.new.link).shut ≡ false }
@@ -36,7 +38,8 @@ pub(crate) fn note<L: Link>(
 /// Tells notices, in order.
 fn note_all<L: Link>(outlet: &mut Outlet<L>, alloc: Global, notices: &[Notice])
     requires usable { (L.meaning outlet.old.link).shut ≡ false }
-    ensures keeps { (start : Meaning) (made : List (List ℕ)) → Delivered start (L.meaning outlet.old.link) outlet.old made → Delivered start (L.meaning outlet.new.link) outlet.new (made ++ texts_of (map (λ n. Noticed n) notices.now)) }
+    ensures keeps { (start : Meaning) (made : List (List ℕ)) → Delivered start (L.meaning outlet.old.link) outlet.old made
+        → Delivered start (L.meaning outlet.new.link) outlet.new (made ++ texts_of (map (λ n. Noticed n) notices.now)) }
     ensures polls { (L.meaning outlet.new.link).polls ≡ (L.meaning outlet.old.link).polls }
     ensures received { (L.meaning outlet.new.link).received ≡ (L.meaning outlet.old.link).received }
     ensures over { Lasts outlet.old.over outlet.new.over }
@@ -53,7 +56,9 @@ pub(crate) fn close<L: Link>(
     notices: Result<Vec<Notice>, NoMemory>,
 )
     requires usable { (L.meaning outlet.old.link).shut ≡ false }
-    ensures keeps { (start : Meaning) (made : List (List ℕ)) (lines : List Line) → IfOk notices (λ notices. map (λ n. Noticed n) notices.items ≡ lines) → Delivered start (L.meaning outlet.old.link) outlet.old made → Delivered start (L.meaning outlet.new.link) outlet.new (made ++ texts_of lines) }
+    ensures keeps { (start : Meaning) (made : List (List ℕ)) (lines : List Line)
+        → IfOk notices (λ notices. map (λ n. Noticed n) notices.items ≡ lines) → Delivered start (L.meaning outlet.old.link) outlet.old made
+        → Delivered start (L.meaning outlet.new.link) outlet.new (made ++ texts_of lines) }
     ensures polls { (L.meaning outlet.new.link).polls ≡ (L.meaning outlet.old.link).polls }
     ensures received { (L.meaning outlet.new.link).received ≡ (L.meaning outlet.old.link).received }
     ensures over { Lasts outlet.old.over outlet.new.over }

@@ -52,7 +52,10 @@ pub(crate) fn serve_side<R: Wait + Sync, T: Trace + Drop, G: Gate>(
     requires undropped { (told : List Heard) × (map (option_map (λ b. heard (b.vtable, b.value))) listeners.boxes.items ≡ map (λ h. Some h) told) }
     requires fresh { (received messages ≡ []) × (sent lines ≡ []) }
     ensures side { IsSide result.messages result.lines (requests_of result.journal.items) result.unapplied.items result.pushed.items result.end }
-    ensures applied { (read : Reader) → IsReader read → (told : List Heard) → map (option_map (λ b. heard (b.vtable, b.value))) listeners.boxes.items ≡ map (λ h. Some h) told → Applies read (world_of session.table (T.samples session.trace)) (opening told) result.journal.items result.pushed.items result.kept.items result.end }
+    ensures applied { (read : Reader) → IsReader read → (told : List Heard)
+        → map (option_map (λ b. heard (b.vtable, b.value))) listeners.boxes.items ≡ map (λ h. Some h) told
+        → Applies read (world_of session.table (T.samples session.trace))
+        (opening told) result.journal.items result.pushed.items result.kept.items result.end }
     ensures messages { SameConsumer messages result.messages }
     ensures lines { SameProducer lines result.lines }
 {

@@ -1,3 +1,5 @@
+//! Literals whose integers are computed. Whether the value fits is judged later, by the checks, with the width that was said.
+
 ghost use Rattle.std.specs.Prelude.{◌≡◌};
 ghost use Rattle.gen_tree.specs.View.{lit_of};
 ghost use Rattle.elab_core.specs.Results.{AnswersWith};

@@ -1,3 +1,5 @@
+//! What a walk has counted so far, against the limits of elaboration. A count that passes its limit is not taken, so that no count ever wraps.
+
 ghost use Rattle.std.specs.Prelude.{◌≡◌, ◌<◌, ◌^◌, OnOk, OnErr};
 ghost use Rattle.elab_core.specs.Results.{Judged};
 ghost use Rattle.elab_core.specs.Walk.{judge, counts, none_seen};

@@ -1,3 +1,5 @@
+//! Members of families are names of their own, written with `#` and the index, which no source can write as a name.
+
 ghost use Rattle.std.specs.Prelude.{◌≡◌};
 ghost use Rattle.gen_tree.specs.View.{fam_of};
 ghost use Rattle.elab_core.specs.Results.{AnswersWith};

@@ -1,3 +1,5 @@
+//! Where an integer's names are looked up. A default sees the parameters before it alone, and everything else a scope.
+
 ghost use Rattle.std.specs.Prelude.{◌≡◌};
 ghost use Rattle.gen_scope.specs.Gens.{find};
 ghost use Rattle.elab_base.specs.Names.{gens_of};

@@ -1,3 +1,5 @@
+//! The integers of elaboration: from -2^62 to 2^62, so that one operation never leaves 64 bits before it is judged.
+
 ghost use Rattle.std.specs.Prelude.{◌≡◌, IfOk, pos, ◌+ℤ◌, ◌≤ℤ◌};
 ghost use Rattle.gen_tree.specs.View.{int_of};
 ghost use Rattle.elab_core.specs.Results.{AnswersWith};
@@ -68,7 +70,7 @@ pub fn number_at(alloc: Global, line: u32, scope: &Scope, int: &Int) -> Result<i
     Ok(number)
 }
 
-/// The same where only these parameters have numbers.
+/// What an integer of the source is where only these parameters have numbers, from -2^62 to 2^62; its faults are on this line.
 pub fn default_at(alloc: Global, line: u32, params: &Params, int: &Int) -> Result<i64, ElabFault>
     ensures { AnswersWith (λ n. n) result (number line params.now (int_of int.now)) }
 {

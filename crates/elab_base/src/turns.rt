@@ -1,3 +1,5 @@
+//! The turns of a loop, as first number and count: a loop is never unrolled into a list.
+
 ghost use Rattle.std.specs.Prelude.{◌≡◌, ◌<◌, pos, ◌+ℤ◌, ◌≤ℤ◌};
 ghost use Rattle.gen_tree.specs.View.{int_of};
 ghost use Rattle.elab_core.specs.Results.{AnswersWith, NoMemoryOr};

@@ -70,7 +70,8 @@ pub(crate) fn assigned(
     part: &Option<(Box<Int>, Box<Int>)>,
     value: &Expr,
 ) -> Result<Stmt, ElabFault>
-    ensures judged { Judged (λ s. stmt_of s) result (met_of met.new) (judge (met_of met.old) (assigned_by line scope.now (fam_of target.now) (option_map bounds_of part.now) (source_of value.now))) }
+    ensures judged { Judged (λ s. stmt_of s) result (met_of met.new)
+        (judge (met_of met.old) (assigned_by line scope.now (fam_of target.now) (option_map bounds_of part.now) (source_of value.now))) }
     ensures instances { met.new.instances ≡ met.old.instances }
     ensures counts { CountsUp met.old met.new }
 {
@@ -92,7 +93,8 @@ pub(crate) fn named(
     name: &Fam,
     value: &Expr,
 ) -> Result<Stmt, ElabFault>
-    ensures judged { Judged (λ s. stmt_of s) result (met_of met.new) (judge (met_of met.old) (bound_by line scope.now (fam_of name.now) (source_of value.now))) }
+    ensures judged { Judged (λ s. stmt_of s) result (met_of met.new)
+        (judge (met_of met.old) (bound_by line scope.now (fam_of name.now) (source_of value.now))) }
     ensures instances { met.new.instances ≡ met.old.instances }
     ensures counts { CountsUp met.old met.new }
 {

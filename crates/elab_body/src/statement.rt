@@ -32,7 +32,8 @@ pub fn statements(
     scope: &Scope,
     made: &mut Vec<design_core::Stmt>,
 ) -> Result<(), ElabFault>
-    ensures judged { Judged (λ _. made_of made.new) result (met_of met.new) (judge (met_of met.old) (statements_walk (stmts_of body.now) scope.now (made_of made.old))) }
+    ensures judged { Judged (λ _. made_of made.new) result (met_of met.new)
+        (judge (met_of met.old) (statements_walk (stmts_of body.now) scope.now (made_of made.old))) }
     ensures instances { met.new.instances ≡ met.old.instances }
     ensures counts { CountsUp met.old met.new }
     ensures made { take (length made.old.items) made.new.items ≡ made.old.items }
@@ -71,7 +72,8 @@ fn one_statement(
     scope: &Scope,
     made: &mut Vec<design_core::Stmt>,
 ) -> Result<(), ElabFault>
-    ensures judged { Judged (λ _. made_of made.new) result (met_of met.new) (judge (met_of met.old) (statement_walk (source_stmt_of statement.now) scope.now (made_of made.old))) }
+    ensures judged { Judged (λ _. made_of made.new) result (met_of met.new)
+        (judge (met_of met.old) (statement_walk (source_stmt_of statement.now) scope.now (made_of made.old))) }
     ensures instances { met.new.instances ≡ met.old.instances }
     ensures counts { CountsUp met.old met.new }
     ensures made { take (length made.old.items) made.new.items ≡ made.old.items }
@@ -117,7 +119,8 @@ fn generated(
     made: &mut Vec<design_core::Stmt>,
 ) -> Result<(), ElabFault>
     requires { is_generated (source_stmt_of statement.now) ≡ true }
-    ensures judged { Judged (λ _. made_of made.new) result (met_of met.new) (judge (met_of met.old) (statement_walk (source_stmt_of statement.now) scope.now (made_of made.old))) }
+    ensures judged { Judged (λ _. made_of made.new) result (met_of met.new)
+        (judge (met_of met.old) (statement_walk (source_stmt_of statement.now) scope.now (made_of made.old))) }
     ensures instances { met.new.instances ≡ met.old.instances }
     ensures counts { CountsUp met.old met.new }
     ensures made { take (length made.old.items) made.new.items ≡ made.old.items }
@@ -162,7 +165,8 @@ fn chosen(
     yes: &[Stmt],
     no: &Option<Vec<Stmt>>,
 ) -> Result<design_core::Stmt, ElabFault>
-    ensures judged { Judged (λ s. design_stmt_of s) result (met_of met.new) (judge (met_of met.old) (chosen_by line scope.now (source_of test.now) (stmts_of yes.now) (source_else_of no.now))) }
+    ensures judged { Judged (λ s. design_stmt_of s) result (met_of met.new)
+        (judge (met_of met.old) (chosen_by line scope.now (source_of test.now) (stmts_of yes.now) (source_else_of no.now))) }
     ensures instances { met.new.instances ≡ met.old.instances }
     ensures counts { CountsUp met.old met.new }
 {
@@ -182,7 +186,8 @@ fn branches(
     no: &Option<Vec<Stmt>>,
     scope: &Scope,
 ) -> Result<(Vec<design_core::Stmt>, Option<Vec<design_core::Stmt>>), ElabFault>
-    ensures judged { Judged (λ made. (body_of made.0.items, else_of made.1)) result (met_of met.new) (judge (met_of met.old) (branches_walk (stmts_of yes.now) (source_else_of no.now) scope.now)) }
+    ensures judged { Judged (λ made. (body_of made.0.items, else_of made.1)) result (met_of met.new)
+        (judge (met_of met.old) (branches_walk (stmts_of yes.now) (source_else_of no.now) scope.now)) }
     ensures instances { met.new.instances ≡ met.old.instances }
     ensures counts { CountsUp met.old met.new }
 {
@@ -203,7 +208,8 @@ fn selected(
     arms: &[Arm],
     other: &Option<Vec<Stmt>>,
 ) -> Result<design_core::Stmt, ElabFault>
-    ensures judged { Judged (λ s. design_stmt_of s) result (met_of met.new) (judge (met_of met.old) (selected_by line scope.now (source_of value.now) (source_arms_of arms.now) (source_else_of other.now))) }
+    ensures judged { Judged (λ s. design_stmt_of s) result (met_of met.new)
+        (judge (met_of met.old) (selected_by line scope.now (source_of value.now) (source_arms_of arms.now) (source_else_of other.now))) }
     ensures instances { met.new.instances ≡ met.old.instances }
     ensures counts { CountsUp met.old met.new }
 {
@@ -224,7 +230,8 @@ fn cases(
     other: &Option<Vec<Stmt>>,
     scope: &Scope,
 ) -> Result<(Vec<design_core::Arm>, Option<Vec<design_core::Stmt>>), ElabFault>
-    ensures judged { Judged (λ made. (map arm_of made.0.items, else_of made.1)) result (met_of met.new) (judge (met_of met.old) (cases_walk line (source_arms_of arms.now) (source_else_of other.now) scope.now)) }
+    ensures judged { Judged (λ made. (map arm_of made.0.items, else_of made.1)) result (met_of met.new)
+        (judge (met_of met.old) (cases_walk line (source_arms_of arms.now) (source_else_of other.now) scope.now)) }
     ensures instances { met.new.instances ≡ met.old.instances }
     ensures counts { CountsUp met.old met.new }
 {
@@ -243,7 +250,8 @@ fn all_arms(
     arms: &[Arm],
     scope: &Scope,
 ) -> Result<Vec<design_core::Arm>, ElabFault>
-    ensures judged { Judged (λ made. map arm_of made.items) result (met_of met.new) (judge (met_of met.old) (arms_walk line (source_arms_of arms.now) scope.now [])) }
+    ensures judged { Judged (λ made. map arm_of made.items) result (met_of met.new)
+        (judge (met_of met.old) (arms_walk line (source_arms_of arms.now) scope.now [])) }
     ensures instances { met.new.instances ≡ met.old.instances }
     ensures counts { CountsUp met.old met.new }
 {
@@ -264,7 +272,8 @@ fn one_arm(
     arm: &Arm,
     scope: &Scope,
 ) -> Result<design_core::Arm, ElabFault>
-    ensures judged { Judged arm_of result (met_of met.new) (judge (met_of met.old) (arm_walk line (source_arm_of arm.now).0 (source_arm_of arm.now).1 scope.now)) }
+    ensures judged { Judged arm_of result (met_of met.new) (judge (met_of met.old)
+        (arm_walk line (source_arm_of arm.now).0 (source_arm_of arm.now).1 scope.now)) }
     ensures instances { met.new.instances ≡ met.old.instances }
     ensures counts { CountsUp met.old met.new }
 {
@@ -306,7 +315,9 @@ fn all_turns(
     scope: &Scope,
     made: &mut Vec<design_core::Stmt>,
 ) -> Result<(), ElabFault>
-    ensures judged { Judged (λ _. made_of made.new) result (met_of met.new) (judge (met_of met.old) (turns_walk each.now.line (in_turn (stmts_of body.now) each.now.name.value scope.now) each.now.turns.from each.now.turns.count (made_of made.old))) }
+    ensures judged { Judged (λ _. made_of made.new) result (met_of met.new)
+        (judge (met_of met.old) (turns_walk each.now.line (in_turn
+        (stmts_of body.now) each.now.name.value scope.now) each.now.turns.from each.now.turns.count (made_of made.old))) }
     ensures instances { met.new.instances ≡ met.old.instances }
     ensures counts { CountsUp met.old met.new }
     ensures made { take (length made.old.items) made.new.items ≡ made.old.items }
@@ -330,7 +341,8 @@ fn one_turn(
     scope: &Scope,
     made: &mut Vec<design_core::Stmt>,
 ) -> Result<(), ElabFault>
-    ensures judged { Judged (λ _. made_of made.new) result (met_of met.new) (judge (met_of met.old) (turn_walk each.now.line (stmts_of body.now) (bound each.now.name.value number scope.now) (made_of made.old))) }
+    ensures judged { Judged (λ _. made_of made.new) result (met_of met.new)
+        (judge (met_of met.old) (turn_walk each.now.line (stmts_of body.now) (bound each.now.name.value number scope.now) (made_of made.old))) }
     ensures instances { met.new.instances ≡ met.old.instances }
     ensures counts { CountsUp met.old met.new }
     ensures made { take (length made.old.items) made.new.items ≡ made.old.items }

@@ -1,3 +1,5 @@
+//! What elaboration counts, and why sources have no design. Each fault has the place that a user has to look at.
+
 ghost use Rattle.std.specs.Prelude.{◌≡◌};
 ghost use Rattle.elab_core.specs.declared.fault.ElabFault.TheVariants.{NoMemory};
 

@@ -1,3 +1,5 @@
+//! What elaboration gives of one instance, before instances are gathered into variants.
+
 use design_core::{Block, Conn, Signal};
 use gen_scope::Scope;
 use text_core::Text;

@@ -1,3 +1,5 @@
+//! What holds of elaboration by its definitions alone: the first faulty event, substitution, and sources worked by hand.
+
 ghost use Rattle.std.specs.Prelude.{ℕ, List};
 ghost use Rattle.gen_tree.specs.Tree.{Module};
 ghost use Rattle.elab_core.specs.Laws.{IsFirstFault, IsSubstitution};

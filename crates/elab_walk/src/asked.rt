@@ -1,3 +1,5 @@
+//! A child as its `inst` asks for it, with all integers computed: what the walk needs to enter it, and nothing of the text.
+
 use design_core::Conn;
 use gen_scope::Scope;
 use text_core::Text;

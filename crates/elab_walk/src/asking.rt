@@ -28,7 +28,9 @@ pub(crate) fn asked<'w>(
     args: &[Param],
     conns: &[Conn],
 ) -> Result<(Asked, &'w Module), ElabFault>
-    ensures judged { Judged (λ want. asked_of want.0 (module_of want.1.now)) result (met_of met.new) (judge (met_of met.old) (asked_walk (modules_in walker.now) line walker.now.scope.now (fam_of name.now) child.now (map param_of args.now) (map conn_of conns.now))) }
+    ensures judged { Judged (λ want. asked_of want.0 (module_of want.1.now)) result (met_of met.new)
+        (judge (met_of met.old) (asked_walk (modules_in walker.now) line walker.now.scope.now (fam_of name.now) child.now (map param_of args.now)
+        (map conn_of conns.now))) }
     ensures instances { OnOk result (met.new.instances ≡ met.old.instances) }
     ensures height { IfOk result (λ want. height (module_of want.1.now).items ≤ tallest (modules_in walker.now)) }
 {

@@ -28,7 +28,9 @@ use text_core::Text;
 #[tactic(auto, using(crate::proofs::ItemLoops::items_steps, crate::proofs::Heights::height_at))]
 fn items(walker: &Walker, met: &mut Met, body: &[Item], made: &mut Made) -> Result<(), ElabFault>
     requires { met.old.instances ≡ walker.now.here.now.number + 1 + length (made_of made.old).below }
-    ensures judged { Judged (λ _. made_of made.new) result (met_of met.new) (judge (met_of met.old) (items_walk (modules_in walker.now) (enter_in walker.now) (here_of walker.now.here.now) (items_of body.now) walker.now.scope.now (made_of made.old))) }
+    ensures judged { Judged (λ _. made_of made.new) result (met_of met.new)
+        (judge (met_of met.old) (items_walk (modules_in walker.now) (enter_in walker.now) (here_of walker.now.here.now)
+        (items_of body.now) walker.now.scope.now (made_of made.old))) }
     ensures counted { OnOk result (met.new.instances ≡ walker.now.here.now.number + 1 + length (made_of made.new).below) }
 {
     for item in body {
@@ -42,7 +44,9 @@ fn items(walker: &Walker, met: &mut Met, body: &[Item], made: &mut Made) -> Resu
 #[tactic(auto, using(gen_tree::proofs::Views::view_steps, crate::proofs::Heights::heights, crate::proofs::ItemCases::item_steps))]
 fn one_item(walker: &Walker, met: &mut Met, item: &Item, made: &mut Made) -> Result<(), ElabFault>
     requires { met.old.instances ≡ walker.now.here.now.number + 1 + length (made_of made.old).below }
-    ensures judged { Judged (λ _. made_of made.new) result (met_of met.new) (judge (met_of met.old) (item_walk (modules_in walker.now) (enter_in walker.now) (here_of walker.now.here.now) (item_of item.now) walker.now.scope.now (made_of made.old))) }
+    ensures judged { Judged (λ _. made_of made.new) result (met_of met.new)
+        (judge (met_of met.old) (item_walk (modules_in walker.now) (enter_in walker.now) (here_of walker.now.here.now)
+        (item_of item.now) walker.now.scope.now (made_of made.old))) }
     ensures counted { OnOk result (met.new.instances ≡ walker.now.here.now.number + 1 + length (made_of made.new).below) }
 {
     let Walker { alloc, scope, .. } = *walker;
@@ -88,7 +92,9 @@ fn one_item(walker: &Walker, met: &mut Met, item: &Item, made: &mut Made) -> Res
 fn generated(walker: &Walker, met: &mut Met, item: &Item, made: &mut Made) -> Result<(), ElabFault>
     requires kind { is_generated (item_of item.now) ≡ true }
     requires numbered { met.old.instances ≡ walker.now.here.now.number + 1 + length (made_of made.old).below }
-    ensures judged { Judged (λ _. made_of made.new) result (met_of met.new) (judge (met_of met.old) (item_walk (modules_in walker.now) (enter_in walker.now) (here_of walker.now.here.now) (item_of item.now) walker.now.scope.now (made_of made.old))) }
+    ensures judged { Judged (λ _. made_of made.new) result (met_of met.new)
+        (judge (met_of met.old) (item_walk (modules_in walker.now) (enter_in walker.now) (here_of walker.now.here.now)
+        (item_of item.now) walker.now.scope.now (made_of made.old))) }
     ensures counted { OnOk result (met.new.instances ≡ walker.now.here.now.number + 1 + length (made_of made.new).below) }
 {
     let Walker { alloc, scope, .. } = *walker;
@@ -131,7 +137,9 @@ fn child(
 ) -> Result<(), ElabFault>
     requires height { height (module_of found.now).items ≤ tallest (modules_in walker.now) }
     requires numbered { met.old.instances ≡ walker.now.here.now.number + 1 + length (made_of made.old).below }
-    ensures judged { Judged (λ _. made_of made.new) result (met_of met.new) (judge (met_of met.old) (child_walk (enter_in walker.now) (here_of walker.now.here.now) (asked_of want (module_of found.now)) (made_of made.old))) }
+    ensures judged { Judged (λ _. made_of made.new) result (met_of met.new)
+        (judge (met_of met.old) (child_walk (enter_in walker.now) (here_of walker.now.here.now) (asked_of want (module_of found.now))
+        (made_of made.old))) }
     ensures counted { OnOk result (met.new.instances ≡ walker.now.here.now.number + 1 + length (made_of made.new).below) }
 {
     let instances = instances_below(walker, met, &want, found)?;
@@ -150,7 +158,9 @@ fn all_turns(
     made: &mut Made,
 ) -> Result<(), ElabFault>
     requires { met.old.instances ≡ walker.now.here.now.number + 1 + length (made_of made.old).below }
-    ensures judged { Judged (λ _. made_of made.new) result (met_of met.new) (judge (met_of met.old) (turns_walk each.now.line (in_turn (modules_in walker.now) (enter_in walker.now) (here_of walker.now.here.now) (items_of body.now) each.now.name.value walker.now.scope.now) each.now.turns.from each.now.turns.count (made_of made.old))) }
+    ensures judged { Judged (λ _. made_of made.new) result (met_of met.new)
+        (judge (met_of met.old) (turns_walk each.now.line (in_turn (modules_in walker.now) (enter_in walker.now) (here_of walker.now.here.now)
+        (items_of body.now) each.now.name.value walker.now.scope.now) each.now.turns.from each.now.turns.count (made_of made.old))) }
     ensures counted { OnOk result (met.new.instances ≡ walker.now.here.now.number + 1 + length (made_of made.new).below) }
 {
     for turn in 0..each.turns.count {
@@ -172,7 +182,9 @@ fn one_turn(
     made: &mut Made,
 ) -> Result<(), ElabFault>
     requires { met.old.instances ≡ walker.now.here.now.number + 1 + length (made_of made.old).below }
-    ensures judged { Judged (λ _. made_of made.new) result (met_of met.new) (judge (met_of met.old) (turn_walk (modules_in walker.now) (enter_in walker.now) (here_of walker.now.here.now) each.now.line (items_of body.now) (bound each.now.name.value number walker.now.scope.now) (made_of made.old))) }
+    ensures judged { Judged (λ _. made_of made.new) result (met_of met.new)
+        (judge (met_of met.old) (turn_walk (modules_in walker.now) (enter_in walker.now) (here_of walker.now.here.now) each.now.line
+        (items_of body.now) (bound each.now.name.value number walker.now.scope.now) (made_of made.old))) }
     ensures counted { OnOk result (met.new.instances ≡ walker.now.here.now.number + 1 + length (made_of made.new).below) }
 {
     met.take(Count::Turns, each.line)?;
@@ -190,7 +202,9 @@ fn one_turn(
 #[tactic(auto, using(crate::proofs::ItemCases::module_steps))]
 pub(crate) fn body_of(walker: &Walker, met: &mut Met, found: &Module) -> Result<Made, ElabFault>
     requires { met.old.instances ≡ walker.now.here.now.number + 1 }
-    ensures judged { Judged (λ made. made_of made) result (met_of met.new) (judge (met_of met.old) (module_walk (modules_in walker.now) (enter_in walker.now) (here_of walker.now.here.now) (module_of found.now) walker.now.scope.now)) }
+    ensures judged { Judged (λ made. made_of made) result (met_of met.new)
+        (judge (met_of met.old) (module_walk (modules_in walker.now) (enter_in walker.now) (here_of walker.now.here.now)
+        (module_of found.now) walker.now.scope.now)) }
     ensures counted { IfOk result (λ made. met.new.instances ≡ walker.now.here.now.number + 1 + length (made_of made).below) }
 {
     let signals = ports(walker.alloc, met, &found.ports, walker.scope)?;
@@ -209,7 +223,8 @@ fn instances_below(
     found: &Module,
 ) -> Result<Vec<Instance>, ElabFault>
     requires { height (module_of found.now).items ≤ tallest (modules_in walker.now) }
-    ensures judged { Judged (λ all. placed_of all.items) result (met_of met.new) (judge (met_of met.old) (enter_in walker.now (asked_of want.now (module_of found.now)) (here_of walker.now.here.now) met.old.instances)) }
+    ensures judged { Judged (λ all. placed_of all.items) result (met_of met.new)
+        (judge (met_of met.old) (enter_in walker.now (asked_of want.now (module_of found.now)) (here_of walker.now.here.now) met.old.instances)) }
     ensures counted { IfOk result (λ all. met.new.instances ≡ met.old.instances + length (placed_of all.items)) }
     ensures some { IfOk result (λ all. 0 < length all.items) }
     ensures number { OnOk result (met.old.instances < 2 ^ 32) }

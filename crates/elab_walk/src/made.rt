@@ -1,3 +1,5 @@
+//! What the walk has of the instance that it stands in. Children wait here until the body is done, so that instances come in preorder.
+
 ghost use Rattle.std.specs.Prelude.{◌≤◌, length};
 
 use elab_core::{Content, Instance};

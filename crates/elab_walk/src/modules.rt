@@ -1,3 +1,5 @@
+//! Modules by name. That two have one name is a fault only where the name is asked for, so it is looked up and not judged beforehand.
+
 ghost use Rattle.std.specs.Prelude.{◌≡◌, ◌≤◌, IfOk};
 ghost use Rattle.gen_tree.specs.View.{module_of, lent_of};
 ghost use Rattle.elab_core.specs.Results.{AnswersWith, NoMemoryOr};

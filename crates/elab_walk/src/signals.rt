@@ -91,7 +91,8 @@ pub(crate) fn counted_register(
     width: &Int,
     start: &Lit,
 ) -> Result<Signal, ElabFault>
-    ensures judged { Judged (λ s. s) result (met_of met.new) (judge (met_of met.old) (counted_register_walk line scope.now (fam_of name.now) (int_of width.now) (lit_of start.now))) }
+    ensures judged { Judged (λ s. s) result (met_of met.new) (judge (met_of met.old)
+        (counted_register_walk line scope.now (fam_of name.now) (int_of width.now) (lit_of start.now))) }
     ensures instances { OnOk result (met.new.instances ≡ met.old.instances) }
 {
     let signal = register(alloc, line, scope, name, width, start)?;
@@ -173,7 +174,8 @@ pub(crate) fn connections(
     conns: &[gen_tree::Conn],
     scope: &Scope,
 ) -> Result<Vec<Conn>, ElabFault>
-    ensures judged { Judged (λ made. map conn_of made.items) result (met_of met.new) (judge (met_of met.old) (conns_walk (map source_conn_of conns.now) scope.now [])) }
+    ensures judged { Judged (λ made. map conn_of made.items) result (met_of met.new)
+        (judge (met_of met.old) (conns_walk (map source_conn_of conns.now) scope.now [])) }
     ensures instances { OnOk result (met.new.instances ≡ met.old.instances) }
 {
     let mut made = Vec::new(alloc);

@@ -1,3 +1,5 @@
+//! A fault of a module, told with the path of the instance in which it was found.
+
 ghost use Rattle.std.specs.Prelude.{◌≡◌, IfOk};
 ghost use Rattle.check_core.specs.Faults.{fault_in as the_fault_in, spot_in as the_spot_in};
 

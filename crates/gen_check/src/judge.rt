@@ -1,3 +1,5 @@
+//! Checks in the order of refusals, each over all instances before the next. A variant is judged once: its instances differ in their paths alone.
+
 ghost use Rattle.std.specs.Prelude.{IfOk, map, option_map};
 ghost use Rattle.design_core.specs.View.{variant_of};
 ghost use Rattle.design_core.specs.DesignView.{design_of};

@@ -1,3 +1,5 @@
+//! How many cells a design will have. They are counted before anything is made of it: this bound keeps the tables of the debugger in memory.
+
 ghost use Rattle.std.specs.Prelude.{◌≡◌, ◌+◌, ◌*◌, ◌<◌, ◌≤◌, ◌^◌, min, nat_lt, length, map};
 ghost use Rattle.design_core.specs.Slots.{arms_lets, lets_of, let_of, else_lets};
 ghost use Rattle.design_core.specs.View.{arms_of, block_of, body_of, else_of, stmt_of};

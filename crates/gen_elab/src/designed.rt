@@ -1,3 +1,5 @@
+//! The design of the instances of a walk: bodies are kept once a variant, and slots are put on their statements.
+
 ghost use Rattle.std.specs.Prelude.{◌≡◌, ◌+◌, ◌-◌, ◌<◌, ◌≤◌, ◌^◌, true, IfOk, length, map};
 ghost use Rattle.design_core.specs.View.{block_of, child_of, variant_of};
 ghost use Rattle.elab_core.specs.Design.{designed as the_design, block_from, blocks_size, size, name_at, numbered_blocks, numbered_variant};
@@ -156,7 +158,8 @@ fn all_variants(
     requires few { length firsts.items < 2 ^ 32 - 1 }
     requires small { all_statements (map instance_of firsts.items) < 2 ^ 32 }
     requires slots { AreSlots (map instance_of firsts.items) (length firsts.items) slots.now }
-    ensures { IfOk result (λ made. map variant_of made.items ≡ map (numbered_variant (lent_of modules.now) (map instance_of firsts.items)) (enumerate_from 0 (map instance_of firsts.items))) }
+    ensures { IfOk result (λ made. map variant_of made.items ≡ map (numbered_variant (lent_of modules.now) (map instance_of firsts.items))
+        (enumerate_from 0 (map instance_of firsts.items))) }
 {
     let mut made = Vec::with_capacity(alloc, firsts.len())?;
     let mut index = 0;

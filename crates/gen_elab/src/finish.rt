@@ -1,3 +1,6 @@
+//! The variants of a design, found among its instances: two instances of a module with equal parameters are of one variant, numbered by the first of
+//! them.
+
 ghost use Rattle.std.specs.Prelude.{◌≡◌, ◌<◌, ◌^◌, IfOk, OnOk, length, map};
 ghost use Rattle.elab_core.specs.Design.{instance_in, variants_of};
 ghost use Rattle.elab_core.specs.View.{instance_of};

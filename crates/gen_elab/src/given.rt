@@ -1,3 +1,5 @@
+//! Parameters that are given to the top from outside, as the words of a command line do.
+
 ghost use Rattle.std.specs.Prelude.{◌≡◌, ◌++◌, ◌∷◌, [], IfOk, OnErr};
 ghost use Rattle.design_core.specs.Design.{AreInRange, IsInRange};
 

@@ -1,3 +1,6 @@
+//! The first slot of each variant. Slots are numbered by file and line of the module and then by variant, so that they do not depend on where an instance
+//! stands.
+
 ghost use Rattle.std.specs.Prelude.{◌≡◌, ◌+◌, ◌<◌, ◌^◌, ℕ, [], true, IfOk, length, map, get_or};
 ghost use Rattle.elab_core.specs.Design.{first_slot, statements_where};
 ghost use Rattle.elab_core.specs.View.{instance_of};

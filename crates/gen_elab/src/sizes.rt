@@ -1,3 +1,5 @@
+//! How many slots statements take. An arm of a `case` and an `else` have none of their own.
+
 ghost use Rattle.std.specs.Prelude.{◌≡◌, ◌<◌, ◌^◌, map};
 ghost use Rattle.design_core.specs.View.{arms_of, block_of, body_of, else_of, stmt_of};
 ghost use Rattle.elab_core.specs.Design.{arms_size, blocks_size, size, else_size, stmt_size};

@@ -178,7 +178,8 @@ fn number_if(
     no: Option<Vec<Stmt>>,
 ) -> (Stmt, u32)
     requires { slot + (1 + size (body_of yes.items) + else_size (else_of no)) < 2 ^ 32 }
-    ensures slots { stmt_of result.0 ≡ design.If slot line gens (expr_of test) (numbered (slot + 1) (body_of yes.items)) (numbered_else (slot + 1 + size (body_of yes.items)) (else_of no)) }
+    ensures slots { stmt_of result.0 ≡ design.If slot line gens (expr_of test) (numbered (slot + 1) (body_of yes.items))
+        (numbered_else (slot + 1 + size (body_of yes.items)) (else_of no)) }
     ensures next { result.1 ≡ slot + (1 + size (body_of yes.items) + else_size (else_of no)) }
 {
     let next = number(alloc, &mut yes, slot + 1);
@@ -198,7 +199,8 @@ fn number_case(
     other: Option<Vec<Stmt>>,
 ) -> (Stmt, u32)
     requires { slot + (1 + arms_size (arms_of arms.items) + else_size (else_of other)) < 2 ^ 32 }
-    ensures slots { stmt_of result.0 ≡ design.Case slot line gens (expr_of value) (numbered_arms (slot + 1) (arms_of arms.items)) (numbered_else (slot + 1 + arms_size (arms_of arms.items)) (else_of other)) }
+    ensures slots { stmt_of result.0 ≡ design.Case slot line gens (expr_of value) (numbered_arms (slot + 1) (arms_of arms.items))
+        (numbered_else (slot + 1 + arms_size (arms_of arms.items)) (else_of other)) }
     ensures next { result.1 ≡ slot + (1 + arms_size (arms_of arms.items) + else_size (else_of other)) }
 {
     let next = number_arms(alloc, &mut arms, slot + 1);

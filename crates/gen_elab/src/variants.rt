@@ -1,3 +1,5 @@
+//! Variants found by module and parameters, in the order of their first instances.
+
 ghost use Rattle.std.specs.Prelude.{◌≡◌, ◌++◌, ◌∷◌, [], IfOk, OnErr, length, if◌then◌else◌, nat_lt};
 ghost use Rattle.gen_elab.specs.Keys.{key_place, the_params};
 

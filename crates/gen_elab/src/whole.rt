@@ -1,3 +1,5 @@
+//! Elaboration as a whole: the walk over the sources, and what it gave as a design.
+
 ghost use Rattle.std.specs.Prelude.{◌≡◌, ◌≤◌, ◌++◌, true, IfOk, OnOk, length, map};
 ghost use Rattle.design_core.specs.DesignView.{design_of};
 ghost use Rattle.design_core.specs.WellFormed.{IsDesign};

@@ -1,3 +1,5 @@
+//! Parameters with their numbers, found by name and kept in order.
+
 ghost use Rattle.std.specs.Prelude.{◌≡◌, [], ◌∷◌, ◌++◌, IfOk, OnOk, OnErr, None};
 ghost use Rattle.gen_scope.specs.Gens.{find};
 

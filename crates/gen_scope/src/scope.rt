@@ -1,3 +1,5 @@
+//! The generator variables in scope, as a chain from inner to outer, shared by all bodies that stand in it.
+
 ghost use Rattle.std.specs.Prelude.{◌≡◌, [], IfOk};
 ghost use Rattle.gen_scope.specs.Gens.{find, without, bound};
 ghost use Rattle.gen_scope.specs.Chain.{gens_of};

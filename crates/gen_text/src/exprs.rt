@@ -74,7 +74,8 @@ fn dot<'t, 'a>(tokens: &'t [Placed<'a>]) -> Result<(Option<&'a [u8]>, &'t [Place
 
 /// A signal, or an output of a child.
 fn read_of<'a>(name: &'a [u8], index: Option<Box<Int>>, output: Option<&'a [u8]>) -> Piece<'a>
-    ensures { (es : List tree.Expr) → with_piece result es ≡ list.read_of (list.fam_of_name name.now (option_map (λ index. int_of index.value) index)) (option_map (λ output. output.now) output.entry) ∷ es }
+    ensures { (es : List tree.Expr) → with_piece result es ≡ list.read_of (list.fam_of_name name.now (option_map (λ index. int_of index.value) index))
+        (option_map (λ output. output.now) output.entry) ∷ es }
 {
     match output {
         Some(output) => Piece::Out(name, index, output),
@@ -160,7 +161,8 @@ fn prim<'t, 'a>(
     pieces: &mut Vec<Piece<'a>>,
     tokens: &'t [Placed<'a>],
 ) -> Result<&'t [Placed<'a>], ReadFault>
-    ensures reads { Gives (λ rest. (top (exprs_of pieces.new.items), placed rest.now)) result (list.prim_step dialect room (list.inner_expr dialect room) (placed tokens.now)) }
+    ensures reads { Gives (λ rest. (top (exprs_of pieces.new.items), placed rest.now)) result
+        (list.prim_step dialect room (list.inner_expr dialect room) (placed tokens.now)) }
     ensures behind { OnOk result (exprs_of pieces.new.items ≡ top (exprs_of pieces.new.items) ∷ exprs_of pieces.old.items) }
 {
     match tokens {
@@ -195,7 +197,8 @@ fn bracket<'t, 'a>(
     pieces: &mut Vec<Piece<'a>>,
     tokens: &'t [Placed<'a>],
 ) -> Result<&'t [Placed<'a>], ReadFault>
-    ensures reads { Gives (λ rest. (top (exprs_of pieces.new.items), placed rest.now)) result (list.bracket_at room (list.inner_expr dialect room) (placed tokens.now)) }
+    ensures reads { Gives (λ rest. (top (exprs_of pieces.new.items), placed rest.now)) result
+        (list.bracket_at room (list.inner_expr dialect room) (placed tokens.now)) }
     ensures behind { OnOk result (exprs_of pieces.new.items ≡ top (exprs_of pieces.new.items) ∷ exprs_of pieces.old.items) }
 {
     let rest = open(tokens, Mark::LeftParen, room)?;
@@ -217,7 +220,8 @@ fn unary<'t, 'a>(
     pieces: &mut Vec<Piece<'a>>,
     tokens: &'t [Placed<'a>],
 ) -> Result<&'t [Placed<'a>], ReadFault>
-    ensures reads { Gives (λ rest. (top (exprs_of pieces.new.items), placed rest.now)) result (list.unary_at room (list.inner_expr dialect room) op (placed tokens.now)) }
+    ensures reads { Gives (λ rest. (top (exprs_of pieces.new.items), placed rest.now)) result
+        (list.unary_at room (list.inner_expr dialect room) op (placed tokens.now)) }
     ensures behind { OnOk result (exprs_of pieces.new.items ≡ top (exprs_of pieces.new.items) ∷ exprs_of pieces.old.items) }
 {
     let rest = open(tokens, Mark::LeftParen, room)?;
@@ -236,7 +240,8 @@ fn cat<'t, 'a>(
     pieces: &mut Vec<Piece<'a>>,
     tokens: &'t [Placed<'a>],
 ) -> Result<&'t [Placed<'a>], ReadFault>
-    ensures reads { Gives (λ rest. (top (exprs_of pieces.new.items), placed rest.now)) result (list.cat_at room (list.inner_expr dialect room) (placed tokens.now)) }
+    ensures reads { Gives (λ rest. (top (exprs_of pieces.new.items), placed rest.now)) result
+        (list.cat_at room (list.inner_expr dialect room) (placed tokens.now)) }
     ensures behind { OnOk result (exprs_of pieces.new.items ≡ top (exprs_of pieces.new.items) ∷ exprs_of pieces.old.items) }
 {
     let rest = open(tokens, Mark::LeftParen, room)?;
@@ -257,7 +262,8 @@ fn zext<'t, 'a>(
     pieces: &mut Vec<Piece<'a>>,
     tokens: &'t [Placed<'a>],
 ) -> Result<&'t [Placed<'a>], ReadFault>
-    ensures reads { Gives (λ rest. (top (exprs_of pieces.new.items), placed rest.now)) result (list.zext_at dialect room (list.inner_expr dialect room) (placed tokens.now)) }
+    ensures reads { Gives (λ rest. (top (exprs_of pieces.new.items), placed rest.now)) result
+        (list.zext_at dialect room (list.inner_expr dialect room) (placed tokens.now)) }
     ensures behind { OnOk result (exprs_of pieces.new.items ≡ top (exprs_of pieces.new.items) ∷ exprs_of pieces.old.items) }
 {
     let rest = open(tokens, Mark::LeftParen, room)?;
@@ -277,7 +283,8 @@ fn mux<'t, 'a>(
     pieces: &mut Vec<Piece<'a>>,
     tokens: &'t [Placed<'a>],
 ) -> Result<&'t [Placed<'a>], ReadFault>
-    ensures reads { Gives (λ rest. (top (exprs_of pieces.new.items), placed rest.now)) result (list.mux_at room (list.inner_expr dialect room) (placed tokens.now)) }
+    ensures reads { Gives (λ rest. (top (exprs_of pieces.new.items), placed rest.now)) result
+        (list.mux_at room (list.inner_expr dialect room) (placed tokens.now)) }
     ensures behind { OnOk result (exprs_of pieces.new.items ≡ top (exprs_of pieces.new.items) ∷ exprs_of pieces.old.items) }
 {
     let rest = open(tokens, Mark::LeftParen, room)?;
@@ -300,7 +307,8 @@ fn slice<'t, 'a>(
     tokens: &'t [Placed<'a>],
 ) -> Result<&'t [Placed<'a>], ReadFault>
     requires { exprs_of pieces.old.items ≡ top (exprs_of pieces.old.items) ∷ below (exprs_of pieces.old.items) }
-    ensures reads { Gives (λ rest. (top (exprs_of pieces.new.items), placed rest.now)) result (list.slice_at dialect room (top (exprs_of pieces.old.items)) (placed tokens.now)) }
+    ensures reads { Gives (λ rest. (top (exprs_of pieces.new.items), placed rest.now)) result
+        (list.slice_at dialect room (top (exprs_of pieces.old.items)) (placed tokens.now)) }
     ensures behind { OnOk result (exprs_of pieces.new.items ≡ top (exprs_of pieces.new.items) ∷ below (exprs_of pieces.old.items)) }
 {
     if !begins_mark(tokens, Mark::LeftBracket) {

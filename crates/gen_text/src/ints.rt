@@ -1,3 +1,5 @@
+//! Integers of a source, and names with an index.
+
 ghost use Rattle.std.specs.Prelude.{◌≡◌, option_map};
 ghost use Rattle.gen_token.specs.Words.{placed, word_of};
 ghost use Rattle.gen_tree.specs.View.{int_of, fam_of};

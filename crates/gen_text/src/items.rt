@@ -1,3 +1,5 @@
+//! What stands in a module behind its ports. The first token decides what is read.
+
 ghost use Rattle.std.specs.Prelude.{◌≡◌, true, false};
 ghost use Rattle.gen_token.specs.Words.{placed};
 ghost use Rattle.gen_tree.specs.View.{item_of, items_of, else_items_of};

@@ -1,3 +1,5 @@
+//! What holds of the grammar alone: one reading, one spelling, one place of a fault; and sources worked by hand.
+
 ghost use Rattle.std.specs.Prelude.{ℕ, List};
 ghost use Rattle.gen_text.specs.Laws.{HasOneTree, HasOnePlace, is_sample_source, is_sample_fault, is_sample_import, is_late_import, is_lone_import};
 ghost use Rattle.gen_text.specs.Source.{HasOneAnswer};

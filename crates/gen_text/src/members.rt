@@ -1,3 +1,5 @@
+//! Parameters and connections, the two lists between commas.
+
 ghost use Rattle.std.specs.Prelude.{map};
 ghost use Rattle.gen_token.specs.Words.{placed};
 ghost use Rattle.gen_tree.specs.View.{param_of, conn_of};

@@ -1,3 +1,5 @@
+//! Modules and their ports.
+
 ghost use Rattle.std.specs.Prelude.{◌≡◌, ◌<◌, map, IfOk};
 ghost use Rattle.gen_token.specs.Words.{placed, word_of};
 ghost use Rattle.gen_tree.specs.View.{port_of, items_of, module_of, modules_of};

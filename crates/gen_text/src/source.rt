@@ -1,3 +1,5 @@
+//! A source from its bytes: the order of the refusals of a text is decided here.
+
 ghost use Rattle.std.specs.Prelude.{◌≡◌, ◌≤◌, ◌<◌, ◌-◌, ◌^◌, IfOk, IfErr, length, drop};
 ghost use Rattle.gen_token.specs.Words.{placed};
 ghost use Rattle.gen_tree.specs.Places.{line_of};

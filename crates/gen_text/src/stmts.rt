@@ -1,3 +1,5 @@
+//! Statements. The first token decides what is read; the two kinds of blocks differ in the mark of an assignment alone.
+
 ghost use Rattle.gen_token.specs.Words.{placed};
 ghost use Rattle.gen_tree.specs.Grammar.{assign_mark};
 ghost use Rattle.std.specs.Prelude.{map, option_map};
@@ -72,7 +74,8 @@ fn stmt<'t, 'a>(
     room: usize,
     tokens: &'t [Placed<'a>],
 ) -> Result<(Stmt, &'t [Placed<'a>]), ReadFault>
-    ensures { Gives (with_rest stmt_of) result (list.stmt_step clocked room (list.inner_stmts clocked room) (list.inner_arms clocked room) (placed tokens.now)) }
+    ensures { Gives (with_rest stmt_of) result (list.stmt_step clocked room (list.inner_stmts clocked room) (list.inner_arms clocked room)
+        (placed tokens.now)) }
 {
     match tokens {
         [first, rest @ ..] => match first.token {

@@ -1,3 +1,5 @@
+//! Single tokens in front of others. A bracket that is opened takes of the room for brackets, by which no text recurs deeper than 64.
+
 ghost use Rattle.std.specs.Prelude.{◌≡◌, ◌<◌, IfOk};
 ghost use Rattle.gen_token.specs.Words.{placed, word_of};
 ghost use Rattle.gen_text.specs.Faults.{Gives, with_rest};

@@ -1,3 +1,5 @@
+//! The classes of bytes that a source is cut by. They are ASCII alone, so a text is judged byte by byte before it is cut.
+
 ghost use Rattle.std.specs.Prelude.{◌≡◌, ◌≤◌, length, position, not};
 ghost use Rattle.std.specs.List.{prefix_len};
 ghost use Rattle.gen_token.specs.Bytes.{is_blank, is_letter, is_name_byte, is_text_byte, is_word_start, begins};

@@ -1,3 +1,5 @@
+//! Why a text gives no tokens. Of several bad spots the first line is told, since a reader mends from the top.
+
 ghost use Rattle.std.specs.Prelude.{◌≡◌};
 ghost use Rattle.gen_token.specs.declared.fault.TokenFault.TheVariants as faults;
 

@@ -1,3 +1,5 @@
+//! The keywords, and which word is one. Words are compared with the keywords of their first letter alone: most words are names.
+
 ghost use Rattle.std.specs.Prelude.{◌≡◌, bytes_eq, find};
 ghost use Rattle.gen_token.specs.Keywords.{keyword_text, keywords, keyword_of};
 

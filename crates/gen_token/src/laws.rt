@@ -1,3 +1,5 @@
+//! What holds of the definitions of tokens alone: a text has one reading, and the reader takes the longest word.
+
 ghost use Rattle.std.specs.Prelude.{ℕ, List};
 ghost use Rattle.gen_token.specs.Laws.{HasOneList, PlacesTokens, ReadsTokens};
 

@@ -1,3 +1,5 @@
+//! The marks between names and numbers. The longest one in front is taken: `<=` is never `<` and `=`.
+
 ghost use Rattle.std.specs.Prelude.{◌≡◌, ◌≤◌, IfSome, length};
 ghost use Rattle.gen_token.specs.Marks.{mark_text, mark_of};
 

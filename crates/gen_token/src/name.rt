@@ -1,3 +1,5 @@
+//! Which bytes are a name. Words on a command line are judged by the same rule as names in a source.
+
 ghost use Rattle.std.specs.Prelude.{◌≡◌, ◌↔◌, IsTrue};
 ghost use Rattle.std.specs.List.{list_all};
 ghost use Rattle.gen_token.specs.Bytes.{is_name_byte};

@@ -1,3 +1,5 @@
+//! Numbers and literals. A digit run directly before a letter or `_` is no number: `8x` is a bad token and not two tokens.
+
 ghost use Rattle.std.specs.Prelude.{◌≡◌, ◌≤◌, ◌<◌, ◌^◌, Some, None, IfSome, length};
 ghost use Rattle.std.specs.Option.{option_map};
 ghost use Rattle.gen_token.specs.Tokens.{digits_at, apart, value_at, after_digits, number_at};

@@ -1,3 +1,6 @@
+//! Tokens, which borrow their names from the text, and where each stands. A number too large for the language is no token, so that no later reader meets
+//! one.
+
 use crate::{Keyword, Mark};
 
 /// A token. Its text and its numbers are what a source says; nothing of where it stands.

@@ -1,3 +1,5 @@
+//! Expressions stand in sources and in conditions; the two differ in what an integer may be, and in nothing else.
+
 /// In which texts an expression stands.
 #[derive(Clone, Copy, PartialEq, Eq)]
 pub enum Dialect {

@@ -1,3 +1,5 @@
+//! The tree of what stands in a module behind its ports.
+
 use crate::{Cmp, Expr, Fam, Int, Lit, Stmt};
 use text_core::Text;
 

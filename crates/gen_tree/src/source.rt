@@ -1,3 +1,5 @@
+//! The tree of a source: its imports, modules and ports.
+
 use crate::{Int, Item, Param};
 use text_core::Text;
 

@@ -1,3 +1,5 @@
+//! The tree of a statement. Lines are places, as those of all trees: the number of the file and the line in it.
+
 use crate::{Cmp, Expr, Fam, Int, Lit};
 use std::boxed::Box;
 use text_core::Text;

@@ -1,3 +1,5 @@
+//! Why a graph has no order. The cycle begins at its least vertex, so that what is told does not depend on where a search began.
+
 ghost use Rattle.std.specs.Prelude.{◌≡◌};
 ghost use Rattle.graph_order.specs.declared.fault.GraphFault.TheVariants.{NoMemory};
 

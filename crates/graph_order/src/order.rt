@@ -1,3 +1,5 @@
+//! An order of a graph or a cycle in it: the one call. `not_both` is why the answer needs no third case.
+
 ghost use Rattle.std.specs.Prelude.{IfOk, IfErr};
 ghost use Rattle.graph_order.specs.Orders.{IsOrder};
 ghost use Rattle.graph_order.specs.Faults.{TellsCycle};

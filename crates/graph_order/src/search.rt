@@ -144,7 +144,8 @@ impl Search {
         ensures searched { OnOk result (Searched graph.now self.new.marks.items self.new.passed.items self.new.path.items self.new.order.items) }
         ensures cycle { IfErr result (TellsCycle graph.now) }
         ensures stay { OnOk result (StayMarked self.old.marks.items self.new.marks.items) }
-        ensures less { OnOk result (2 * news self.new.marks.items + length self.new.path.items < 2 * news self.old.marks.items + (length self.old.path.items + 1)) }
+        ensures less { OnOk result (2 * news self.new.marks.items + length self.new.path.items < 2 * news self.old.marks.items +
+            (length self.old.path.items + 1)) }
     {
         let Some(next) = self.ahead(graph, vertex) else {
             self.finish(vertex)?;

@@ -25,7 +25,7 @@ pub fn replays_are_debugged()
     waves_replay();
 }
 
-/// The same law of a design, an order of its driven signals, a mode and a stimulus that was read, wherever memory is found to compile the
+/// The law that replay is debugging, of a design, an order of its driven signals, a mode and a stimulus that was read, wherever memory is found to compile the
 /// design once: it has then a net and a table. Returns nothing else.
 pub fn debugged_is_replayed(
     alloc: Global,

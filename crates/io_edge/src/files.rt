@@ -1,3 +1,5 @@
+//! What the program may expect of files. The meanings are optional: an adapter of the system tells none, and then no clause speaks of content.
+
 ghost use Rattle.std.specs.Prelude.{◌≡◌, ◌≤◌, List, ℕ, Option, IfOk, IfSome, IsErrOf, length};
 ghost use Rattle.std.specs.Option.{option_map};
 ghost use Rattle.io_edge.specs.Faults.{Rose};

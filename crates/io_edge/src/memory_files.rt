@@ -1,3 +1,5 @@
+//! Files in memory with made faults, by which tests show what is asked for and what stands after a read that failed.
+
 ghost use Rattle.std.specs.Prelude.{◌≡◌, ◌≤◌, [], map, string_bytes, length, Some, None, IfOk, IsErrOf};
 ghost use Rattle.std.specs.Option.{option_map};
 ghost use Rattle.io_edge.specs.Faults.{Rose};

@@ -1,3 +1,5 @@
+//! A sink in memory with made faults, by which tests show what stands after a write that failed.
+
 ghost use Rattle.std.specs.Prelude.{◌≡◌, ◌≤◌, ◌+◌, ◌++◌, [], length, is_ok, nat_le, vec_len, vec_capacity, Some, IfOk, OnOk, OnErr, if◌then◌else◌};
 ghost use Rattle.io_edge.specs.Faults.{Rose};
 ghost use Rattle.io_edge.specs.Taken.{AppendsFront};

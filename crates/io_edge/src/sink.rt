@@ -1,3 +1,5 @@
+//! What the program may expect of what it writes to. A front may be taken where a put fails, so a failed put ends a run.
+
 ghost use Rattle.std.specs.Prelude.{◌≡◌, ◌≤◌, List, ℕ, Option, OnOk, OnErr};
 ghost use Rattle.io_edge.specs.Faults.{Rose};
 ghost use Rattle.io_edge.specs.Taken.{Appends, AppendsFront};

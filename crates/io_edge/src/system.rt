@@ -1,3 +1,6 @@
+//! The adapters of the system's files, its standard output and its standard input: the trusted edge. They tell nothing of content; all that is proved of
+//! them is what their traits promise of counts and answers.
+
 ghost use Rattle.std.specs.Prelude.{◌≡◌, ◌≤◌, ◌<◌, None, Some, IfOk, IfErr, IfSome, length, take};
 ghost use Rattle.std.specs.Io.KnownBytes.{Consumes, IsAtEnd};
 ghost use Rattle.io_edge.specs.Files.{Answers};

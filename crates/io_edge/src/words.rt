@@ -1,3 +1,5 @@
+//! The words of a command line, as contracts see them: a list of texts, without the program's own name.
+
 ghost use Rattle.std.specs.Prelude.{◌≡◌, ◌<◌, [], ◌∷◌, ◌++◌, length, slice_get, OnOk, OnErr, Some};
 
 use std::alloc::Global;

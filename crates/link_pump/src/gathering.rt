@@ -106,8 +106,12 @@ pub fn gather<L: Link>(
     requires few { length first.items ≤ 1 }
 
     // By what was asked of the messages that were popped, and the lines that were pushed.
-    ensures passes { (start : Meaning) (asked pushed : List (List ℕ)) (end : End) → Pumped start (L.meaning back.outlet.link) back → IsSide messages lines asked first.items pushed end → Passes start (L.meaning result.outlet.link) asked result.unapplied.items result.outlet.sent.items result.outlet.unsent.items (end_in_two end result.outlet.over) }
-    ensures told { (start : Meaning) (asked pushed : List (List ℕ)) (end : End) → Pumped start (L.meaning back.outlet.link) back → IsSide messages lines asked first.items pushed end → Delivered start (L.meaning result.outlet.link) result.outlet (pushed ++ kept.items) }
+    ensures passes { (start : Meaning) (asked pushed : List (List ℕ)) (end : End) → Pumped start (L.meaning back.outlet.link) back
+        → IsSide messages lines asked first.items pushed end → Passes start
+        (L.meaning result.outlet.link) asked result.unapplied.items result.outlet.sent.items result.outlet.unsent.items
+        (end_in_two end result.outlet.over) }
+    ensures told { (start : Meaning) (asked pushed : List (List ℕ)) (end : End) → Pumped start (L.meaning back.outlet.link) back
+        → IsSide messages lines asked first.items pushed end → Delivered start (L.meaning result.outlet.link) result.outlet (pushed ++ kept.items) }
 {
     let Pump {
         mut outlet,

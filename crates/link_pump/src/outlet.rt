@@ -24,7 +24,8 @@ impl<L: Link> Outlet<L> {
 
     /// Memory ran out, and so these lines are lost, however many they are.
     pub fn lose(&mut self)
-        ensures keeps { (start : Meaning) (made more : List (List ℕ)) → Delivered start (L.meaning self.old.link) self.old made → Delivered start (L.meaning self.new.link) self.new (made ++ more) }
+        ensures keeps { (start : Meaning) (made more : List (List ℕ)) → Delivered start (L.meaning self.old.link) self.old made
+            → Delivered start (L.meaning self.new.link) self.new (made ++ more) }
         ensures link { L.meaning self.new.link ≡ L.meaning self.old.link }
         ensures over { self.new.over ≡ Some Cause.NoMemory }
     {
@@ -34,7 +35,8 @@ impl<L: Link> Outlet<L> {
     /// Keeps a line that is not sent.
     fn keep(&mut self, text: Listed<u8>)
         requires { self.old.over ≢ None }
-        ensures keeps { (start : Meaning) (made : List (List ℕ)) → Delivered start (L.meaning self.old.link) self.old made → Delivered start (L.meaning self.new.link) self.new (made ++ text ∷ []) }
+        ensures keeps { (start : Meaning) (made : List (List ℕ)) → Delivered start (L.meaning self.old.link) self.old made
+            → Delivered start (L.meaning self.new.link) self.new (made ++ text ∷ []) }
         ensures link { L.meaning self.new.link ≡ L.meaning self.old.link }
         ensures over { Lasts self.old.over self.new.over }
     {
@@ -51,7 +53,8 @@ impl<L: Link> Outlet<L> {
     fn send(&mut self, alloc: Global, text: Listed<u8>)
         requires usable { (L.meaning self.old.link).shut ≡ false }
         requires over { self.old.over ≡ None }
-        ensures keeps { (start : Meaning) (made : List (List ℕ)) → Delivered start (L.meaning self.old.link) self.old made → Delivered start (L.meaning self.new.link) self.new (made ++ text ∷ []) }
+        ensures keeps { (start : Meaning) (made : List (List ℕ)) → Delivered start (L.meaning self.old.link) self.old made
+            → Delivered start (L.meaning self.new.link) self.new (made ++ text ∷ []) }
         ensures polls { (L.meaning self.new.link).polls ≡ (L.meaning self.old.link).polls }
         ensures received { (L.meaning self.new.link).received ≡ (L.meaning self.old.link).received }
         ensures shut { (L.meaning self.new.link).shut ≡ false }
@@ -76,7 +79,8 @@ impl<L: Link> Outlet<L> {
     /// Sends a line, or keeps it.
     pub fn deliver(&mut self, alloc: Global, text: Listed<u8>)
         requires usable { (L.meaning self.old.link).shut ≡ false }
-        ensures keeps { (start : Meaning) (made : List (List ℕ)) → Delivered start (L.meaning self.old.link) self.old made → Delivered start (L.meaning self.new.link) self.new (made ++ text ∷ []) }
+        ensures keeps { (start : Meaning) (made : List (List ℕ)) → Delivered start (L.meaning self.old.link) self.old made
+            → Delivered start (L.meaning self.new.link) self.new (made ++ text ∷ []) }
         ensures polls { (L.meaning self.new.link).polls ≡ (L.meaning self.old.link).polls }
         ensures received { (L.meaning self.new.link).received ≡ (L.meaning self.old.link).received }
         ensures shut { (L.meaning self.new.link).shut ≡ false }
@@ -91,7 +95,8 @@ impl<L: Link> Outlet<L> {
     /// Delivers lines, in order.
     pub fn deliver_all(&mut self, alloc: Global, texts: Vec<Listed<u8>>)
         requires { (L.meaning self.old.link).shut ≡ false }
-        ensures keeps { (start : Meaning) (made : List (List ℕ)) → Delivered start (L.meaning self.old.link) self.old made → Delivered start (L.meaning self.new.link) self.new (made ++ texts.items) }
+        ensures keeps { (start : Meaning) (made : List (List ℕ)) → Delivered start (L.meaning self.old.link) self.old made
+            → Delivered start (L.meaning self.new.link) self.new (made ++ texts.items) }
         ensures received { (L.meaning self.new.link).received ≡ (L.meaning self.old.link).received }
         ensures over { Lasts self.old.over self.new.over }
     {
@@ -103,7 +108,8 @@ impl<L: Link> Outlet<L> {
     /// Delivers a line, if there was memory for its text.
     pub fn tell(&mut self, alloc: Global, text: Result<Vec<u8>, NoMemory>)
         requires usable { (L.meaning self.old.link).shut ≡ false }
-        ensures keeps { (start : Meaning) (made : List (List ℕ)) (line : List ℕ) → IfOk text (λ text. text.items ≡ line) → Delivered start (L.meaning self.old.link) self.old made → Delivered start (L.meaning self.new.link) self.new (made ++ line ∷ []) }
+        ensures keeps { (start : Meaning) (made : List (List ℕ)) (line : List ℕ) → IfOk text (λ text. text.items ≡ line)
+            → Delivered start (L.meaning self.old.link) self.old made → Delivered start (L.meaning self.new.link) self.new (made ++ line ∷ []) }
         ensures polls { (L.meaning self.new.link).polls ≡ (L.meaning self.old.link).polls }
         ensures received { (L.meaning self.new.link).received ≡ (L.meaning self.old.link).received }
         ensures shut { (L.meaning self.new.link).shut ≡ false }
@@ -119,7 +125,8 @@ impl<L: Link> Outlet<L> {
     pub fn poll(&mut self, alloc: Global) -> Option<Listed<u8>>
         requires usable { (L.meaning self.old.link).shut ≡ false }
         requires over { self.old.over ≡ None }
-        ensures keeps { (start : Meaning) (made : List (List ℕ)) → Delivered start (L.meaning self.old.link) self.old made → Delivered start (L.meaning self.new.link) self.new made }
+        ensures keeps { (start : Meaning) (made : List (List ℕ)) → Delivered start (L.meaning self.old.link) self.old made
+            → Delivered start (L.meaning self.new.link) self.new made }
         ensures some { IfSome result (λ text. Appends (L.meaning self.old.link).polls (L.meaning self.new.link).polls (Some text ∷ [])) }
         ensures heard { IfSome result (λ text. Appends (L.meaning self.old.link).received (L.meaning self.new.link).received (text ∷ [])) }
         ensures open { OnSome result (self.new.over ≡ None) }

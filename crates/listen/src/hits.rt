@@ -1,3 +1,6 @@
+//! The listeners that the project has: stops counted by line, by cycle, and by slot where a watch matches. They are one table each, so that none can
+//! disturb another.
+
 ghost use Rattle.std.specs.Prelude.{◌≡◌, [], IfOk};
 
 use crate::tally::Tally;

@@ -1,3 +1,5 @@
+//! What is told of each stop. A listener can neither fail nor refuse, so no stop is ever lost by one.
+
 ghost use Rattle.std.specs.Prelude.{◌≡◌, ◌<◌, length, slice_get, Some};
 ghost use Rattle.listen.specs.Pairs.{Heard, after};
 

@@ -1,3 +1,5 @@
+//! What a listener is told of a stop: numbers alone, so that a listener sees no more of a session than this.
+
 /// What a listener is told of a stop: the cycle, from 0; the slot, from 0; its line in the source, from 1; how many instances
 /// are threads there; and how many armed watches match there.
 #[derive(Clone, Copy, PartialEq, Eq)]

@@ -1,3 +1,5 @@
+//! Counts by key with a bound. All room is taken at once, since a stop can neither fail nor take memory.
+
 ghost use Rattle.std.specs.Prelude.{◌≡◌, ◌<◌, ◌≤◌, ◌+◌, [], length, slice_get, Some, IfOk};
 ghost use Rattle.indexmap.specs.IndexMap.{spare};
 ghost use Rattle.listen.specs.Pairs.{counted};

@@ -1,3 +1,6 @@
+//! What lowering leaves of a design, before anything is trimmed: every node that the source speaks of, so that what is removed later is removed in one
+//! place.
+
 use bv_core::NodeId;
 use net_core::Net;
 use symtab::TableParts;

@@ -50,7 +50,7 @@ impl Found {
     }
 }
 
-/// The same, as it is told.
+/// What a search found, as whoever asked for it is told.
 pub fn told(found: Found) -> Scanned
     requires { (p : ℕ) → found ≡ Found.At p → p < 2 ^ 62 }
     ensures { result ≡ told_of found }

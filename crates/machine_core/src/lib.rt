@@ -1,9 +1,9 @@
 //! The machine that a debugger is: what it is asked and what it answers, and the definitions of what each answer is.
 //!
-//! The machine walks the positions of a world. It is defined in `specs/`: `Positions` has the positions and those that lie ahead,
-//! `Matching` what a position matches, `Search` what a search finds, `Arming` when a breakpoint or a watch is armed, `Machine` its state, its turns and its answers, and
-//! `Journal` what a list of requests and turns puts out, and `Numbers` which numbers breakpoints and watches get. It knows nothing of where a world comes from, and nothing of the texts of
-//! requests and replies.
+//! The machine walks the positions of a world. It is defined in `specs/`: `Positions` has the positions and those that lie ahead, `Matching` what a
+//! position matches, `Search` what a search finds, `Arming` when a breakpoint or a watch is armed, `Machine` its state, its turns and its answers,
+//! `Journal` what a list of requests and turns puts out, and `Numbers` which numbers breakpoints and watches get. It knows nothing of where a world
+//! comes from, and nothing of the texts of requests and replies.
 #![tactic(auto)]
 
 mod found;

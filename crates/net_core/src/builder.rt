@@ -1,3 +1,5 @@
+//! Nodes made one after another, folded and shared at once. No later pass removes doubles, since none are ever made.
+
 ghost use Rattle.std.specs.Prelude.{◌≡◌, ◌<◌, ◌≤◌, [], length, IfOk, OnOk, OnErr};
 ghost use Rattle.bv_core.specs.Operators.{Fits1, Fits2, FitsMux};
 ghost use Rattle.tree_core.specs.Tree.{Const, Leaf, One, Two, Mux, Input, Register};
@@ -116,7 +118,9 @@ impl NetBuilder {
         requires below { OperandsBelow (length self.old) (shape_of itself.node) }
         requires whole { IsWhole (node_tree (trees_of self.old) (shape_of itself.node)) }
         requires width { itself.width ≡ tree_width (node_tree (trees_of self.old) (shape_of itself.node)) }
-        requires folds { folded (node_tree (trees_of self.old) (shape_of itself.node)) ≡ taken (outcome_of outcome) (tree_of self.old a.0) (tree_of self.old b.0) (tree_of self.old c.0) (node_tree (trees_of self.old) (shape_of itself.node)) }
+        requires folds { folded (node_tree (trees_of self.old) (shape_of itself.node))
+            ≡ taken (outcome_of outcome) (tree_of self.old a.0) (tree_of self.old b.0) (tree_of self.old c.0)
+            (node_tree (trees_of self.old) (shape_of itself.node)) }
         ensures stands { IfOk result (λ id. Stands self.new id.0 (folded (node_tree (trees_of self.old) (shape_of itself.node)))) }
         ensures adds { OnOk result (Adds self.old self.new (folded (node_tree (trees_of self.old) (shape_of itself.node)))) }
         ensures keeps { OnOk result (Keeps self.old self.new) }

@@ -1,3 +1,5 @@
+//! A node as the table of made nodes keys it: with its width, which the nodes below it decide and equality therefore need not look at.
+
 use crate::Node;
 use std::hash::{Hash, Hasher};
 

@@ -1,3 +1,5 @@
+//! A net: nodes above their operands, so that one pass in order of their numbers gives every value.
+
 ghost use Rattle.std.specs.Prelude.{◌≡◌, ◌<◌, length};
 ghost use Rattle.net_core.specs.Nodes.{shape_of, shape_at, tree_of, trees_of, node_tree, width_at};
 ghost use Rattle.net_core.specs.Nets.{outputs_of, nexts_of, OutputsFit, NextsFit, IsNet};

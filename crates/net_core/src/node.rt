@@ -1,3 +1,5 @@
+//! What a node is, and when two are the same: by operator, operands and constants, and not by where they came from.
+
 ghost use Rattle.std.specs.Prelude.{◌≡◌, ◌<◌, fold};
 ghost use Rattle.tree_core.specs.Fold.{same_op1, same_op2, same_bits, op2_number};
 ghost use Rattle.net_core.specs.Hashed.{fed_op1};

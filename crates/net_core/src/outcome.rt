@@ -1,3 +1,6 @@
+//! The rules of folding, as outcomes: each answers which operand or constant stands for a node. They are tables over what is constant, apart from the
+//! nodes that are made.
+
 ghost use Rattle.std.specs.Prelude.{◌≡◌, Some, None, false};
 ghost use Rattle.bv_core.specs.Value.{Bits};
 ghost use Rattle.bv_core.specs.Operators.{Fits1, Fits2, FitsMux, width1_of, width2_of};

@@ -1,3 +1,5 @@
+//! Trimming as a whole: what outputs, enables and kept names need is walked, and the table is told over what it left.
+
 ghost use Rattle.std.specs.Prelude.{◌≡◌, ◌<◌, ◌^◌, IfOk, All, length};
 ghost use Rattle.net_trim.specs.Made.{CanBeMade};
 ghost use Rattle.net_trim.specs.Whole.{ArePartsMade, IsOfDesign, IsCompiled};

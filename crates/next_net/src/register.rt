@@ -41,7 +41,8 @@ fn push_signals<'a>(
     instance: u32,
     signals: &'a [Signal],
 ) -> Result<(), NoMemory>
-    ensures { OnOk result (map register_as registers.new.items ≡ map register_as registers.old.items ++ flat_map (λ (s : Signal). register_by instance s.name s.kind) signals.now) }
+    ensures { OnOk result (map register_as registers.new.items
+        ≡ map register_as registers.old.items ++ flat_map (λ (s : Signal). register_by instance s.name s.kind) signals.now) }
 {
     for signal in signals {
         push_signal(registers, instance, signal)?;
@@ -56,7 +57,8 @@ fn push_instance<'a>(
     number: u32,
     instance: &Instance,
 ) -> Result<(), NoMemory>
-    ensures { OnOk result (map register_as registers.new.items ≡ map register_as registers.old.items ++ registers_at (design_of design.now) (number, instance.now)) }
+    ensures { OnOk result (map register_as registers.new.items
+        ≡ map register_as registers.old.items ++ registers_at (design_of design.now) (number, instance.now)) }
 {
     let signals = signals_of(&design.variants, instance.variant);
     push_signals(registers, number, signals)?;

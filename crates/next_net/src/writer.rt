@@ -76,7 +76,8 @@ fn put_process(
     key: ProcessKey,
 ) -> Result<(), NoMemory>
     requires { AreApart (length list.old) (numbers_of maps.now) }
-    ensures { OnOk result ((b : Process) → process_at (design_of design.now) key ≡ Some b → Marks (numbers_of maps.now) process (λ q. writes_to q b) list.old list.new) }
+    ensures { OnOk result ((b : Process) → process_at (design_of design.now) key ≡ Some b
+        → Marks (numbers_of maps.now) process (λ q. writes_to q b) list.old list.new) }
 {
     let blocks = blocks_of(&design.variants, key.variant);
     let Some(block) = blocks.get(key.block as usize) else {

@@ -1,3 +1,5 @@
+//! Graphs with their orders and cycles, worked by hand, and deep ones, which no recursion may walk.
+
 use graph_order::{Graph, GraphFault, order_of};
 use std::alloc::Global;
 use std::test::Fail;

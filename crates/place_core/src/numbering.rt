@@ -71,7 +71,8 @@ pub(crate) fn count_instances(
     maps: &mut Vec<NameMap<u32>>,
     pairs: &mut Vec<(u32, u32)>,
 ) -> Result<(), NoMemory>
-    ensures { OnOk result ((numbers_of maps.new.items, pairs.new.items) ≡ count_instances (design_of design.now) 0 design.now.instances (numbers_of maps.old.items, pairs.old.items)) }
+    ensures { OnOk result ((numbers_of maps.new.items, pairs.new.items)
+        ≡ count_instances (design_of design.now) 0 design.now.instances (numbers_of maps.old.items, pairs.old.items)) }
 {
     for (number, instance) in design.instances.items().iter().enumerate() {
         let number = in_32_bits(number)?;

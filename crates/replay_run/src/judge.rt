@@ -57,7 +57,8 @@ fn judge_walk<F: Files>(
     replay: &Replay<'_>,
     files: &mut F,
 ) -> Result<Judged, ReadEnd>
-    ensures judged { IfOk result (λ judged. IfSome (F.told files.old) (λ told. HoldsTable told (names_as replay.now) (Ok table) → Judges told (names_as replay.now) judged)) }
+    ensures judged { IfOk result (λ judged. IfSome (F.told files.old) (λ told. HoldsTable told (names_as replay.now) (Ok table)
+        → Judges told (names_as replay.now) judged)) }
     ensures line { IfOk result HasLine }
     ensures same { F.told files.new ≡ F.told files.old }
     ensures asked { IfOk result (λ judged. Appends (F.asked files.old) (F.asked files.new) (asked_behind (names_as replay.now) judged)) }

@@ -62,8 +62,10 @@ pub fn run_replay<F: Files, S: Sink>(
 
     // Where the files are told: the status and the whole text that they ask for; and where nothing fails, no other but want of memory.
     ensures done { result < 7
-        → IfSome (F.told files.old) (λ told. EndsAsAsked (map (λ b. heard b) listeners.items) told (names_as replay.now) result (S.taken out.old) (S.taken out.new)) }
-    ensures complete { IfSome (F.told files.old) (λ told. Completes (map (λ b. heard b) listeners.items) told (names_as replay.now) result (S.taken out.old) (S.taken out.new)
+        → IfSome (F.told files.old) (λ told. EndsAsAsked (map (λ b. heard b) listeners.items) told (names_as replay.now) result (S.taken out.old)
+        (S.taken out.new)) }
+    ensures complete { IfSome (F.told files.old) (λ told. Completes (map (λ b. heard b) listeners.items) told (names_as replay.now) result
+        (S.taken out.old) (S.taken out.new)
         (Rose (F.fault_count files.old) (F.fault_count files.new)) (Rose (S.fault_count out.old) (S.fault_count out.new))) }
 
     // The files that are asked for are those of the replay, in their order: up to the one that is refused, or that was not read.

@@ -33,8 +33,10 @@ fn write_walk<S: Sink>(
     out: &mut S,
 ) -> Result<(), SinkEnd>
     requires few { length listeners.items ≤ 65536 }
-    ensures ok { OnOk result (TakesWalk (map (λ b. heard b) listeners.items) walk.table (samples_of walk.trace) walk.requests.items (S.taken out.old) (S.taken out.new)) }
-    ensures front { OnErr result (TakesWalkFront (map (λ b. heard b) listeners.items) walk.table (samples_of walk.trace) walk.requests.items (S.taken out.old) (S.taken out.new)) }
+    ensures ok { OnOk result (TakesWalk (map (λ b. heard b) listeners.items) walk.table (samples_of walk.trace) walk.requests.items (S.taken out.old)
+        (S.taken out.new)) }
+    ensures front { OnErr result (TakesWalkFront (map (λ b. heard b) listeners.items) walk.table (samples_of walk.trace) walk.requests.items
+        (S.taken out.old) (S.taken out.new)) }
     ensures failed { IsErrOf result SinkEnd.Failed → Rose (S.fault_count out.old) (S.fault_count out.new) }
     ensures later { S.fault_count out.old ≤ S.fault_count out.new }
 {

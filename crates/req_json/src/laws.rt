@@ -17,7 +17,7 @@ pub fn replies_read_back()
     ensures { RepliesReadBack }
 {}
 
-/// The same of notices. Computes nothing.
+/// The text of a notice is read, by any reader of JSON, as the value that it was written of. Computes nothing.
 pub fn notices_read_back()
     ensures { NoticesReadBack }
 {}

@@ -61,8 +61,12 @@ pub(crate) fn block_rows(
     instance: u32,
 ) -> Result<Vec<FullRow>, NoMemory>
     requires fits { Fits builder.old (value_of places.now) nodes.now terms.now.terms memo.old }
-    requires ready { EachOf (RowReady (leaf_id (value_of places.now) nodes.now) (leaf_tree builder.old (value_of places.now) nodes.now) (names_at signals.now ++ lets_of (block_of block.now).body)) (map name_row (log_rows terms.now (processes.body_of block.now.clocked (block_of block.now).body))) }
-    ensures have { IfOk result (λ rows. RowsHave builder.new (leaf_tree builder.new (value_of places.now) nodes.now) instance (names_at signals.now ++ lets_of (block_of block.now).body) (map name_row (log_rows terms.now (processes.body_of block.now.clocked (block_of block.now).body))) rows.items) }
+    requires ready { EachOf (RowReady (leaf_id (value_of places.now) nodes.now) (leaf_tree builder.old (value_of places.now) nodes.now)
+        (names_at signals.now ++ lets_of (block_of block.now).body))
+        (map name_row (log_rows terms.now (processes.body_of block.now.clocked (block_of block.now).body))) }
+    ensures have { IfOk result (λ rows. RowsHave builder.new (leaf_tree builder.new (value_of places.now) nodes.now) instance
+        (names_at signals.now ++ lets_of (block_of block.now).body)
+        (map name_row (log_rows terms.now (processes.body_of block.now.clocked (block_of block.now).body))) rows.items) }
     ensures fits { OnOk result (Fits builder.new (value_of places.now) nodes.now terms.now.terms memo.new) }
     ensures grown { OnOk result (Grown builder.old builder.new) }
 {

@@ -32,8 +32,10 @@ fn put_cell(
 ) -> Result<(), NoMemory>
     requires fits { Fits builder.old (value_of places.now) nodes.now block.now.terms memo.old }
     requires held { AreHeld block.now.terms (value_of held.now) }
-    requires ready { CanHaveNode (leaf_id (value_of places.now) nodes.now) (leaf_tree builder.old (value_of places.now) nodes.now) (names_by block.now.terms (value_of held.now) name.now) }
-    ensures put { OnOk result (CellsPut builder.old builder.new (value_of places.now) nodes.now (names_by block.now.terms (value_of held.now)) (name.now ∷ []) cells.old.items cells.new.items) }
+    requires ready { CanHaveNode (leaf_id (value_of places.now) nodes.now) (leaf_tree builder.old (value_of places.now) nodes.now)
+        (names_by block.now.terms (value_of held.now) name.now) }
+    ensures put { OnOk result (CellsPut builder.old builder.new (value_of places.now) nodes.now (names_by block.now.terms (value_of held.now))
+        (name.now ∷ []) cells.old.items cells.new.items) }
     ensures fits { OnOk result (Fits builder.new (value_of places.now) nodes.now block.now.terms memo.new) }
     ensures grown { OnOk result (Grown builder.old builder.new) }
 {
@@ -65,8 +67,10 @@ fn put_cells(
 ) -> Result<(), NoMemory>
     requires fits { Fits builder.old (value_of places.now) nodes.now block.now.terms memo.old }
     requires held { AreHeld block.now.terms (value_of held.now) }
-    requires ready { EachOf (λ x. CanHaveNode (leaf_id (value_of places.now) nodes.now) (leaf_tree builder.old (value_of places.now) nodes.now) (names_by block.now.terms (value_of held.now) x)) (names_at names.now) }
-    ensures put { OnOk result (CellsPut builder.old builder.new (value_of places.now) nodes.now (names_by block.now.terms (value_of held.now)) (names_at names.now) cells.old.items cells.new.items) }
+    requires ready { EachOf (λ x. CanHaveNode (leaf_id (value_of places.now) nodes.now) (leaf_tree builder.old (value_of places.now) nodes.now)
+        (names_by block.now.terms (value_of held.now) x)) (names_at names.now) }
+    ensures put { OnOk result (CellsPut builder.old builder.new (value_of places.now) nodes.now (names_by block.now.terms (value_of held.now))
+        (names_at names.now) cells.old.items cells.new.items) }
     ensures fits { OnOk result (Fits builder.new (value_of places.now) nodes.now block.now.terms memo.new) }
     ensures grown { OnOk result (Grown builder.old builder.new) }
 {
@@ -92,8 +96,10 @@ pub(crate) fn cells_of(
 ) -> Result<Vec<Option<NodeId>>, NoMemory>
     requires fits { Fits builder.old (value_of places.now) nodes.now block.now.terms memo.old }
     requires held { AreHeld block.now.terms (value_of held.now) }
-    requires ready { EachOf (λ x. CanHaveNode (leaf_id (value_of places.now) nodes.now) (leaf_tree builder.old (value_of places.now) nodes.now) (names_by block.now.terms (value_of held.now) x)) (names_at signals.now ++ names_at lets.now) }
-    ensures have { IfOk result (λ cells. CellsHave builder.new (leaf_tree builder.new (value_of places.now) nodes.now) (names_by block.now.terms (value_of held.now)) (names_at signals.now ++ names_at lets.now) cells.items) }
+    requires ready { EachOf (λ x. CanHaveNode (leaf_id (value_of places.now) nodes.now) (leaf_tree builder.old (value_of places.now) nodes.now)
+        (names_by block.now.terms (value_of held.now) x)) (names_at signals.now ++ names_at lets.now) }
+    ensures have { IfOk result (λ cells. CellsHave builder.new (leaf_tree builder.new (value_of places.now) nodes.now)
+        (names_by block.now.terms (value_of held.now)) (names_at signals.now ++ names_at lets.now) cells.items) }
     ensures fits { OnOk result (Fits builder.new (value_of places.now) nodes.now block.now.terms memo.new) }
     ensures grown { OnOk result (Grown builder.old builder.new) }
 {

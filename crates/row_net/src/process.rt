@@ -40,7 +40,8 @@ fn process_rows(
     requires key { HasKey (design_in parts.now) parts.now.keys.items number instance variant (the_block block.now) }
     requires block { IsBlockOf (design_in parts.now) instance variant (the_block block.now) }
     requires signals { names_at signals.now ≡ signal_names (signals_in (design_in parts.now) variant) }
-    ensures told { IfOk result (λ rows. AreTold (design_in parts.now) (length parts.now.order.now) builder.new (at_instance instance (block_sites (design_in parts.now) variant (the_block block.now))) rows.items) }
+    ensures told { IfOk result (λ rows. AreTold (design_in parts.now) (length parts.now.order.now) builder.new
+        (at_instance instance (block_sites (design_in parts.now) variant (the_block block.now))) rows.items) }
     ensures state { OnOk result (HasState parts.now builder.new nodes.now (lists_of memos.new)) }
     ensures grown { OnOk result (Grown builder.old builder.new) }
 {
@@ -74,7 +75,8 @@ pub(crate) fn put_process(
     requires key { HasKey (design_in parts.now) parts.now.keys.items number instance variant (the_block block.now) }
     requires block { IsBlockOf (design_in parts.now) instance variant (the_block block.now) }
     requires signals { names_at signals.now ≡ signal_names (signals_in (design_in parts.now) variant) }
-    ensures put { OnOk result (SpotsPut (design_in parts.now) (length parts.now.order.now) builder.old builder.new (at_instance instance (block_sites (design_in parts.now) variant (the_block block.now))) rows.old.items rows.new.items) }
+    ensures put { OnOk result (SpotsPut (design_in parts.now) (length parts.now.order.now) builder.old builder.new
+        (at_instance instance (block_sites (design_in parts.now) variant (the_block block.now))) rows.old.items rows.new.items) }
     ensures state { OnOk result (HasState parts.now builder.new nodes.now (lists_of memos.new)) }
     ensures grown { OnOk result (Grown builder.old builder.new) }
 {

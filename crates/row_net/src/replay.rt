@@ -34,7 +34,8 @@ fn enable_node(
 ) -> Result<NodeId, NoMemory>
     requires fits { Fits builder.old (value_of places.now) nodes.now block.now.terms memo.old }
     requires within { IsWithin block.now.terms enable }
-    requires ready { EnableReady (leaf_id (value_of places.now) nodes.now) (leaf_tree builder.old (value_of places.now) nodes.now) (tree_for block.now.terms enable) }
+    requires ready { EnableReady (leaf_id (value_of places.now) nodes.now) (leaf_tree builder.old (value_of places.now) nodes.now)
+        (tree_for block.now.terms enable) }
     ensures has { IfOk result (EnableHas builder.new (leaf_tree builder.new (value_of places.now) nodes.now) (tree_for block.now.terms enable)) }
     ensures fits { OnOk result (Fits builder.new (value_of places.now) nodes.now block.now.terms memo.new) }
     ensures grown { OnOk result (Grown builder.old builder.new) }
@@ -62,8 +63,10 @@ fn row_of(
     requires fits { Fits builder.old (value_of places.now) nodes.now block.now.terms memo.old }
     requires held { AreHeld block.now.terms (value_of held.now) }
     requires within { IsWithin block.now.terms enable }
-    requires ready { RowReady (leaf_id (value_of places.now) nodes.now) (leaf_tree builder.old (value_of places.now) nodes.now) (names_at signals.now ++ names_at lets.now) (row_of_slot block.now.terms slot enable (names_by block.now.terms (value_of held.now))) }
-    ensures has { IfOk result (RowHas builder.new (leaf_tree builder.new (value_of places.now) nodes.now) instance (names_at signals.now ++ names_at lets.now) (row_of_slot block.now.terms slot enable (names_by block.now.terms (value_of held.now)))) }
+    requires ready { RowReady (leaf_id (value_of places.now) nodes.now) (leaf_tree builder.old (value_of places.now) nodes.now)
+        (names_at signals.now ++ names_at lets.now) (row_of_slot block.now.terms slot enable (names_by block.now.terms (value_of held.now))) }
+    ensures has { IfOk result (RowHas builder.new (leaf_tree builder.new (value_of places.now) nodes.now) instance
+        (names_at signals.now ++ names_at lets.now) (row_of_slot block.now.terms slot enable (names_by block.now.terms (value_of held.now)))) }
     ensures fits { OnOk result (Fits builder.new (value_of places.now) nodes.now block.now.terms memo.new) }
     ensures grown { OnOk result (Grown builder.old builder.new) }
 {
@@ -98,8 +101,10 @@ fn put_row(
     requires fits { Fits builder.old (value_of places.now) nodes.now block.now.terms memo.old }
     requires held { AreHeld block.now.terms (value_of held.now) }
     requires within { IsWithin block.now.terms enable }
-    requires ready { RowReady (leaf_id (value_of places.now) nodes.now) (leaf_tree builder.old (value_of places.now) nodes.now) (names_at signals.now ++ names_at lets.now) (row_of_slot block.now.terms slot enable (names_by block.now.terms (value_of held.now))) }
-    ensures put { OnOk result (RowsPut builder.old builder.new (value_of places.now) nodes.now instance (names_at signals.now ++ names_at lets.now) (row_of_slot block.now.terms slot enable (names_by block.now.terms (value_of held.now)) ∷ []) rows.old.items rows.new.items) }
+    requires ready { RowReady (leaf_id (value_of places.now) nodes.now) (leaf_tree builder.old (value_of places.now) nodes.now)
+        (names_at signals.now ++ names_at lets.now) (row_of_slot block.now.terms slot enable (names_by block.now.terms (value_of held.now))) }
+    ensures put { OnOk result (RowsPut builder.old builder.new (value_of places.now) nodes.now instance (names_at signals.now ++ names_at lets.now)
+        (row_of_slot block.now.terms slot enable (names_by block.now.terms (value_of held.now)) ∷ []) rows.old.items rows.new.items) }
     ensures fits { OnOk result (Fits builder.new (value_of places.now) nodes.now block.now.terms memo.new) }
     ensures grown { OnOk result (Grown builder.old builder.new) }
 {
@@ -120,7 +125,8 @@ fn set_key(
 ) -> Result<(), NoMemory>
     requires held { AreHeld block.now.terms (value_of held.old) }
     requires within { IsWithin block.now.terms id }
-    ensures after { OnOk result (names_by block.now.terms (value_of held.new) ≡ after_step block.now.terms (Set key.now id) (names_by block.now.terms (value_of held.old))) }
+    ensures after { OnOk result (names_by block.now.terms (value_of held.new)
+        ≡ after_step block.now.terms (Set key.now id) (names_by block.now.terms (value_of held.old))) }
     ensures held { OnOk result (AreHeld block.now.terms (value_of held.new)) }
 {
     match key {
@@ -150,10 +156,13 @@ fn take_step(
     requires fits { Fits builder.old (value_of places.now) nodes.now block.now.terms memo.old }
     requires held { AreHeld block.now.terms (value_of held.old) }
     requires within { AreWithin block.now.terms (effect.now ∷ []) }
-    requires ready { EachOf (RowReady (leaf_id (value_of places.now) nodes.now) (leaf_tree builder.old (value_of places.now) nodes.now) (names_at signals.now ++ names_at lets.now)) (rows_of_step block.now.terms effect.now (names_by block.now.terms (value_of held.old))) }
-    ensures after { OnOk result (names_by block.now.terms (value_of held.new) ≡ after_step block.now.terms effect.now (names_by block.now.terms (value_of held.old))) }
+    requires ready { EachOf (RowReady (leaf_id (value_of places.now) nodes.now) (leaf_tree builder.old (value_of places.now) nodes.now)
+        (names_at signals.now ++ names_at lets.now)) (rows_of_step block.now.terms effect.now (names_by block.now.terms (value_of held.old))) }
+    ensures after { OnOk result (names_by block.now.terms (value_of held.new)
+        ≡ after_step block.now.terms effect.now (names_by block.now.terms (value_of held.old))) }
     ensures held { OnOk result (AreHeld block.now.terms (value_of held.new)) }
-    ensures put { OnOk result (RowsPut builder.old builder.new (value_of places.now) nodes.now instance (names_at signals.now ++ names_at lets.now) (rows_of_step block.now.terms effect.now (names_by block.now.terms (value_of held.old))) rows.old.items rows.new.items) }
+    ensures put { OnOk result (RowsPut builder.old builder.new (value_of places.now) nodes.now instance (names_at signals.now ++ names_at lets.now)
+        (rows_of_step block.now.terms effect.now (names_by block.now.terms (value_of held.old))) rows.old.items rows.new.items) }
     ensures fits { OnOk result (Fits builder.new (value_of places.now) nodes.now block.now.terms memo.new) }
     ensures grown { OnOk result (Grown builder.old builder.new) }
 {
@@ -187,8 +196,11 @@ pub(crate) fn replay(
 ) -> Result<Vec<FullRow>, NoMemory>
     requires fits { Fits builder.old (value_of places.now) nodes.now block.now.terms memo.old }
     requires held { AreHeld block.now.terms (value_of held.old) }
-    requires ready { EachOf (RowReady (leaf_id (value_of places.now) nodes.now) (leaf_tree builder.old (value_of places.now) nodes.now) (names_at signals.now ++ names_at lets.now)) (name_rows block.now.terms block.now.log (names_by block.now.terms (value_of held.old))) }
-    ensures have { IfOk result (λ rows. RowsHave builder.new (leaf_tree builder.new (value_of places.now) nodes.now) instance (names_at signals.now ++ names_at lets.now) (name_rows block.now.terms block.now.log (names_by block.now.terms (value_of held.old))) rows.items) }
+    requires ready { EachOf (RowReady (leaf_id (value_of places.now) nodes.now) (leaf_tree builder.old (value_of places.now) nodes.now)
+        (names_at signals.now ++ names_at lets.now)) (name_rows block.now.terms block.now.log (names_by block.now.terms (value_of held.old))) }
+    ensures have { IfOk result (λ rows. RowsHave builder.new (leaf_tree builder.new (value_of places.now) nodes.now) instance
+        (names_at signals.now ++ names_at lets.now) (name_rows block.now.terms block.now.log
+        (names_by block.now.terms (value_of held.old))) rows.items) }
     ensures fits { OnOk result (Fits builder.new (value_of places.now) nodes.now block.now.terms memo.new) }
     ensures grown { OnOk result (Grown builder.old builder.new) }
 {

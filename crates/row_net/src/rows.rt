@@ -51,7 +51,8 @@ fn put_instance(
     requires keys { HaveKeys (design_in parts.now) parts.now.keys.items first (number, instance.now) }
     requires instance { IsInstance (design_in parts.now) number instance.now }
     ensures next { IfOk result (λ next. next ≡ first + length (blocks_in (design_in parts.now) instance.now.variant)) }
-    ensures put { OnOk result (SpotsPut (design_in parts.now) (length parts.now.order.now) builder.old builder.new (instance_spots (design_in parts.now) (number, instance.now)) rows.old.items rows.new.items) }
+    ensures put { OnOk result (SpotsPut (design_in parts.now) (length parts.now.order.now) builder.old builder.new
+        (instance_spots (design_in parts.now) (number, instance.now)) rows.old.items rows.new.items) }
     ensures state { OnOk result (HasState parts.now builder.new nodes.now (lists_of memos.new)) }
     ensures grown { OnOk result (Grown builder.old builder.new) }
 {
@@ -87,7 +88,8 @@ fn rows_by_instance(
     requires parts { HasParts parts.now }
     requires state { HasState parts.now builder.old nodes.now (lists_of memos.old) }
     requires all { AllHave parts.now nodes.now }
-    ensures told { IfOk result (λ rows. AreTold (design_in parts.now) (length parts.now.order.now) builder.new (spots_by_instance (design_in parts.now)) rows.items) }
+    ensures told { IfOk result (λ rows. AreTold (design_in parts.now) (length parts.now.order.now) builder.new
+        (spots_by_instance (design_in parts.now)) rows.items) }
     ensures state { OnOk result (HasState parts.now builder.new nodes.now (lists_of memos.new)) }
     ensures grown { OnOk result (Grown builder.old builder.new) }
 {

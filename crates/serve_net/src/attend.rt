@@ -50,7 +50,8 @@ fn attend<R: Threads + Wait + Sync, D: Door>(
     requires few { All (λ s. length s.items ≤ 65536) hall.old.sets.items }
     ensures few { All (λ s. length s.items ≤ 65536) hall.new.sets.items }
     ensures ok { IfOk result (λ visit. (over : Over) → Shows service.now over
-        → Attends (λ l. D.Out.meaning l) over (reverse (map (λ s. map (λ b. heard b) s.items) hall.old.sets.items)) (reverse (map (λ s. map (λ b. heard b) s.items) hall.new.sets.items))
+        → Attends (λ l. D.Out.meaning l) over (reverse (map (λ s. map (λ b. heard b) s.items) hall.old.sets.items))
+        (reverse (map (λ s. map (λ b. heard b) s.items) hall.new.sets.items))
         hall.old.served.items hall.new.served.items (D.left door.old) (D.left door.new) (D.fault_count door.old) (D.fault_count door.new) visit) }
     ensures err { OnErr result ((over : Over) → Shows service.now over
         → Breaks (λ l. D.Out.meaning l) over (reverse (map (λ s. map (λ b. heard b) s.items) hall.old.sets.items))
@@ -84,11 +85,14 @@ pub(crate) fn visit<R: Threads + Wait + Sync, D: Door, S: Sink>(
     requires few { All (λ s. length s.items ≤ 65536) hall.old.sets.items }
     ensures few { All (λ s. length s.items ≤ 65536) hall.new.sets.items }
     ensures ok { OnOk result ((over : Over) → Shows service.now over
-        → Visited (λ l. D.Out.meaning l) over (reverse (map (λ s. map (λ b. heard b) s.items) hall.old.sets.items)) (reverse (map (λ s. map (λ b. heard b) s.items) hall.new.sets.items))
-        hall.old.served.items hall.new.served.items (D.left door.old) (D.left door.new) (D.fault_count door.old) (D.fault_count door.new) number (S.taken out.old) (S.taken out.new)) }
+        → Visited (λ l. D.Out.meaning l) over (reverse (map (λ s. map (λ b. heard b) s.items) hall.old.sets.items))
+        (reverse (map (λ s. map (λ b. heard b) s.items) hall.new.sets.items))
+        hall.old.served.items hall.new.served.items (D.left door.old) (D.left door.new) (D.fault_count door.old) (D.fault_count door.new) number
+        (S.taken out.old) (S.taken out.new)) }
     ensures err { IfErr result (λ end. (over : Over) → Shows service.now over
         → Halted (λ l. D.Out.meaning l) over (reverse (map (λ s. map (λ b. heard b) s.items) hall.old.sets.items))
-        hall.old.served.items hall.new.served.items (D.left door.old) (D.left door.new) (D.fault_count door.old) (D.fault_count door.new) number (S.taken out.old) (S.taken out.new) end) }
+        hall.old.served.items hall.new.served.items (D.left door.old) (D.left door.new) (D.fault_count door.old) (D.fault_count door.new) number
+        (S.taken out.old) (S.taken out.new) end) }
     ensures failed { IsErrOf result SinkEnd.Failed → Rose (S.fault_count out.old) (S.fault_count out.new) }
     ensures later { S.fault_count out.old ≤ S.fault_count out.new }
 {

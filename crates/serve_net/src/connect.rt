@@ -43,7 +43,8 @@ pub(crate) fn connect<R: Threads + Wait + Sync, L: Link>(
     requires shows { (over : Over) × Shows service.now over }
     requires fresh { IsFresh (L.meaning link) }
     requires few { length listeners.items ≤ 65536 }
-    ensures member { IfOk result (λ served. (over : Over) → Shows service.now over → IsMember (λ l. L.meaning l) over (map (λ b. heard b) listeners.items) served) }
+    ensures member { IfOk result (λ served. (over : Over) → Shows service.now over
+        → IsMember (λ l. L.meaning l) over (map (λ b. heard b) listeners.items) served) }
 {
     let ready = ready_for(alloc, service)?;
     let mut served = serve_connection(rt, alloc, ready, link, OpenGate, listeners);

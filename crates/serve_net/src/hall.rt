@@ -22,7 +22,8 @@ impl<L: Drop> Hall<L> {
         ensures few { length result.items ≤ 65536 }
         ensures rest { All (λ s. length s.items ≤ 65536) self.new.sets.items }
         ensures next { map (λ b. heard b) result.items ≡ next_of (reverse (map (λ s. map (λ b. heard b) s.items) self.old.sets.items)) }
-        ensures left { reverse (map (λ s. map (λ b. heard b) s.items) self.new.sets.items) ≡ behind_next (reverse (map (λ s. map (λ b. heard b) s.items) self.old.sets.items)) }
+        ensures left { reverse (map (λ s. map (λ b. heard b) s.items) self.new.sets.items)
+            ≡ behind_next (reverse (map (λ s. map (λ b. heard b) s.items) self.old.sets.items)) }
         ensures served { self.new.served ≡ self.old.served }
     {
         match self.sets.pop() {

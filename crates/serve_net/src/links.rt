@@ -57,7 +57,8 @@ pub fn serve_links<R: Threads + Wait + Sync, D: Door, S: Sink>(
         (D.left door.old) (D.left door.new) (D.fault_count door.old) (D.fault_count door.new) result.served.items (S.taken out.old) (S.taken out.new) }
     ensures some { 7 < result.status → (over : Over) → Shows service.now over
         → ServesSome (λ l. D.Out.meaning l) over (reverse (map (λ s. map (λ b. heard b) s.items) sets.items)) count
-        (D.left door.old) (D.left door.new) (D.fault_count door.old) (D.fault_count door.new) result.served.items (S.taken out.old) (S.taken out.new) result.status }
+        (D.left door.old) (D.left door.new) (D.fault_count door.old) (D.fault_count door.new) result.served.items (S.taken out.old)
+        (S.taken out.new) result.status }
     ensures write { result.status ≡ 8 → Rose (S.fault_count out.old) (S.fault_count out.new) }
     ensures later { S.fault_count out.old ≤ S.fault_count out.new }
 {

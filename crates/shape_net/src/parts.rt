@@ -1,3 +1,5 @@
+//! The parts of a symbol table that a design tells without a net: variants and instances.
+
 ghost use Rattle.std.specs.Prelude.{◌≡◌, IfOk, map};
 ghost use Rattle.design_core.specs.View.{variant_of};
 ghost use Rattle.lower_core.specs.Shape.{gen_part, instance_part, variant_part};

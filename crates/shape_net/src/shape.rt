@@ -1,3 +1,5 @@
+//! The shape of a design's symbol table: all of it but nodes and rows, which only a net can tell.
+
 ghost use Rattle.std.specs.Prelude.{◌≡◌, IfOk, map};
 ghost use Rattle.design_core.specs.DesignView.{design_of};
 ghost use Rattle.lower_core.specs.Shape.{shape_of as the_shape, slot_part};

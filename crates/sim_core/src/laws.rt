@@ -1,3 +1,5 @@
+//! What holds of a cycle and of a clock edge by their definitions alone, and a counter worked by hand.
+
 ghost use Rattle.sim_core.specs.Laws.{AnyCanBeGiven, WidthsAreGiven, NodesHaveWidths, RegistersTakeNextValues};
 ghost use Rattle.sim_core.specs.Sample.{Counts};
 

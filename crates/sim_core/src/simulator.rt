@@ -1,3 +1,5 @@
+//! A net with the values of one cycle. All memory is taken at the start, so that no cycle can fail.
+
 ghost use Rattle.std.specs.Prelude.{◌≡◌, ◌<◌, IsSome, IfSome, IfOk, Some, None, length};
 ghost use Rattle.net_core.specs.Nets.{IsNet};
 ghost use Rattle.sim_core.specs.Leaves.{inputs_of, registers_of};

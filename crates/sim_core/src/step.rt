@@ -1,3 +1,5 @@
+//! One cycle of a net: each node once, in order of their numbers, written in place. Nothing is looked up by name.
+
 ghost use Rattle.std.specs.Prelude.{◌≡◌, ◌<◌, All, length, map};
 ghost use Rattle.net_core.specs.Nodes.{shape_of};
 ghost use Rattle.net_core.specs.Nets.{IsNet};

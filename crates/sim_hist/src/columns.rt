@@ -1,3 +1,5 @@
+//! Which input of a net is which column of a stimulus. A net has only the inputs that something needs.
+
 ghost use Rattle.std.specs.Prelude.{◌≡◌, ℕ, ◌<◌, All, IsTrue, IfOk, IfSome, List, length, map, option_to_list};
 ghost use Rattle.std.specs.List.{list_any, zip};
 ghost use Rattle.bv_core.specs.Value.{Bits};
@@ -27,7 +29,8 @@ fn is_port(port: &(Text, u8), name: &[u8], width: u8) -> bool
 fn place_of(ports: &[(Text, u8)], name: &[u8], width: u8) -> usize
     requires { IsTrue (list_any (λ o. same_origin o (Input name.now width)) (port_origins ports.now)) }
     ensures within { result < length ports.now }
-    ensures value { (row : List Bits) → length row ≡ length ports.now → bits_at row result ≡ value_beside (zip (port_origins ports.now) row) (Input name.now width) }
+    ensures value { (row : List Bits) → length row ≡ length ports.now
+        → bits_at row result ≡ value_beside (zip (port_origins ports.now) row) (Input name.now width) }
 {
     let mut place = 0;
     for port in ports {
@@ -41,9 +44,11 @@ fn place_of(ports: &[(Text, u8)], name: &[u8], width: u8) -> usize
 
 /// The column of an input. None where the node is none.
 fn column_of(node: &Node, ports: &[(Text, u8)]) -> Option<usize>
-    requires { (name : List ℕ) (width : ℕ) → shape_of node.now ≡ TopInput name width → IsTrue (list_any (λ o. same_origin o (Input name width)) (port_origins ports.now)) }
+    requires { (name : List ℕ) (width : ℕ) → shape_of node.now ≡ TopInput name width
+        → IsTrue (list_any (λ o. same_origin o (Input name width)) (port_origins ports.now)) }
     ensures within { All (λ column. column < length ports.now) (option_to_list result) }
-    ensures value { (row : List Bits) → length row ≡ length ports.now → map (bits_at row) (option_to_list result) ≡ map (value_beside (zip (port_origins ports.now) row)) (input_in (shape_of node.now)) }
+    ensures value { (row : List Bits) → length row ≡ length ports.now
+        → map (bits_at row) (option_to_list result) ≡ map (value_beside (zip (port_origins ports.now) row)) (input_in (shape_of node.now)) }
 {
     match node {
         Node::Input(name, width) => Some(place_of(ports, name.bytes(), *width)),

@@ -32,7 +32,14 @@ impl Model for History {
 
     ghost Value = { Recalled };
 
-    ghost view = { λ h. record { firsts = take h.known (map (λ row. row.items) h.firsts.items); block = h.block; near = take h.count (map (λ row. row.items) h.near.items); width = h.width; cycles = h.cycles } };
+    ghost view = { λ h. record {
+      firsts = take h.known (map (λ row. row.items) h.firsts.items);
+      block = h.block;
+      near = take h.count
+          (map (λ row. row.items) h.near.items);
+      width = h.width;
+      cycles = h.cycles;
+    } };
 
     ghost invariant = { λ h. IsHistory (map (λ row. row.items) h.firsts.items) h.known (map (λ row. row.items) h.near.items) h.count h.width h.cycles };
 }

@@ -1,3 +1,5 @@
+//! What holds of samples by their definitions alone, and a counter worked by hand.
+
 ghost use Rattle.sim_hist.specs.Laws.{SamplesHaveWidths};
 ghost use Rattle.sim_hist.specs.Sample.{Traces};
 

@@ -1,3 +1,5 @@
+//! A simulator's trace sought back and forth, and a printed module with a sink that fails.
+
 use crate::delay::{delay, ports};
 use crate::missing::Missing;
 use bv_core::{NodeId, Sample};

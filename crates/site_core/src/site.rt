@@ -172,7 +172,8 @@ fn bound(
     bit: bool,
 ) -> Result<Cond, SiteFault>
     requires { Contains (instances_of table.now slot) instance }
-    ensures tells { TellsNone result (fit_refusal bit slot (judged (scope_of (binding_of table.now slot instance)) (text_expr text.now) (text_offsets text.now))) }
+    ensures tells { TellsNone result (fit_refusal bit slot (judged (scope_of (binding_of table.now slot instance)) (text_expr text.now)
+        (text_offsets text.now))) }
     ensures made { IfOk result (λ cond. IsFittingAt bit table.now slot instance (Some text.now) (Some cond)) }
 {
     match bind(
@@ -311,7 +312,9 @@ pub fn sited_on(
     text: Option<&[u8]>,
     bit: bool,
 ) -> Result<Sited, SiteFault>
-    ensures told { (read : Reader) (s : Samples) → IsReader read → TellsMade sited_of result (sited_on read (seen (trace_world table.now s)) bit line (option_map (λ p. p.now) path.entry) (option_map (λ t. t.now) text.entry)) }
+    ensures told { (read : Reader) (s : Samples) → IsReader read
+        → TellsMade sited_of result (sited_on read (seen (trace_world table.now s)) bit line (option_map (λ p. p.now) path.entry)
+        (option_map (λ t. t.now) text.entry)) }
     ensures placed { IfOk result (IsPlaced bit table.now) }
 {
     let _parts = table.parts();

@@ -22,7 +22,9 @@ pub fn prepare(
     path: Option<&str>,
     cond: Option<&[u8]>,
 ) -> Result<Sited, ArmFault>
-    ensures told { (read : Reader) (s : Samples) (armed next : ℕ) → IsReader read → IsFor armed next result (breakpoint_on read (seen (trace_world table.now s)) armed next line (option_map (λ p. p.now) path.entry) (option_map (λ t. t.now) cond.entry)) }
+    ensures told { (read : Reader) (s : Samples) (armed next : ℕ) → IsReader read
+        → IsFor armed next result (breakpoint_on read (seen (trace_world table.now s)) armed next line (option_map (λ p. p.now) path.entry)
+        (option_map (λ t. t.now) cond.entry)) }
     ensures armable { IfOk result (IsArmable table.now) }
 {
     let found = sited_on(alloc, table, line, path, cond, true)?;

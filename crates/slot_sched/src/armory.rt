@@ -126,7 +126,9 @@ impl Schedule {
         instance: Option<&str>,
         cond: Option<&[u8]>,
     ) -> Result<u64, ArmFault>
-        ensures armed { (read : Reader) (s : Samples) → IsReader read → Arms result (breakpoint_on read (seen (trace_world table.now s)) (length (breakpoints self.old)) (next_number self.old) line (option_map (λ p. p.now) instance.entry) (option_map (λ t. t.now) cond.entry)) (breakpoints self.old) (breakpoints self.new) }
+        ensures armed { (read : Reader) (s : Samples) → IsReader read
+            → Arms result (breakpoint_on read (seen (trace_world table.now s)) (length (breakpoints self.old)) (next_number self.old) line
+            (option_map (λ p. p.now) instance.entry) (option_map (λ t. t.now) cond.entry)) (breakpoints self.old) (breakpoints self.new) }
         ensures next { OnOk result (next_number self.new ≡ next_number self.old + 1) }
         ensures kept { OnErr result (IsAsBefore self.old self.new) }
         ensures own { AreOf table.now self.old → AreOf table.now self.new }

@@ -92,7 +92,8 @@ fn any_steps<T: Trace>(table: &Table, trace: &T, slot: u32, named: Option<u32>) 
 impl Schedule {
     /// The breakpoints that may wait at this slot.
     fn waiting(&self, slot: u32) -> &[Armed]
-        ensures stops { (parts : TableParts) (samples : ℕ → Sample) → any_stops parts samples slot result.now ≡ any_stops parts samples slot self.now.armed.items }
+        ensures stops { (parts : TableParts) (samples : ℕ → Sample)
+            → any_stops parts samples slot result.now ≡ any_stops parts samples slot self.now.armed.items }
         ensures ready { (parts : TableParts) (s : Samples) → AreReady parts s self.now.armed.items → AreReady parts s result.now }
     {
         let span = span_at(&self.spans, slot);
@@ -188,7 +189,8 @@ impl Schedule {
         ensures set { IfSome stands.new (λ at. T.cursor trace.new ≡ Some at) }
         ensures cycle { spot.slot + result ≤ length table.now.slots }
         ensures here { result ≡ 0 → position_stops table.now (T.samples trace.old) self.now.armed.items want spot.position ≡ true }
-        ensures none { (p : ℕ) → spot.position ≤ p → p < spot.position + result → position_stops table.now (T.samples trace.old) self.now.armed.items want p ≡ false }
+        ensures none { (p : ℕ) → spot.position ≤ p → p < spot.position + result
+            → position_stops table.now (T.samples trace.old) self.now.armed.items want p ≡ false }
     {
         let passed = self.passed_up(table, spot.slot, want);
         if 0 < passed {
@@ -219,7 +221,8 @@ impl Schedule {
         ensures set { IfSome stands.new (λ at. T.cursor trace.new ≡ Some at) }
         ensures cycle { result ≤ spot.slot + 1 }
         ensures here { result ≡ 0 → position_stops table.now (T.samples trace.old) self.now.armed.items want spot.position ≡ true }
-        ensures none { (p : ℕ) → p ≤ spot.position → spot.position < p + result → position_stops table.now (T.samples trace.old) self.now.armed.items want p ≡ false }
+        ensures none { (p : ℕ) → p ≤ spot.position → spot.position < p + result
+            → position_stops table.now (T.samples trace.old) self.now.armed.items want p ≡ false }
     {
         let passed = self.passed_down(table, spot.slot, want);
         if 0 < passed {

@@ -197,7 +197,8 @@ pub(crate) fn rebuild(spans: &mut Vec<Span>, armed: &[Armed])
 fn put_last(spans: &mut Vec<Span>, armed: &[Armed])
     requires few { length armed.now < 2 ^ 32 - 1 }
     requires within { AllWaitBelow (length spans.old.items) armed.now }
-    ensures { (front : List Armed) (last : Armed) → armed.now ≡ front ++ last ∷ [] → are_spanned spans.old.items 0 front ≡ true → are_spanned spans.new.items 0 armed.now ≡ true }
+    ensures { (front : List Armed) (last : Armed) → armed.now ≡ front ++ last ∷ [] → are_spanned spans.old.items 0 front ≡ true
+        → are_spanned spans.new.items 0 armed.now ≡ true }
 {
     if let Some(last) = armed.last() {
         widen(spans, &last.traps, armed.len() as u32 - 1);
@@ -208,7 +209,8 @@ fn put_last(spans: &mut Vec<Span>, armed: &[Armed])
 pub(crate) fn widen_last(spans: &mut Vec<Span>, armed: &[Armed])
     requires few { length armed.now < 2 ^ 32 - 1 }
     requires within { AllWaitBelow (length spans.old.items) armed.now }
-    ensures spanned { (front : List Armed) (last : Armed) → armed.now ≡ front ++ last ∷ [] → are_spanned spans.old.items 0 front ≡ true → are_spanned spans.new.items 0 armed.now ≡ true }
+    ensures spanned { (front : List Armed) (last : Armed) → armed.now ≡ front ++ last ∷ [] → are_spanned spans.old.items 0 front ≡ true
+        → are_spanned spans.new.items 0 armed.now ≡ true }
     ensures gaps { TellGaps spans.new.items }
 {
     put_last(spans, armed);

@@ -67,7 +67,8 @@ fn push_child<'a>(
     number: Option<u32>,
     child: &'a Child,
 ) -> Result<(), NoMemory>
-    ensures { OnOk result (map link_as links.new.items ≡ map link_as links.old.items ++ none_or (λ j. map (conn_link parent j) (child_of child.now).conns) number) }
+    ensures { OnOk result (map link_as links.new.items ≡ map link_as links.old.items ++ none_or
+        (λ j. map (conn_link parent j) (child_of child.now).conns) number) }
 {
     match number {
         Some(number) => push_conns(links, parent, number, &child.conns),
@@ -89,7 +90,8 @@ fn push_children<'a>(
     below: &[u32],
     children: &'a [Child],
 ) -> Result<(), NoMemory>
-    ensures { OnOk result (map link_as links.new.items ≡ map link_as links.old.items ++ flat_map (links_of_child parent below.now) (enumerate_from 0 (map child_of children.now))) }
+    ensures { OnOk result (map link_as links.new.items ≡ map link_as links.old.items ++ flat_map (links_of_child parent below.now)
+        (enumerate_from 0 (map child_of children.now))) }
 {
     for (place, child) in children.iter().enumerate() {
         let number = number_at(below, place);
@@ -106,7 +108,8 @@ fn push_output<'a>(
     name: &'a [u8],
     output: &'a [u8],
 ) -> Result<(), NoMemory>
-    ensures { OnOk result (map link_as links.new.items ≡ map link_as links.old.items ++ none_or (λ j. (place parent name.now, Leaf (place j output.now)) ∷ []) number) }
+    ensures { OnOk result (map link_as links.new.items ≡ map link_as links.old.items ++ none_or
+        (λ j. (place parent name.now, Leaf (place j output.now)) ∷ []) number) }
 {
     if let Some(number) = number {
         links.push(Link {
@@ -147,7 +150,8 @@ fn push_signals<'a>(
     below: &[u32],
     signals: &'a [Signal],
 ) -> Result<(), NoMemory>
-    ensures { OnOk result (map link_as links.new.items ≡ map link_as links.old.items ++ flat_map (λ (s : Signal). link_of_output parent below.now s.name s.kind) signals.now) }
+    ensures { OnOk result (map link_as links.new.items ≡ map link_as links.old.items ++ flat_map
+        (λ (s : Signal). link_of_output parent below.now s.name s.kind) signals.now) }
 {
     for signal in signals {
         push_signal(links, parent, below, signal)?;

@@ -24,7 +24,8 @@ fn push_blocks(
     number: u32,
     instance: &Instance,
 ) -> Result<(), NoMemory>
-    ensures { OnOk result (map (process_at (design_of design.now)) keys.new.items ≡ map (process_at (design_of design.now)) keys.old.items ++ map (λ b. Some b) (processes_at (design_of design.now) (number, instance.now))) }
+    ensures { OnOk result (map (process_at (design_of design.now)) keys.new.items
+        ≡ map (process_at (design_of design.now)) keys.old.items ++ map (λ b. Some b) (processes_at (design_of design.now) (number, instance.now))) }
 {
     let blocks = blocks_of(&design.variants, instance.variant);
     for block in 0..blocks.len() {

@@ -1,3 +1,5 @@
+//! What a net is finished with, once all signals have nodes.
+
 ghost use Rattle.std.specs.Prelude.{◌≡◌, true, length, IfOk, OnOk};
 ghost use Rattle.design_core.specs.Ports.{ports_in, top_signals};
 ghost use Rattle.lower_core.specs.Lowered.{OutputsTold};
@@ -38,8 +40,10 @@ pub(crate) fn ends_of(
     requires parts { HasParts parts.now }
     requires state { HasState parts.now builder.old nodes.now (lists_of memos.old) }
     requires all { AllHave parts.now nodes.now }
-    ensures rows { IfOk result (λ ends. AreTold (design_in parts.now) (length parts.now.order.now) builder.new (all_spots (design_in parts.now)) ends.rows.items) }
-    ensures outputs { IfOk result (λ ends. OutputsTold (design_in parts.now) (length parts.now.order.now) builder.new (ports_in true (top_signals (design_in parts.now))) (net_outputs ends.outputs.items)) }
+    ensures rows { IfOk result (λ ends. AreTold (design_in parts.now) (length parts.now.order.now) builder.new
+        (all_spots (design_in parts.now)) ends.rows.items) }
+    ensures outputs { IfOk result (λ ends. OutputsTold (design_in parts.now) (length parts.now.order.now) builder.new
+        (ports_in true (top_signals (design_in parts.now))) (net_outputs ends.outputs.items)) }
     ensures outputs_fit { IfOk result (λ ends. OutputsFit builder.new (net_outputs ends.outputs.items)) }
     ensures nexts { IfOk result (λ ends. AllNext parts.now builder.new (net_nexts ends.nexts.items)) }
     ensures nexts_fit { IfOk result (λ ends. NextsFit builder.new (net_nexts ends.nexts.items)) }

@@ -1,3 +1,5 @@
+//! Which terms of a block have a node already, at the start: none.
+
 ghost use Rattle.std.specs.Prelude.{◌≡◌, IfOk};
 ghost use Rattle.ssa_core.specs.Processes.{lists_of};
 ghost use Rattle.ssa_nodes.specs.Parts.{HasParts, IsProcess, blocks_in};

@@ -70,7 +70,8 @@ pub(crate) fn outputs_of(
     requires parts { HasParts parts.now }
     requires signals { HasSignals parts.now builder.now nodes.now }
     requires all { AllHave parts.now nodes.now }
-    ensures told { IfOk result (λ outputs. OutputsTold (design_in parts.now) (length parts.now.order.now) builder.now (ports_in true (top_signals (design_in parts.now))) (net_outputs outputs.items)) }
+    ensures told { IfOk result (λ outputs. OutputsTold (design_in parts.now) (length parts.now.order.now) builder.now
+        (ports_in true (top_signals (design_in parts.now))) (net_outputs outputs.items)) }
     ensures fit { IfOk result (λ outputs. OutputsFit builder.now (net_outputs outputs.items)) }
 {
     let mut outputs = Vec::new(alloc);

@@ -56,7 +56,8 @@ fn push_register<'a>(
     name: &'a [u8],
     start: &'a Literal,
 ) -> Result<(), NoMemory>
-    ensures { OnOk result (map given_as list.new.items ≡ map given_as list.old.items ++ (place number name.now, Register path.now name.now (value_of start.now)) ∷ []) }
+    ensures { OnOk result (map given_as list.new.items ≡ map given_as list.old.items ++
+        (place number name.now, Register path.now name.now (value_of start.now)) ∷ []) }
 {
     list.push(Given {
         instance: number,

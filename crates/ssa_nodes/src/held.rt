@@ -38,7 +38,8 @@ pub fn held_node(
 ) -> Result<Option<NodeId>, NoMemory>
     requires fits { Fits builder.old (value_of names.now) nodes.now block.now.terms memo.old }
     requires within { IsHeld block.now.terms held }
-    requires ready { CanHaveNode (leaf_id (value_of names.now) nodes.now) (leaf_tree builder.old (value_of names.now) nodes.now) (the_held block.now.terms name.now held) }
+    requires ready { CanHaveNode (leaf_id (value_of names.now) nodes.now) (leaf_tree builder.old (value_of names.now) nodes.now)
+        (the_held block.now.terms name.now held) }
     ensures told { IfOk result (NodeTold builder.new (leaf_tree builder.new (value_of names.now) nodes.now) (the_held block.now.terms name.now held)) }
     ensures fits { OnOk result (Fits builder.new (value_of names.now) nodes.now block.now.terms memo.new) }
     ensures grown { OnOk result (Grown builder.old builder.new) }

@@ -1,3 +1,5 @@
+//! Why a stimulus is refused, and where.
+
 ghost use Rattle.std.specs.Prelude.{◌≡◌};
 ghost use Rattle.stim_text.specs.declared.fault.StimFault.TheVariants.{NoMemory};
 

@@ -1,3 +1,5 @@
+//! The fields of a line of a stimulus, and what number each is.
+
 ghost use Rattle.std.specs.Prelude.{◌≡◌, ◌≤◌, ◌<◌, ◌^◌, ◌∷◌, [], length, MatchOption, Some, None, if◌then◌else◌, nat_lt};
 ghost use Rattle.std.specs.List.{position_or_len, prefix_len, list_all};
 ghost use Rattle.text_core.specs.Digits.{is_digit_of};

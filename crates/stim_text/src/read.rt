@@ -1,3 +1,5 @@
+//! Reading a stimulus. Limits are judged before rows, so that a text that is too large costs no memory.
+
 ghost use Rattle.std.specs.Prelude.{◌≡◌, ◌+◌, ◌*◌, ◌/◌, min, length, IfOk};
 ghost use Rattle.stim_text.specs.Rows.{Gives, are_few, rows_of};
 ghost use Rattle.stim_text.specs.Stimulus.{IsStimulus};

@@ -1,3 +1,5 @@
+//! The header and the rows of a stimulus. A row is judged whole before any of its values is taken.
+
 ghost use Rattle.std.specs.Prelude.{◌≡◌, ◌≤◌, ◌*◌, IsTrue, IfOk, length};
 ghost use Rattle.std.specs.List.{list_all, zip};
 ghost use Rattle.std.specs.Str.Lines.{lines};

@@ -1,3 +1,5 @@
+//! A stimulus that was read: one value for each input and row, in one list.
+
 ghost use Rattle.std.specs.Prelude.{◌≡◌, ◌<◌, ◌≤◌, ◌+◌, ◌*◌, Some, length, map, slice_get, take, drop};
 ghost use Rattle.stim_text.specs.Stimulus.{Stimulus, IsStimulus, rows_in};
 
@@ -22,7 +24,8 @@ impl Model for Stim {
 
     ghost view = { λ s. record { ports = s.ports; rows = rows_in (length s.ports.inputs) s.count s.values.items } };
 
-    ghost invariant = { λ s. IsStimulus (record { ports = s.ports; rows = rows_in (length s.ports.inputs) s.count s.values.items }) × (length s.values.items ≡ s.count * length s.ports.inputs) };
+    ghost invariant = { λ s. IsStimulus (record { ports = s.ports; rows = rows_in (length s.ports.inputs) s.count s.values.items })
+        × (length s.values.items ≡ s.count * length s.ports.inputs) };
 }
 
 impl Stim {

@@ -35,7 +35,7 @@ impl Names {
         })
     }
 
-    /// The same list for one more holder. Copies no name, and fails only where 2^63 hold it.
+    /// This list of names for one more holder. Copies no name, and fails only where 2^63 hold it.
     pub fn share(&self) -> Result<Names, NoMemory>
         ensures { IfOk result (λ names. names ≡ self.now) }
     {

@@ -1,3 +1,6 @@
+//! The parts of a symbol table as they are handed over, before they are judged: a table is made of parts that keep every rule (`shape.rt`), and of no
+//! others.
+
 use crate::{Cells, Names};
 use bv_core::Ref;
 use std::alloc::AllocError;

@@ -1,3 +1,5 @@
+//! A list of numbers that answers where each stands, and the how-manieth it is there: instances by their variant, and variants' rows by instance.
+
 ghost use Rattle.std.specs.Prelude.{◌≡◌, ◌<◌, ◌≤◌, ◌^◌, ℕ, IfOk, All, length, slice_index};
 ghost use Rattle.symtab.specs.Places.{places};
 ghost use Rattle.symtab.specs.Tables.{group_of, rank};

@@ -1,3 +1,5 @@
+//! The rules that parts have to keep to be a table, each by itself and each under the name that its definition has.
+
 ghost use Rattle.std.specs.Prelude.{◌≡◌, ◌<◌, ◌≤◌, ◌^◌, ◌↔◌, IsTrue, All, length, map, slice_get, Some};
 ghost use Rattle.symtab.specs.Shape.{IsShort, IsWidth, AreGens, IsFound, IsCell, IsRow, paths_of, width_of};
 ghost use Rattle.symtab.specs.Checked.{IsPlaced, AreRows, IsNumbered};

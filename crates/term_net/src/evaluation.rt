@@ -68,7 +68,8 @@ fn advance(
     ensures grown { OnOk result (Grown builder.old builder.new) }
     ensures stay { OnOk result (Stay memo.old memo.new) }
     ensures falls { OnOk result (Fall (IsPending builder.new (value_of places.now) nodes.now terms.now memo.new) (length terms.now) stack.new.items) }
-    ensures less { OnOk result ((root : ℕ) → root < length terms.now → work root memo.new stack.new.items < unknown_count memo.old * (length memo.old + 1) + top.0) }
+    ensures less { OnOk result ((root : ℕ) → root < length terms.now
+        → work root memo.new stack.new.items < unknown_count memo.old * (length memo.old + 1) + top.0) }
 {
     match missing(terms, memo, top) {
         Some(operand) => put_off(stack, top, operand),
@@ -89,7 +90,8 @@ fn evaluate_term(
     requires fits { Fits builder.old (value_of places.now) nodes.now terms.now memo.old }
     requires numbered { AreNumbered terms.now }
     requires within { root.0 < length terms.now }
-    requires ready { IsReady (leaf_id (value_of places.now) nodes.now) (leaf_tree builder.old (value_of places.now) nodes.now) (tree_at (trees_of terms.now) root.0) }
+    requires ready { IsReady (leaf_id (value_of places.now) nodes.now) (leaf_tree builder.old (value_of places.now) nodes.now)
+        (tree_at (trees_of terms.now) root.0) }
     ensures stands { IfOk result (λ id. Stands builder.new id.0 (term_whole (leaf_tree builder.new (value_of places.now) nodes.now) terms.now root.0)) }
     ensures fits { OnOk result (Fits builder.new (value_of places.now) nodes.now terms.now memo.new) }
     ensures grown { OnOk result (Grown builder.old builder.new) }
@@ -120,7 +122,8 @@ pub fn evaluate(
 ) -> Result<NodeId, NoMemory>
     requires fits { Fits builder.old (value_of places.now) nodes.now block.now.terms memo.old }
     requires within { root.0 < length block.now.terms }
-    requires ready { IsReady (leaf_id (value_of places.now) nodes.now) (leaf_tree builder.old (value_of places.now) nodes.now) (tree_at (trees_of block.now.terms) root.0) }
+    requires ready { IsReady (leaf_id (value_of places.now) nodes.now) (leaf_tree builder.old (value_of places.now) nodes.now)
+        (tree_at (trees_of block.now.terms) root.0) }
     ensures stands { IfOk result (λ id. Stands builder.new id.0 (term_whole (leaf_tree builder.new (value_of places.now) nodes.now) block.now.terms root.0)) }
     ensures fits { OnOk result (Fits builder.new (value_of places.now) nodes.now block.now.terms memo.new) }
     ensures grown { OnOk result (Grown builder.old builder.new) }

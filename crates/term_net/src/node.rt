@@ -86,7 +86,8 @@ pub(crate) fn node_of(
     requires fits { Fits builder.old (value_of places.now) nodes.now terms.now memo.now }
     requires numbered { AreNumbered terms.now }
     requires within { id.0 < length terms.now }
-    requires ready { IsReady (leaf_id (value_of places.now) nodes.now) (leaf_tree builder.old (value_of places.now) nodes.now) (tree_at (trees_of terms.now) id.0) }
+    requires ready { IsReady (leaf_id (value_of places.now) nodes.now) (leaf_tree builder.old (value_of places.now) nodes.now)
+        (tree_at (trees_of terms.now) id.0) }
     requires known { AreKnown memo.now (term_at terms.now id.0) }
     ensures stands { IfOk result (λ node. Stands builder.new node.0 (term_whole (leaf_tree builder.old (value_of places.now) nodes.now) terms.now id.0)) }
     ensures grown { OnOk result (Grown builder.old builder.new) }

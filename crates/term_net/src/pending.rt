@@ -1,3 +1,5 @@
+//! Which operand of a term comes next. Terms nest as deep as a source is long, so they are walked by a stack and not by recursion.
+
 ghost use Rattle.std.specs.Prelude.{◌≡◌, ◌<◌, length, IsSome, MatchOption, None};
 ghost use Rattle.block_net.specs.Terms.{AreNumbered};
 ghost use Rattle.term_net.specs.Leaves.{node_at};

@@ -1,3 +1,5 @@
+//! A trace that is told outright, for tests, and for values that no design gives.
+
 ghost use Rattle.std.specs.Prelude.{◌≡◌, ◌<◌, All, length, map, None, Some, IfOk};
 ghost use Rattle.std.specs.Option.{ForSome};
 ghost use Rattle.trace_core.specs.Rows.{TraceInMemory, samples_of};

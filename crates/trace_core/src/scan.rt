@@ -1,3 +1,5 @@
+//! The words of a search through time: which way, for what, and what it found. Searches of several crates answer in these.
+
 /// What a seek answers.
 #[derive(Clone, Copy, PartialEq, Eq)]
 pub enum Seek {

@@ -1,3 +1,6 @@
+//! What a debugger may ask of a trace: samples by cycle, under a cursor that goes both ways. The simulator's trace and that of a dump file are the same
+//! to all that is above.
+
 ghost use Rattle.std.specs.Prelude.{◌≡◌, ◌<◌, ◌≤◌, ℕ, Option, Some, IsSome, IfSome};
 ghost use Rattle.trace_core.specs.Samples.{Samples};
 

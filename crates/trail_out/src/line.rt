@@ -9,36 +9,30 @@ ghost use Rattle.trace_world.specs.TraceWorld.{found_by};
 ghost use Rattle.trail_out.specs.Texts.{sample_shown, cell_shown, variable_text, cell_text, cells_text, line_text};
 ghost use Rattle.trail_out.specs.Written.{samples_at, RefStands, CellStands};
 
-use bv_core::{Binding, Ref, Sample, text_of};
+use bv_core::{Binding, Ref, Sample, push_shown};
+use itoa::Buffer;
 use places::{file_of, line_in};
-use std::alloc::Global;
 use symtab::{Cells, GenVariable, Slot};
 use text_core::{NoMemory, Text};
 use trace_core::Trace;
 
 /// Adds a blank, and a generator variable with its number.
-fn push_variable(alloc: Global, text: &mut Vec<u8>, variable: &GenVariable) -> Result<(), NoMemory>
+fn push_variable(text: &mut Vec<u8>, variable: &GenVariable) -> Result<(), NoMemory>
     ensures { OnOk result (text.new.items ≡ text.old.items ++ variable_text variable.now) }
 {
-    let value = variable.value;
-    let number = format!(in alloc; "{value}")?;
     text.push(b' ')?;
     text.extend_from_slice(variable.name.bytes())?;
     text.push(b'=')?;
-    text.extend_from_slice(number.as_bytes())?;
+    text.extend_from_slice(Buffer::new().format(variable.value).as_bytes())?;
     Ok(())
 }
 
 /// Adds generator variables, in order.
-fn push_variables(
-    alloc: Global,
-    text: &mut Vec<u8>,
-    variables: &[GenVariable],
-) -> Result<(), NoMemory>
+fn push_variables(text: &mut Vec<u8>, variables: &[GenVariable]) -> Result<(), NoMemory>
     ensures { OnOk result (text.new.items ≡ text.old.items ++ flat_map variable_text variables.now) }
 {
     for variable in variables {
-        push_variable(alloc, text, variable)?;
+        push_variable(text, variable)?;
     }
     Ok(())
 }
@@ -56,29 +50,24 @@ pub(crate) fn sample_of<T: Trace>(trace: &T, at: Ref) -> Sample
 }
 
 /// Adds a value, or that it is not known.
-fn push_sample(alloc: Global, text: &mut Vec<u8>, sample: Sample) -> Result<(), NoMemory>
+fn push_sample(text: &mut Vec<u8>, sample: Sample) -> Result<(), NoMemory>
     ensures { OnOk result (text.new.items ≡ text.old.items ++ shown_text (sample_shown sample)) }
 {
     match sample {
-        Sample::Known(value) => text.extend_from_slice(text_of(alloc, value)?.as_bytes())?,
+        Sample::Known(value) => push_shown(text, value)?,
         Sample::Unknown => text.extend_from_slice(b"x")?,
     }
     Ok(())
 }
 
 /// Adds what is shown of a name that stands for this, in the cycle at which the trace stands.
-fn push_shown<T: Trace>(
-    alloc: Global,
-    text: &mut Vec<u8>,
-    trace: &T,
-    cell: Binding,
-) -> Result<(), NoMemory>
+fn push_value<T: Trace>(text: &mut Vec<u8>, trace: &T, cell: Binding) -> Result<(), NoMemory>
     requires placed { IsSome (T.cursor trace.now) }
     requires stands { CellStands (T.samples trace.now).nodes cell }
     ensures { OnOk result (text.new.items ≡ text.old.items ++ shown_text (cell_shown (samples_at (T.samples trace.now) (T.cursor trace.now)) cell)) }
 {
     match cell {
-        Binding::Value(at) => push_sample(alloc, text, sample_of(trace, at))?,
+        Binding::Value(at) => push_sample(text, sample_of(trace, at))?,
         Binding::Unset => text.extend_from_slice(b"unset")?,
         Binding::Removed => text.extend_from_slice(b"removed")?,
     }
@@ -87,7 +76,6 @@ fn push_shown<T: Trace>(
 
 /// Adds a blank, and a name with what is shown of it.
 fn push_cell<T: Trace>(
-    alloc: Global,
     text: &mut Vec<u8>,
     trace: &T,
     name: &Text,
@@ -100,13 +88,12 @@ fn push_cell<T: Trace>(
     text.push(b' ')?;
     text.extend_from_slice(name.bytes())?;
     text.push(b'=')?;
-    push_shown(alloc, text, trace, cell)?;
+    push_value(text, trace, cell)?;
     Ok(())
 }
 
 /// Adds names with what is shown of them, in order.
 fn push_cells<T: Trace>(
-    alloc: Global,
     text: &mut Vec<u8>,
     trace: &T,
     names: &[Text],
@@ -118,32 +105,31 @@ fn push_cells<T: Trace>(
     ensures { OnOk result (text.new.items ≡ text.old.items ++ cells_text (samples_at (T.samples trace.now) (T.cursor trace.now)) names.now cells.now) }
 {
     for (place, name) in names.iter().enumerate() {
-        push_cell(alloc, text, trace, name, cells.at(place))?;
+        push_cell(text, trace, name, cells.at(place))?;
     }
     Ok(())
 }
 
 /// Adds a place as it is told in one word: the line alone in file 0, and FILE:LINE in another.
-fn push_place(alloc: Global, text: &mut Vec<u8>, place: u32) -> Result<(), NoMemory>
+fn push_place(text: &mut Vec<u8>, place: u32) -> Result<(), NoMemory>
     ensures { OnOk result (text.new.items ≡ text.old.items ++ place_text place) }
 {
     let (file, line) = (file_of(place), line_in(place));
     if file != 0 {
-        let front = format!(in alloc; "{file}:")?;
-        text.extend_from_slice(front.as_bytes())?;
+        text.extend_from_slice(Buffer::new().format(file).as_bytes())?;
+        text.push(b':')?;
     }
-    let digits = format!(in alloc; "{line}")?;
-    text.extend_from_slice(digits.as_bytes())?;
+    text.extend_from_slice(Buffer::new().format(line).as_bytes())?;
     Ok(())
 }
 
 /// Adds the cycle and the place, with a blank behind each.
-fn push_head(alloc: Global, text: &mut Vec<u8>, cycle: u64, place: u32) -> Result<(), NoMemory>
+fn push_head(text: &mut Vec<u8>, cycle: u64, place: u32) -> Result<(), NoMemory>
     ensures { OnOk result (text.new.items ≡ text.old.items ++ (decimal cycle ++ codes " " ++ place_text place ++ codes " ")) }
 {
-    let head = format!(in alloc; "{cycle} ")?;
-    text.extend_from_slice(head.as_bytes())?;
-    push_place(alloc, text, place)?;
+    text.extend_from_slice(Buffer::new().format(cycle).as_bytes())?;
+    text.push(b' ')?;
+    push_place(text, place)?;
     text.push(b' ')?;
     Ok(())
 }
@@ -158,7 +144,6 @@ pub(crate) struct Line<'l> {
 
 /// Adds a line with these cells, in the cycle at which the trace stands.
 pub(crate) fn push_line<T: Trace>(
-    alloc: Global,
     text: &mut Vec<u8>,
     trace: &T,
     line: &Line,
@@ -167,12 +152,13 @@ pub(crate) fn push_line<T: Trace>(
     requires placed { IsSome (T.cursor trace.now) }
     requires long { length line.now.slot.now.names ≡ length cells.now }
     requires stand { All (CellStands (T.samples trace.now).nodes) cells.now }
-    ensures { OnOk result (text.new.items ≡ text.old.items ++ line_text line.now.cycle line.now.slot.now line.now.path.now (samples_at (T.samples trace.now) (T.cursor trace.now)) cells.now) }
+    ensures { OnOk result (text.new.items ≡ text.old.items ++ line_text line.now.cycle line.now.slot.now line.now.path.now
+        (samples_at (T.samples trace.now) (T.cursor trace.now)) cells.now) }
 {
-    push_head(alloc, text, line.cycle, line.slot.line)?;
+    push_head(text, line.cycle, line.slot.line)?;
     text.extend_from_slice(line.path.bytes())?;
-    push_variables(alloc, text, line.slot.gens.items())?;
-    push_cells(alloc, text, trace, line.slot.names.items(), cells)?;
+    push_variables(text, line.slot.gens.items())?;
+    push_cells(text, trace, line.slot.names.items(), cells)?;
     text.push(b'\n')?;
     Ok(())
 }

@@ -39,21 +39,18 @@ fn is_one(sample: Sample) -> bool
 }
 
 /// Adds the line of a row, where its enable is 1.
-fn push_row<T: Trace>(
-    alloc: Global,
-    text: &mut Vec<u8>,
-    trace: &T,
-    line: &Line,
-    row: &Row,
-) -> Result<(), NoMemory>
+fn push_row<T: Trace>(text: &mut Vec<u8>, trace: &T, line: &Line, row: &Row) -> Result<(), NoMemory>
     requires placed { IsSome (T.cursor trace.now) }
     requires stands { RowStands (T.samples trace.now).nodes line.now.slot.now.names row.now }
-    ensures { OnOk result (text.new.items ≡ text.old.items ++ (if is_on (samples_at (T.samples trace.now) (T.cursor trace.now)) (Some row.now.on) then line_text line.now.cycle line.now.slot.now line.now.path.now (samples_at (T.samples trace.now) (T.cursor trace.now)) row.now.cells else [])) }
+    ensures { OnOk result (text.new.items ≡ text.old.items ++
+        (if is_on (samples_at (T.samples trace.now) (T.cursor trace.now))
+        (Some row.now.on) then line_text line.now.cycle line.now.slot.now line.now.path.now
+        (samples_at (T.samples trace.now) (T.cursor trace.now)) row.now.cells else [])) }
 {
     if !is_one(sample_of(trace, row.on)) {
         return Ok(());
     }
-    push_line(alloc, text, trace, line, &row.cells)?;
+    push_line(text, trace, line, &row.cells)?;
     Ok(())
 }
 
@@ -67,7 +64,6 @@ fn path_of(parts: &TableParts, instance: u32) -> &Text
 
 /// Adds the lines of a slot's rows, which stand for these instances.
 fn push_rows<T: Trace>(
-    alloc: Global,
     text: &mut Vec<u8>,
     trace: &T,
     cycle: u64,
@@ -78,18 +74,18 @@ fn push_rows<T: Trace>(
     requires placed { IsSome (T.cursor trace.now) }
     requires within { All (λ instance. instance < length parts.now.instances) instances.now }
     requires stands { SlotStands (T.samples trace.now).nodes (length instances.now) slot.now }
-    ensures { OnOk result (text.new.items ≡ text.old.items ++ rows_text cycle (samples_at (T.samples trace.now) (T.cursor trace.now)) parts.now slot.now instances.now slot.now.rows) }
+    ensures { OnOk result (text.new.items ≡ text.old.items ++ rows_text cycle
+        (samples_at (T.samples trace.now) (T.cursor trace.now)) parts.now slot.now instances.now slot.now.rows) }
 {
     for (place, row) in slot.rows.items().iter().enumerate() {
         let path = path_of(parts, instances[place]);
-        push_row(alloc, text, trace, &Line { cycle, slot, path }, row)?;
+        push_row(text, trace, &Line { cycle, slot, path }, row)?;
     }
     Ok(())
 }
 
 /// Writes the lines of a slot, in the cycle at which the trace stands.
 fn write_slot<T: Trace, S: Sink>(
-    alloc: Global,
     text: &mut Vec<u8>,
     trace: &T,
     cycle: u64,
@@ -102,21 +98,22 @@ fn write_slot<T: Trace, S: Sink>(
     requires table { IsTable rows.now.table.now }
     requires slot { k < length rows.now.table.now.slots }
     requires nodes { length rows.now.table.now.nodes ≤ (T.samples trace.now).nodes }
-    ensures ok { OnOk result (Passes (S.taken out.old) (S.taken out.new) text.old.items text.new.items (slot_text cycle (samples_at (T.samples trace.now) (T.cursor trace.now)) rows.now.table.now k)) }
-    ensures front { OnErr result (AppendsFront (S.taken out.old) (S.taken out.new) (text.old.items ++ slot_text cycle (samples_at (T.samples trace.now) (T.cursor trace.now)) rows.now.table.now k)) }
+    ensures ok { OnOk result (Passes (S.taken out.old) (S.taken out.new) text.old.items text.new.items
+        (slot_text cycle (samples_at (T.samples trace.now) (T.cursor trace.now)) rows.now.table.now k)) }
+    ensures front { OnErr result (AppendsFront (S.taken out.old) (S.taken out.new)
+        (text.old.items ++ slot_text cycle (samples_at (T.samples trace.now) (T.cursor trace.now)) rows.now.table.now k)) }
     ensures failed { IsErrOf result SinkEnd.Failed → Rose (S.fault_count out.old) (S.fault_count out.new) }
     ensures later { S.fault_count out.old ≤ S.fault_count out.new }
 {
     let slot = rows.table.slot(k);
     let instances = rows.table.instances_of(k);
-    push_rows(alloc, text, trace, cycle, rows.parts, slot, instances)?;
+    push_rows(text, trace, cycle, rows.parts, slot, instances)?;
     put_long(text, out)?;
     Ok(())
 }
 
 /// Writes the lines of all slots, in the cycle at which the trace stands.
 fn write_cycle<T: Trace, S: Sink>(
-    alloc: Global,
     text: &mut Vec<u8>,
     trace: &T,
     cycle: u64,
@@ -127,20 +124,23 @@ fn write_cycle<T: Trace, S: Sink>(
     requires parts { rows.now.parts.now ≡ rows.now.table.now }
     requires table { IsTable rows.now.table.now }
     requires nodes { length rows.now.table.now.nodes ≤ (T.samples trace.now).nodes }
-    ensures ok { OnOk result (Passes (S.taken out.old) (S.taken out.new) text.old.items text.new.items (flat_map (slot_text cycle (samples_at (T.samples trace.now) (T.cursor trace.now)) rows.now.table.now) (from 0 (length rows.now.table.now.slots)))) }
-    ensures front { OnErr result (AppendsFront (S.taken out.old) (S.taken out.new) (text.old.items ++ flat_map (slot_text cycle (samples_at (T.samples trace.now) (T.cursor trace.now)) rows.now.table.now) (from 0 (length rows.now.table.now.slots)))) }
+    ensures ok { OnOk result (Passes (S.taken out.old) (S.taken out.new) text.old.items text.new.items
+        (flat_map (slot_text cycle (samples_at (T.samples trace.now) (T.cursor trace.now)) rows.now.table.now)
+        (from 0 (length rows.now.table.now.slots)))) }
+    ensures front { OnErr result (AppendsFront (S.taken out.old) (S.taken out.new)
+        (text.old.items ++ flat_map (slot_text cycle (samples_at (T.samples trace.now) (T.cursor trace.now)) rows.now.table.now)
+        (from 0 (length rows.now.table.now.slots)))) }
     ensures failed { IsErrOf result SinkEnd.Failed → Rose (S.fault_count out.old) (S.fault_count out.new) }
     ensures later { S.fault_count out.old ≤ S.fault_count out.new }
 {
     for k in 0..rows.table.slots() {
-        write_slot(alloc, text, trace, cycle, rows, k, out)?;
+        write_slot(text, trace, cycle, rows, k, out)?;
     }
     Ok(())
 }
 
 /// Writes the lines of all slots, cycle after cycle.
 fn write_cycles<T: Trace, S: Sink>(
-    alloc: Global,
     text: &mut Vec<u8>,
     trace: &mut T,
     rows: &Rows,
@@ -156,7 +156,7 @@ fn write_cycles<T: Trace, S: Sink>(
 {
     for cycle in 0..trace.cycles() {
         trace.seek(cycle);
-        write_cycle(alloc, text, trace, cycle, rows, out)?;
+        write_cycle(text, trace, cycle, rows, out)?;
     }
     Ok(())
 }
@@ -180,7 +180,7 @@ pub fn write_trail<T: Trace, S: Sink>(
         table,
         parts: table.parts(),
     };
-    write_cycles(alloc, &mut text, trace, &rows, out)?;
+    write_cycles(&mut text, trace, &rows, out)?;
     out.put(&text)?;
     Ok(())
 }

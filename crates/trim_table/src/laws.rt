@@ -1,3 +1,5 @@
+//! What holds of the tables of compiled designs by their definitions alone, and one worked by hand.
+
 ghost use Rattle.trim_table.specs.Laws.{TrimmedAreTables};
 ghost use Rattle.trim_table.specs.KeptTables.{CompiledTablesAreKept};
 ghost use Rattle.trim_table.specs.Sample.{sample_is_told};

@@ -1,3 +1,5 @@
+//! The changes of a dump file: what each word among them is, read once from left to right.
+
 ghost use Rattle.std.specs.Prelude.{◌≡◌, ◌≤◌, ◌<◌, ◌+◌, ◌∷◌, [], length, OnOk};
 ghost use Rattle.std.specs.List.{list_all};
 ghost use Rattle.vcd_read.specs.Changes.{no_story, is_value, are_digits, is_vector, is_passed, is_dump};
@@ -121,7 +123,8 @@ pub(crate) fn read_changes(
     words: &mut Words<'_>,
     bytes: usize,
 ) -> Result<Changes, VcdFault>
-    ensures { Leads (λ changes. ended InChanges (record { head = head.now; story = changes })) result (told_by InChanges (record { head = head.now; story = no_story }) words.old) }
+    ensures { Leads (λ changes. ended InChanges (record { head = head.now; story = changes })) result
+        (told_by InChanges (record { head = head.now; story = no_story }) words.old) }
 {
     let mut changes = Changes::new(alloc, bytes)?;
     while let Some(word) = words.next_word() {

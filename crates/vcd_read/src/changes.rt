@@ -1,3 +1,5 @@
+//! The changes of a dump file, in columns. A change is 12 bytes and its digits, and its time is kept once for all changes of a time.
+
 ghost use Rattle.std.specs.Prelude.{◌≡◌, ◌<◌, ◌++◌, ◌∷◌, [], length, ◌≤◌, slice_get, slice_range, Some, OnOk, IfOk};
 ghost use Rattle.std.specs.Option.{option_map};
 ghost use Rattle.vcd_read.specs.Changes.{no_story, timed, changed};
@@ -88,7 +90,10 @@ impl Changes {
 
     /// Puts a change of a code last, at the time now.
     fn push(&mut self, code: u32, digits: &[u8]) -> Result<(), NoMemory>
-        ensures { OnOk result (self.new ≡ record self.old { changes = self.old.changes ++ record { time = self.old.time; code = code; digits = digits.now } ∷ [] }) }
+        ensures { OnOk result (self.new ≡ record self.old {
+          changes = self.old.changes ++ record
+              { time = self.old.time; code = code; digits = digits.now } ∷ [];
+        }) }
     {
         let before = self.digits.len();
         let step = place_of(self.times.len() - 1)?;

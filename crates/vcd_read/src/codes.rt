@@ -1,3 +1,5 @@
+//! The codes of a dump file, found by a hash of their bytes. A code belongs to as many variables as share it, so its size is kept with it.
+
 ghost use Rattle.std.specs.Prelude.{◌≡◌, ◌≢◌, ◌<◌, ◌++◌, ◌∷◌, ℕ, List, [], length, get_or, slice_get, Some, None, IfOk, IfSome, IfNone};
 ghost use Rattle.std.specs.List.{list_all};
 ghost use Rattle.vcd_read.specs.Buckets.{hash_of, bucket_of, sizes_of, IsSought};
@@ -86,7 +88,8 @@ fn row_at(rows: &[CodeRow], i: usize) -> CodeRow
 /// Finds a code from the last of its bucket on: its number and its size.
 fn find_from(texts: &Texts, rows: &[CodeRow], last: u32, code: &[u8]) -> Option<(u32, u32)>
     requires { IsSought texts.now rows.now code.now last }
-    ensures found { IfSome result (λ found. (found.0 < length texts.now) × (get_or texts.now found.0 [] ≡ code.now) × (found.1 ≡ get_or (sizes_of rows.now) found.0 0)) }
+    ensures found { IfSome result (λ found. (found.0 < length texts.now) × (get_or texts.now found.0 [] ≡ code.now)
+        × (found.1 ≡ get_or (sizes_of rows.now) found.0 0)) }
     ensures none { IfNone result ((n : ℕ) → n < length texts.now → get_or texts.now n [] ≢ code.now) }
 {
     let mut last = last;

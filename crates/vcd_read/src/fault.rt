@@ -1,3 +1,5 @@
+//! Why a dump file is refused: the first fault in the text, and where.
+
 ghost use Rattle.std.specs.Prelude.{◌≡◌};
 ghost use Rattle.vcd_read.specs.declared.fault.VcdFault.TheVariants.{NoMemory};
 

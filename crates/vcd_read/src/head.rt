@@ -1,3 +1,5 @@
+//! The head of a dump file: scopes and variables, command by command. What it does not know it passes over, as the standard lets a reader do.
+
 ghost use Rattle.std.specs.Prelude.{◌≡◌, ◌≤◌, ◌<◌, ◌-◌, ◌==◌, length, slice_get, unwrap_or, OnOk, IfOk, not};
 ghost use Rattle.vcd_read.specs.Commands.{size_at, code_at, opened_at, closed_at, variable_at, command_at};
 ghost use Rattle.vcd_read.specs.Head.{no_head, with_scope, without_scope, is_counted, without_backslash, name_of, with_var};
@@ -38,7 +40,13 @@ impl Model for Head {
 
     ghost Value = { Told };
 
-    ghost view = { λ h. record { nest = map (path_at (paths_of h.scopes)) h.nest.items; scopes = paths_of h.scopes; vars = map (placed (paths_of h.scopes)) h.vars; codes = h.codes } };
+    ghost view = { λ h. record {
+      nest = map (path_at (paths_of h.scopes)) h.nest.items;
+      scopes = paths_of h.scopes;
+      vars = map
+          (placed (paths_of h.scopes)) h.vars;
+      codes = h.codes;
+    } };
 
     ghost invariant = { λ h. IsHead h.scopes h.nest.items h.vars };
 }
@@ -231,7 +239,8 @@ pub(crate) fn read_head(
     words: &mut Words<'_>,
     bytes: usize,
 ) -> Result<Head, VcdFault>
-    ensures { Leads (λ head. told_by InChanges (record { head = head; story = no_story }) words.new) result (told_by InHead (record { head = no_head; story = no_story }) words.old) }
+    ensures { Leads (λ head. told_by InChanges (record { head = head; story = no_story }) words.new) result
+        (told_by InHead (record { head = no_head; story = no_story }) words.old) }
 {
     let mut head = Head::new(alloc, bytes)?;
     while let Some(word) = words.next_word() {

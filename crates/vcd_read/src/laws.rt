@@ -1,3 +1,5 @@
+//! What the definition of a dump file's meaning says of texts worked by hand.
+
 ghost use Rattle.std.specs.Prelude.{◌≡◌, Ok};
 ghost use Rattle.vcd_read.specs.Examples.{HasFaults, text, told};
 ghost use Rattle.vcd_read.specs.Meaning.{meaning};

@@ -1,3 +1,5 @@
+//! The numbers of a dump file: sizes and times, in decimal digits with a bound.
+
 ghost use Rattle.std.specs.Prelude.{◌≡◌, Some, None, if◌then◌else◌};
 ghost use Rattle.std.specs.List.{list_all};
 ghost use Rattle.text_core.specs.Digits.{is_digit_of, number_of};

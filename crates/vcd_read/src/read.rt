@@ -1,3 +1,5 @@
+//! Reading a dump file: one pass with room for all that the text can tell, so that the pass itself takes no memory.
+
 ghost use Rattle.std.specs.Prelude.{◌≡◌, IfOk};
 ghost use Rattle.vcd_read.specs.Kept.{IsVcd};
 ghost use Rattle.vcd_read.specs.Meaning.{meaning};

@@ -1,3 +1,5 @@
+//! A scope of a dump file, as its readers see it.
+
 /// A scope that a value change dump file opens.
 #[derive(Clone, Copy)]
 pub struct VcdScope<'a> {

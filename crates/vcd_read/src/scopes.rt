@@ -1,3 +1,5 @@
+//! The scopes of a dump file. Their paths are not kept: a path is compared from the outermost name on, by what each scope adds.
+
 ghost use Rattle.std.specs.Prelude.{◌≡◌, ◌≤◌, ◌<◌, ◌+◌, ◌^◌, ◌++◌, ◌∷◌, ◌↔◌, ◌==◌, ◌&&◌, ℕ, List, [], Some, length, slice_get, map, take, bytes_eq, Contains, IsTrue, IfOk, OnOk, OnErr};
 ghost use Rattle.std.specs.Bool.{OnTrue, OnFalse};
 ghost use Rattle.vcd_read.specs.Head.{path_in};

@@ -1,3 +1,5 @@
+//! Many short texts in one buffer. A dump file has as many names and digits as lines, and a growth for each would cost more than reading it.
+
 ghost use Rattle.std.specs.Prelude.{◌≡◌, ◌≤◌, ◌<◌, ◌++◌, ◌∷◌, [], length, slice_get, slice_range, Some, get_or, IfOk, OnOk, OnErr};
 
 use std::alloc::Global;

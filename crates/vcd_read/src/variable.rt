@@ -1,3 +1,5 @@
+//! A variable of a dump file, as its readers see it.
+
 /// A variable that a value change dump file declares.
 #[derive(Clone, Copy)]
 pub struct VcdVar<'a> {

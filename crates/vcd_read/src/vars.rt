@@ -1,3 +1,5 @@
+//! The variables of a dump file, in a column, with all room taken at once.
+
 ghost use Rattle.std.specs.Prelude.{◌≡◌, ◌<◌, ◌++◌, ◌∷◌, [], length, slice_get, Some, IfOk, OnOk, OnErr};
 ghost use Rattle.vcd_read.specs.Nesting.{numbered};
 

@@ -1,3 +1,5 @@
+//! A dump file that was read, in columns: scopes, variables, changes. It keeps what the reader judged, so that a trace over it needs no second look.
+
 ghost use Rattle.std.specs.Prelude.{◌≡◌, ◌≤◌, ◌<◌, ◌↔◌, IsTrue, All, IfOk, Contains, bytes_eq, get_or, false, length, map, slice_get, Some};
 ghost use Rattle.std.specs.Option.{option_map};
 ghost use Rattle.vcd_read.specs.Changes.{Story};
@@ -37,7 +39,8 @@ impl Model for Vcd {
 
     ghost view = { λ v. record { scopes = paths_of v.scopes; vars = map (placed (paths_of v.scopes)) v.vars; changes = v.changes.changes } };
 
-    ghost invariant = { λ v. ArePlaced (length v.scopes) v.vars × IsVcd (record { scopes = paths_of v.scopes; vars = map (placed (paths_of v.scopes)) v.vars; changes = v.changes.changes }) };
+    ghost invariant = { λ v. ArePlaced (length v.scopes) v.vars
+        × IsVcd (record { scopes = paths_of v.scopes; vars = map (placed (paths_of v.scopes)) v.vars; changes = v.changes.changes }) };
 }
 
 /// The places of the numbers of variables' scopes that are marked.

@@ -1,3 +1,5 @@
+//! A dump file as words between blanks. Every fault has a word's offset, so words know where they stand.
+
 ghost use Rattle.std.specs.Prelude.{◌≡◌, ◌∷◌, ◌≤◌, ◌<◌, [], length, MatchOption, IfOk, IfSome};
 ghost use Rattle.std.specs.List.{prefix_len, position_or_len};
 ghost use Rattle.vcd_read.specs.declared.fault.VcdFault.TheVariants.{BadWord};

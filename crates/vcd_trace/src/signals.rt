@@ -36,7 +36,8 @@ fn put_first(
 /// Puts the variable of a place in, if its values are bits, and unless there is one of its name.
 fn put_var(map: &mut NameMap<Found>, alloc: Global, vcd: &Vcd, place: u64) -> Result<(), NoMemory>
     requires { place < length vcd.now.vars }
-    ensures { OnOk result ((x : List ℕ) (var : Var) → slice_get vcd.now.vars place ≡ Some var → value_of map.new x ≡ option_or (value_of map.old x) (found_if x var)) }
+    ensures { OnOk result ((x : List ℕ) (var : Var) → slice_get vcd.now.vars place ≡ Some var
+        → value_of map.new x ≡ option_or (value_of map.old x) (found_if x var)) }
 {
     let var = vcd.var(place);
     if var.counted {

@@ -1,5 +1,6 @@
 mod Numbers
 mod Pieces
+mod Binary
 mod Samples
 mod Fitting
 mod Naming

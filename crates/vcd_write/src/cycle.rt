@@ -70,7 +70,7 @@ fn values_here(
     requires nodes { AreNodes (length trace.now.net.nodes) nodes.now }
     ensures { IfOk result (λ values. values.items ≡ map (value_in trace.now.net trace.now.stim cycle) nodes.now) }
 {
-    let mut values = Vec::new(alloc);
+    let mut values = Vec::with_capacity(alloc, nodes.len())?;
     for node in nodes {
         values.push(known(trace.value(NodeId(*node))))?;
     }

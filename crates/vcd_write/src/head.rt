@@ -67,7 +67,8 @@ fn push_variable(
     name: &[u8],
 ) -> Result<(), NoMemory>
     requires { 1 ≤ size }
-    ensures { OnOk result (text.new.items ≡ text.old.items ++ line_text (variable_words number (record { register = register; size = size; name = name.now }))) }
+    ensures { OnOk result (text.new.items ≡ text.old.items ++ line_text
+        (variable_words number (record { register = register; size = size; name = name.now }))) }
 {
     push_kind(text, register)?;
     push_size(alloc, text, number, size)?;
@@ -86,7 +87,8 @@ fn push_numbered(
 ) -> Result<(), NoMemory>
     requires number { number + 1 < 2 ^ 64 }
     requires size { 1 ≤ size }
-    ensures { OnOk result (text.new.items ≡ text.old.items ++ line_text (variable_words (number + 1) (record { register = register; size = size; name = codes "_" ++ decimal number }))) }
+    ensures { OnOk result (text.new.items ≡ text.old.items ++ line_text
+        (variable_words (number + 1) (record { register = register; size = size; name = codes "_" ++ decimal number }))) }
 {
     let name = format!(in alloc; "_{number}")?;
     push_variable(alloc, text, number + 1, register, size, name.as_bytes())

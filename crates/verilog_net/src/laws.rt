@@ -1,3 +1,5 @@
+//! What the printed Verilog of a compiled design means, joined from net to source: the laws of the whole way.
+
 ghost use Rattle.verilog_net.specs.Printing.{CompiledAreKept, DesignsMeanTheirNets};
 ghost use Rattle.verilog_net.specs.Cycles.{ModulesComputeSources};
 ghost use Rattle.verilog_net.specs.Sample.{design_is_printed};

@@ -32,7 +32,8 @@ pub fn write_verilog<S: Sink>(
     requires order { TellsOrder (design_of design.now) order.now }
     requires ports { HasPorts (design_of design.now) ports.now }
     ensures ok { OnOk result (Appends (S.taken out.old) (S.taken out.new) (printed (kept_net (design_of design.now) (length order.now) mode) ports.now)) }
-    ensures front { OnErr result (AppendsFront (S.taken out.old) (S.taken out.new) (printed (kept_net (design_of design.now) (length order.now) mode) ports.now)) }
+    ensures front { OnErr result (AppendsFront (S.taken out.old) (S.taken out.new)
+        (printed (kept_net (design_of design.now) (length order.now) mode) ports.now)) }
     ensures failed { IsErrOf result SinkEnd.Failed → Rose (S.fault_count out.old) (S.fault_count out.new) }
     ensures later { S.fault_count out.old ≤ S.fault_count out.new }
 {

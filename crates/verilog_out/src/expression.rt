@@ -84,7 +84,8 @@ fn push_widened(
     to: u8,
 ) -> Result<(), NoMemory>
     requires { a.0 < length net.now.nodes }
-    ensures { OnOk result (text.new.items ≡ text.old.items ++ expression_text (one_printed (Op1.Zext to) (width_at net.now.nodes a.0) (identifier_at net.now.nodes a.0))) }
+    ensures { OnOk result (text.new.items ≡ text.old.items ++ expression_text
+        (one_printed (Op1.Zext to) (width_at net.now.nodes a.0) (identifier_at net.now.nodes a.0))) }
 {
     let width = net.width(a);
     if width < to {
@@ -126,7 +127,8 @@ fn push_between(
 ) -> Result<(), NoMemory>
     requires left { a.0 < length net.now.nodes }
     requires right { b.0 < length net.now.nodes }
-    ensures { OnOk result (text.new.items ≡ text.old.items ++ (identifier_text (identifier_at net.now.nodes a.0) ++ (sign.now ++ identifier_text (identifier_at net.now.nodes b.0)))) }
+    ensures { OnOk result (text.new.items ≡ text.old.items ++
+        (identifier_text (identifier_at net.now.nodes a.0) ++ (sign.now ++ identifier_text (identifier_at net.now.nodes b.0)))) }
 {
     push_name(alloc, text, net, a)?;
     text.extend_from_slice(sign.as_bytes())?;
@@ -162,7 +164,8 @@ fn push_two(
 ) -> Result<(), NoMemory>
     requires left { a.0 < length net.now.nodes }
     requires right { b.0 < length net.now.nodes }
-    ensures { OnOk result (text.new.items ≡ text.old.items ++ expression_text (two_printed op (identifier_at net.now.nodes a.0) (identifier_at net.now.nodes b.0))) }
+    ensures { OnOk result (text.new.items ≡ text.old.items ++ expression_text
+        (two_printed op (identifier_at net.now.nodes a.0) (identifier_at net.now.nodes b.0))) }
 {
     match op {
         Op2::Add => push_between(alloc, text, net, a, " + ", b),
@@ -193,7 +196,8 @@ fn push_choice(
     requires condition { c.0 < length net.now.nodes }
     requires first { a.0 < length net.now.nodes }
     requires second { b.0 < length net.now.nodes }
-    ensures { OnOk result (text.new.items ≡ text.old.items ++ expression_text (Choose (identifier_at net.now.nodes c.0) (identifier_at net.now.nodes a.0) (identifier_at net.now.nodes b.0))) }
+    ensures { OnOk result (text.new.items ≡ text.old.items ++ expression_text
+        (Choose (identifier_at net.now.nodes c.0) (identifier_at net.now.nodes a.0) (identifier_at net.now.nodes b.0))) }
 {
     push_name(alloc, text, net, c)?;
     text.extend_from_slice(b" ? ")?;

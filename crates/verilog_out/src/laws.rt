@@ -1,3 +1,5 @@
+//! What printed Verilog means: the laws that read a module back and join it to its net.
+
 ghost use Rattle.verilog_out.specs.ReadBack.{PrintedMeansNet};
 ghost use Rattle.verilog_out.specs.Reading.{TextsTellModules};
 ghost use Rattle.verilog_out.specs.Sample.{sample_is_printed, operators_are_printed, words_are_printed, alone_is_printed};

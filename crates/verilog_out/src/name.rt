@@ -1,3 +1,5 @@
+//! The names of printed Verilog. A source's name is escaped, so that no word of Verilog and no number's name can meet it.
+
 ghost use Rattle.std.specs.Prelude.{◌≡◌, ◌<◌, ◌++◌, OnOk, length};
 ghost use Rattle.net_core.specs.Nodes.{shape_of};
 ghost use Rattle.verilog_out.specs.Spelling.{escaped, numbered, identifier_text};

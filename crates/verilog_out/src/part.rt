@@ -1,3 +1,5 @@
+//! In which order the parts of a module are printed. Each node has three turns, so declarations stand before their uses.
+
 /// What stands in a module for its nodes, in this order. The outputs stand before the steps.
 #[derive(Clone, Copy, PartialEq, Eq)]
 pub(crate) enum Part {

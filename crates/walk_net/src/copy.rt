@@ -1,3 +1,5 @@
+//! Copies of nodes in a new net. A copy is folded and shared again, and may come to be a node that is there.
+
 ghost use Rattle.std.specs.Prelude.{◌≡◌, ◌<◌, length, IfOk, OnOk, slice_set, Some};
 ghost use Rattle.bv_core.specs.Operators.{Fits1, Fits2, FitsMux};
 ghost use Rattle.tree_core.specs.Tree.{One, Two, Mux};
@@ -51,8 +53,10 @@ fn copied_two(
     requires left { HasCopy builder.old ids.now a.0 }
     requires right { HasCopy builder.old ids.now b.0 }
     requires widths { Fits2 op (width_at builder.old (number (id_at ids.now a.0))) (width_at builder.old (number (id_at ids.now b.0))) }
-    ensures stands { IfOk result (λ id. Stands builder.new id.0 (folded (Two op (tree_of builder.old (number (id_at ids.now a.0))) (tree_of builder.old (number (id_at ids.now b.0)))))) }
-    ensures adds { OnOk result (Adds builder.old builder.new (folded (Two op (tree_of builder.old (number (id_at ids.now a.0))) (tree_of builder.old (number (id_at ids.now b.0)))))) }
+    ensures stands { IfOk result (λ id. Stands builder.new id.0
+        (folded (Two op (tree_of builder.old (number (id_at ids.now a.0))) (tree_of builder.old (number (id_at ids.now b.0)))))) }
+    ensures adds { OnOk result (Adds builder.old builder.new (folded
+        (Two op (tree_of builder.old (number (id_at ids.now a.0))) (tree_of builder.old (number (id_at ids.now b.0)))))) }
     ensures keeps { OnOk result (Keeps builder.old builder.new) }
     ensures shared { OnOk result (AreShared builder.new) }
 {
@@ -72,9 +76,14 @@ fn copied_choice(
     requires condition { HasCopy builder.old ids.now c.0 }
     requires first { HasCopy builder.old ids.now a.0 }
     requires second { HasCopy builder.old ids.now b.0 }
-    requires widths { FitsMux (width_at builder.old (number (id_at ids.now c.0))) (width_at builder.old (number (id_at ids.now a.0))) (width_at builder.old (number (id_at ids.now b.0))) }
-    ensures stands { IfOk result (λ id. Stands builder.new id.0 (folded (Mux (tree_of builder.old (number (id_at ids.now c.0))) (tree_of builder.old (number (id_at ids.now a.0))) (tree_of builder.old (number (id_at ids.now b.0)))))) }
-    ensures adds { OnOk result (Adds builder.old builder.new (folded (Mux (tree_of builder.old (number (id_at ids.now c.0))) (tree_of builder.old (number (id_at ids.now a.0))) (tree_of builder.old (number (id_at ids.now b.0)))))) }
+    requires widths { FitsMux (width_at builder.old (number (id_at ids.now c.0))) (width_at builder.old (number (id_at ids.now a.0)))
+        (width_at builder.old (number (id_at ids.now b.0))) }
+    ensures stands { IfOk result (λ id. Stands builder.new id.0
+        (folded (Mux (tree_of builder.old (number (id_at ids.now c.0))) (tree_of builder.old (number (id_at ids.now a.0)))
+        (tree_of builder.old (number (id_at ids.now b.0)))))) }
+    ensures adds { OnOk result (Adds builder.old builder.new (folded
+        (Mux (tree_of builder.old (number (id_at ids.now c.0))) (tree_of builder.old (number (id_at ids.now a.0)))
+        (tree_of builder.old (number (id_at ids.now b.0)))))) }
     ensures keeps { OnOk result (Keeps builder.old builder.new) }
     ensures shared { OnOk result (AreShared builder.new) }
 {

@@ -1,3 +1,5 @@
+//! The outputs and next values of a net over the ids of its copy. What was not kept has no id and goes.
+
 ghost use Rattle.std.specs.Prelude.{◌≡◌, ◌++◌, IfOk, OnOk};
 ghost use Rattle.net_core.specs.Nets.{outputs_of as net_outputs, nexts_of as net_nexts};
 ghost use Rattle.walk_net.specs.Renaming.{id_at};

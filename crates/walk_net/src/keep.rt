@@ -76,7 +76,8 @@ fn walked_ids(
 pub fn keep_nodes(alloc: Global, net: &Net, roots: &[NodeId]) -> Result<Walked, NoMemory>
     requires roots { EachOf (IsNode net.now.nodes) roots.now }
     requires outputs { EachOf (IsRoot net.now.nodes (trees_by net.now.nodes roots.now)) net.now.outputs }
-    ensures nodes { IfOk result (λ walked. trees_of walked.net.nodes ≡ numbered (trees_by net.now.nodes roots.now) (next_whole net.now) (length net.now.nexts)) }
+    ensures nodes { IfOk result (λ walked. trees_of walked.net.nodes
+        ≡ numbered (trees_by net.now.nodes roots.now) (next_whole net.now) (length net.now.nexts)) }
     ensures rounds { IfOk result (λ walked. AreNumbers (trees_by net.now.nodes roots.now) (next_whole net.now) (trees_of walked.net.nodes)) }
     ensures kept { IfOk result (λ walked. NumberedAreKept (trees_by net.now.nodes roots.now) (next_whole net.now) (trees_of walked.net.nodes)) }
     ensures ids { IfOk result (λ walked. AreIds (trees_by net.now.nodes roots.now) (next_whole net.now) net.now.nodes walked.net.nodes walked.ids) }

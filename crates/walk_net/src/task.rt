@@ -1,3 +1,5 @@
+//! What a walk over a net has still to do. Nets are as deep as a source is long, so the walk keeps a list of tasks and does not recur.
+
 ghost use Rattle.std.specs.Prelude.{◌≡◌, ◌<◌, ◌++◌, length, OnOk, None, slice_index_or};
 ghost use Rattle.net_core.specs.Nodes.{shape_of, shape_at};
 ghost use Rattle.walk_net.specs.Tasks.{operand_tasks, entered};

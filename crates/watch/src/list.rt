@@ -68,7 +68,8 @@ pub fn prepare_watch(
     path: &str,
     text: &[u8],
 ) -> Result<Unwatched, WatchFault>
-    ensures told { (read : Reader) (s : Samples) (armed next : ℕ) → IsReader read → IsFor armed next result (watch_on read (seen (trace_world table.now s)) armed next line path.now text.now) }
+    ensures told { (read : Reader) (s : Samples) (armed next : ℕ) → IsReader read
+        → IsFor armed next result (watch_on read (seen (trace_world table.now s)) armed next line path.now text.now) }
     ensures armable { IfOk result (IsArmable table.now) }
 {
     let found = sited_on(alloc, table, line, Some(path), Some(text), false)?;
@@ -150,7 +151,9 @@ impl WatchList {
         instance: &str,
         expr: &[u8],
     ) -> Result<u64, WatchFault>
-        ensures armed { (read : Reader) (s : Samples) → IsReader read → Arms result (watch_on read (seen (trace_world table.now s)) (length (watches self.old)) (next_watch self.old) line instance.now expr.now) (watches self.old) (watches self.new) }
+        ensures armed { (read : Reader) (s : Samples) → IsReader read
+            → Arms result (watch_on read (seen (trace_world table.now s)) (length (watches self.old))
+            (next_watch self.old) line instance.now expr.now) (watches self.old) (watches self.new) }
         ensures next { OnOk result (next_watch self.new ≡ next_watch self.old + 1) }
         ensures kept { OnErr result (watches self.new ≡ watches self.old) }
         ensures same { OnErr result (next_watch self.new ≡ next_watch self.old) }

@@ -164,7 +164,8 @@ impl WatchList {
         requires slot { slot < length table.now.slots }
         requires there { i < length (watches_at (seen (trace_world table.now (T.samples trace.old))) cycle slot (watches self.now)) }
         ensures kept { T.samples trace.new ≡ T.samples trace.old }
-        ensures value { slice_get (map (λ watch. watch.number) (watches_at (seen (trace_world table.now (T.samples trace.old))) cycle slot (watches self.now))) i ≡ Some result }
+        ensures value { slice_get (map (λ watch. watch.number)
+            (watches_at (seen (trace_world table.now (T.samples trace.old))) cycle slot (watches self.now))) i ≡ Some result }
     {
         let _parts = table.parts();
         let mut left = i;
@@ -200,7 +201,8 @@ impl WatchList {
         requires to { at <ℤ pos (total_of table.now (T.samples trace.old)) }
         requires there { i < length (matching_at (seen (trace_world table.now (T.samples trace.old))) (watches self.now) (place_of at - 1)) }
         ensures kept { T.samples trace.new ≡ T.samples trace.old }
-        ensures value { slice_get (map (λ watch. watch.number) (matching_at (seen (trace_world table.now (T.samples trace.old))) (watches self.now) (place_of at - 1))) i ≡ Some result }
+        ensures value { slice_get (map (λ watch. watch.number)
+            (matching_at (seen (trace_world table.now (T.samples trace.old))) (watches self.now) (place_of at - 1))) i ≡ Some result }
     {
         let (cycle, slot) = spot_of(table, place_of(at) - 1);
         self.nth_matching_at(table, trace, cycle, slot, i)

@@ -38,7 +38,8 @@ pub fn write_waves<S: Sink>(
     requires order { TellsOrder (design_of design.now) order.now }
     requires ports { HasPorts (design_of design.now) stim.ports }
     ensures ok { OnOk result (Appends (S.taken out.old) (S.taken out.new) (waves_text (kept_net (design_of design.now) (length order.now) mode) stim)) }
-    ensures front { OnErr result (AppendsFront (S.taken out.old) (S.taken out.new) (waves_text (kept_net (design_of design.now) (length order.now) mode) stim)) }
+    ensures front { OnErr result (AppendsFront (S.taken out.old) (S.taken out.new)
+        (waves_text (kept_net (design_of design.now) (length order.now) mode) stim)) }
     ensures compiled { OnOk result ((net : NetParts) × (parts : TableParts) × IsTrimmed (design_of design.now) (length order.now) mode net parts) }
     ensures failed { IsErrOf result SinkEnd.Failed → Rose (S.fault_count out.old) (S.fault_count out.new) }
     ensures later { S.fault_count out.old ≤ S.fault_count out.new }

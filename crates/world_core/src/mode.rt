@@ -1,3 +1,5 @@
+//! Which expressions optimisation keeps. It decides what is `removed`, and nothing else.
+
 /// Which expressions are kept for the debugger.
 #[derive(Clone, Copy, PartialEq, Eq)]
 pub enum Mode {

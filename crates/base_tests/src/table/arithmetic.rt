@@ -1,3 +1,5 @@
+//! Vectors for sums, differences and products.
+
 use crate::table::Two;
 use bv_core::Op2;
 

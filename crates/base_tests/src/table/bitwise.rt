@@ -1,3 +1,5 @@
+//! Vectors for the operators that go bit by bit.
+
 use crate::table::Two;
 use bv_core::Op2;
 

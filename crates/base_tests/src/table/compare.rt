@@ -1,3 +1,5 @@
+//! Vectors for comparisons.
+
 use crate::table::Two;
 use bv_core::Op2;
 

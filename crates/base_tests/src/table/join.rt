@@ -1,3 +1,5 @@
+//! Vectors for joining two values.
+
 use crate::table::Two;
 use bv_core::Op2;
 

@@ -1,3 +1,5 @@
+//! Vectors for slices and for filling with zeros.
+
 use crate::table::One;
 use bv_core::Op1;
 

@@ -1,3 +1,5 @@
+//! Vectors for the operators on one value that give a bit or the complement.
+
 use crate::table::One;
 use bv_core::Op1;
 

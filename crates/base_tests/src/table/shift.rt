@@ -1,3 +1,5 @@
+//! Vectors for shifts by a value.
+
 use crate::table::Two;
 use bv_core::Op2;
 
