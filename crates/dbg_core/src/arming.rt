@@ -5,6 +5,7 @@ ghost use Rattle.std.specs.Prelude.{◌≡◌, Some, IfOk, OnErr, length, map, o
 ghost use Rattle.trace_core.specs.Samples.{Samples};
 ghost use Rattle.machine_core.specs.Arming.{breakpoint_on, limit_refusal, watch_on, watch_limit, unless_refused};
 ghost use Rattle.machine_core.specs.Reading.{Reader, IsReader};
+ghost use Rattle.site_core.specs.Sites.{site_answer};
 ghost use Rattle.slot_sched.specs.Arm.{answer_for, as_breakpoint, IsArmable};
 ghost use Rattle.slot_sched.specs.Armed.{breakpoints, next_number, AreOf};
 ghost use Rattle.dbg_core.specs.World.{world_of};
@@ -13,26 +14,35 @@ ghost use Rattle.watch.specs.Watching as watching;
 ghost use Rattle.dbg_core.specs.Answering.{broken, watched};
 
 use machine_core::Body;
-use site_core::Sited;
+use site_core::{SiteFault, Sited};
 use slot_sched::{ArmFault, Schedule, prepare};
 use std::alloc::Global;
 use symtab::Table;
 use text_core::{Listed, NoMemory};
 use watch::{Unwatched, WatchFault, WatchList, prepare_watch};
 
+/// What is answered where nothing was found to wait for.
+fn unsited(fault: SiteFault) -> Result<Body, NoMemory>
+    ensures { IfOk result (λ body. site_answer fault ≡ Some body) }
+{
+    match fault {
+        SiteFault::NoSite { line } => Ok(Body::NoSite { line }),
+        SiteFault::NoInstance { instance } => Ok(Body::NoInstance { instance }),
+        SiteFault::BadCondAt { offset } => Ok(Body::BadCondAt { offset }),
+        SiteFault::BadCondName { name } => Ok(Body::BadCondName { name }),
+        SiteFault::CondRemoved { name, slot } => Ok(Body::CondRemoved { name, slot }),
+        SiteFault::CondUnset { name, slot } => Ok(Body::CondUnset { name, slot }),
+        SiteFault::NoMemory => Err(NoMemory),
+    }
+}
+
 /// What is answered where no breakpoint was armed.
 fn refusal(fault: ArmFault) -> Result<Body, NoMemory>
     ensures { IfOk result (λ body. answer_for fault ≡ Some body) }
 {
     match fault {
-        ArmFault::NoSite { line } => Ok(Body::NoSite { line }),
-        ArmFault::NoInstance { instance } => Ok(Body::NoInstance { instance }),
-        ArmFault::BadCondAt { offset } => Ok(Body::BadCondAt { offset }),
-        ArmFault::BadCondName { name } => Ok(Body::BadCondName { name }),
-        ArmFault::CondRemoved { name, slot } => Ok(Body::CondRemoved { name, slot }),
-        ArmFault::CondUnset { name, slot } => Ok(Body::CondUnset { name, slot }),
+        ArmFault::Site(fault) => unsited(fault),
         ArmFault::TooMany { limit } => Ok(Body::TooMany { limit }),
-        ArmFault::NoMemory => Err(NoMemory),
     }
 }
 
@@ -100,14 +110,8 @@ fn unwatched(fault: WatchFault) -> Result<Body, NoMemory>
     ensures { IfOk result (λ body. watch_arm.watch_answer fault ≡ Some body) }
 {
     match fault {
-        WatchFault::NoSite { line } => Ok(Body::NoSite { line }),
-        WatchFault::NoInstance { instance } => Ok(Body::NoInstance { instance }),
-        WatchFault::BadCondAt { offset } => Ok(Body::BadCondAt { offset }),
-        WatchFault::BadCondName { name } => Ok(Body::BadCondName { name }),
-        WatchFault::CondRemoved { name, slot } => Ok(Body::CondRemoved { name, slot }),
-        WatchFault::CondUnset { name, slot } => Ok(Body::CondUnset { name, slot }),
+        WatchFault::Site(fault) => unsited(fault),
         WatchFault::TooManyWatches { limit } => Ok(Body::TooManyWatches { limit }),
-        WatchFault::NoMemory => Err(NoMemory),
     }
 }
 

@@ -8,3 +8,4 @@ pub mod Ready
 pub mod Spanning
 pub mod Spots
 pub mod Tests
+pub mod Wanted

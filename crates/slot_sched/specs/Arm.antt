@@ -7,9 +7,7 @@ use Rattle.machine_core.specs.declared.reply.Body.TheVariants as body
 use Rattle.machine_core.specs.Arming.{limit_refusal, unless_refused}
 use Rattle.machine_core.specs.Matching.{Breakpoint}
 use Rattle.site_core.specs.declared.site.Sited.{Sited}
-use Rattle.site_core.specs.declared.fault.SiteFault.{SiteFault}
-use Rattle.site_core.specs.declared.fault.SiteFault.TheVariants as site
-use Rattle.site_core.specs.Sites.{IsRefusal, IsTold, IsPlaced}
+use Rattle.site_core.specs.Sites.{site_answer, IsRefusal, IsTold, IsPlaced}
 use Rattle.slot_sched.specs.declared.fault.ArmFault.{ArmFault}
 use Rattle.slot_sched.specs.declared.fault.ArmFault.TheVariants as fault
 
@@ -17,24 +15,8 @@ use Rattle.slot_sched.specs.declared.fault.ArmFault.TheVariants as fault
 
 -- the answer that a fault stands for; want of memory stands for none
 abbrev pub answer_for : ArmFault → Option Body
-answer_for (fault.NoSite line) = Some (body.NoSite line)
-answer_for (fault.NoInstance instance) = Some (body.NoInstance instance)
-answer_for (fault.BadCondAt offset) = Some (body.BadCondAt offset)
-answer_for (fault.BadCondName name) = Some (body.BadCondName name)
-answer_for (fault.CondRemoved name slot) = Some (body.CondRemoved name slot)
-answer_for (fault.CondUnset name slot) = Some (body.CondUnset name slot)
+answer_for (fault.Site found) = site_answer found
 answer_for (fault.TooMany limit) = Some (body.TooMany limit)
-answer_for fault.NoMemory = None
-
--- a fault of what was to be found, as one of arming
-abbrev pub arm_fault : SiteFault → ArmFault
-arm_fault (site.NoSite line) = fault.NoSite line
-arm_fault (site.NoInstance instance) = fault.NoInstance instance
-arm_fault (site.BadCondAt offset) = fault.BadCondAt offset
-arm_fault (site.BadCondName name) = fault.BadCondName name
-arm_fault (site.CondRemoved name slot) = fault.CondRemoved name slot
-arm_fault (site.CondUnset name slot) = fault.CondUnset name slot
-arm_fault site.NoMemory = fault.NoMemory
 
 -- nothing is refused; or this is, unless memory ran out
 abbrev pub TellsNone : {X : Type 0} → Result X ArmFault → Option Body → Type 0

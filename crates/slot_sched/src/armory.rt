@@ -1,4 +1,4 @@
-//! How breakpoints are armed and disarmed. Which of them may wait at a slot is brought up to date with each. One is armed in two steps:
+//! How breakpoints are armed and disarmed. Which of them may wait at a slot is brought up to date with each, where one waits. One is armed in two steps:
 //! what it waits for is prepared, and then put behind the others under the next number. So whoever tells of it takes the memory for
 //! that between the two, and nothing that is armed is ever taken back.
 
@@ -20,7 +20,7 @@ use crate::arm::prepare;
 use crate::armed::Armed;
 use crate::fault::ArmFault;
 use crate::schedule::Schedule;
-use crate::spans::{grown, rebuild, widen_last};
+use crate::spans::{grown, refill, vacate, widen_last};
 use site_core::Sited;
 use std::alloc::Global;
 use symtab::Table;
@@ -160,9 +160,12 @@ impl Schedule {
         ensures own { (parts : TableParts) → AreOf parts self.old → AreOf parts self.new }
         ensures order { AreInOrder self.old → AreInOrder self.new }
     {
-        let told = self.has(bp);
+        if !self.has(bp) {
+            return false;
+        }
+        vacate(&mut self.spans, &self.armed);
         self.armed.retain(|armed| armed.number != bp);
-        rebuild(&mut self.spans, &self.armed);
-        told
+        refill(&mut self.spans, &self.armed);
+        true
     }
 }

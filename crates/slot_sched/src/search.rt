@@ -1,7 +1,7 @@
 //! The search for the nearest position where a breakpoint, or a step, stops. It goes from slot to slot that has something to offer, so
 //! the positions between are not looked at, and the trace is not moved for them.
 
-ghost use Rattle.std.specs.Prelude.{◌≡◌, ◌<◌, ◌≤◌, ◌+◌, ◌-◌, ◌*◌, ◌/◌, ◌≤ℤ◌, not, true, false, ℕ, pos, negsuc, length, find, Some, IfSome};
+ghost use Rattle.std.specs.Prelude.{◌≡◌, ◌<◌, ◌≤◌, ◌+◌, ◌-◌, ◌*◌, ◌/◌, ◌≤ℤ◌, not, true, false, ℕ, pos, negsuc, length, find, None, Some, IfSome};
 ghost use Rattle.std.specs.List.{list_any};
 ghost use Rattle.list_core.specs.Lists.{from};
 ghost use Rattle.symtab.specs.declared.parts.TableParts.{TableParts};
@@ -24,7 +24,7 @@ use crate::schedule::Schedule;
 use crate::spans::span_at;
 use crate::spot::Spot;
 use machine_core::{Found, place_of, told};
-use site_core::{is_thread, is_wanted};
+use site_core::is_thread;
 use symtab::Table;
 use trace_core::{Scanned, Trace, Want, Way};
 
@@ -61,13 +61,37 @@ fn any_stops<T: Trace>(armed: &[Armed], table: &Table, trace: &T, slot: u32) -> 
     false
 }
 
+/// Whether an instance is of a slot's variant. Its variant is looked at, and none of the other instances.
+fn has_instance(table: &Table, slot: u32, instance: u32) -> bool
+    requires slot { slot < length table.now.slots }
+    ensures { result ≡ list_any (is_wanted (Some instance)) (instances_of table.now slot) }
+{
+    match table.parts().instances.items().get(instance as usize) {
+        Some(found) => found.variant == table.slot(slot).variant,
+        None => false,
+    }
+}
+
 /// Whether a slot has an instance; the named one, if one was named.
 fn any_wanted(table: &Table, slot: u32, named: Option<u32>) -> bool
     requires slot { slot < length table.now.slots }
     ensures { result ≡ list_any (is_wanted named) (instances_of table.now slot) }
 {
+    match named {
+        Some(instance) => has_instance(table, slot, instance),
+        None => !table.instances_of(slot).is_empty(),
+    }
+}
+
+/// Whether a slot has a thread.
+fn any_threads<T: Trace>(table: &Table, trace: &T, slot: u32) -> bool
+    requires fits { FitsTable table.now (T.samples trace.now) }
+    requires set { IsSet (T.samples trace.now) (T.cursor trace.now) }
+    requires slot { slot < length table.now.slots }
+    ensures { result ≡ any_steps table.now (cycle_samples (T.samples trace.now) (T.cursor trace.now)) slot None }
+{
     for instance in table.instances_of(slot) {
-        if is_wanted(named, *instance) {
+        if is_thread(table, trace, slot, *instance) {
             return true;
         }
     }
@@ -81,12 +105,12 @@ fn any_steps<T: Trace>(table: &Table, trace: &T, slot: u32, named: Option<u32>) 
     requires slot { slot < length table.now.slots }
     ensures { result ≡ any_steps table.now (cycle_samples (T.samples trace.now) (T.cursor trace.now)) slot named }
 {
-    for instance in table.instances_of(slot) {
-        if is_wanted(named, *instance) && is_thread(table, trace, slot, *instance) {
-            return true;
+    match named {
+        Some(instance) => {
+            has_instance(table, slot, instance) && is_thread(table, trace, slot, instance)
         }
+        None => any_threads(table, trace, slot),
     }
-    false
 }
 
 impl Schedule {

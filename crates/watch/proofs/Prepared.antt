@@ -9,23 +9,11 @@ use Rattle.machine_core.specs.Arming.{unless_refused, watch_limit, watch_at, Arm
 use Rattle.site_core.specs.declared.site.Sited.{Sited}
 use Rattle.site_core.specs.Sites.{IsRefusal, sited_of, site_answer}
 use Rattle.watch.specs.declared.fault.WatchFault.{WatchFault}
+use Rattle.watch.specs.declared.fault.WatchFault.TheVariants as fault
 use Rattle.watch.specs.declared.list.Unwatched.{Unwatched}
-use Rattle.watch.specs.Arm.{watch_answer, as_watch, watch_fault, IsFor}
+use Rattle.watch.specs.Arm.{as_watch, IsFor}
 use Rattle.machine_core.specs.Arming as machine
 use Rattle.site_core.specs.declared.fault.SiteFault.{SiteFault}
-use Rattle.site_core.specs.declared.fault.SiteFault.TheVariants as site
-
--- ---- faults
-
--- a fault of what was to be found stands for the same answer
-answers_same : (end : SiteFault) → site_answer end ≡ watch_answer (watch_fault end)
-answers_same (site.NoSite line) = refl
-answers_same (site.NoInstance instance) = refl
-answers_same (site.BadCondAt offset) = refl
-answers_same (site.BadCondName name) = refl
-answers_same (site.CondRemoved name slot) = refl
-answers_same (site.CondUnset name slot) = refl
-answers_same site.NoMemory = refl
 
 -- ---- what is armed where something was found
 
@@ -71,6 +59,6 @@ module _ (armed next : ℕ) (made : Result Watch Body) where
   refused_there None x arms h = tt
   refused_there (Some refusal) x arms h = refused_so x refusal arms h
 
-  pub for_fault : (x : Result machine.Sited Body) (r : Result Unwatched WatchFault) (end : SiteFault) → ArmsWatch armed next made x → r ≡ Err (watch_fault end) → IsRefusal (site_answer end) x → IsFor armed next r made
+  pub for_fault : (x : Result machine.Sited Body) (r : Result Unwatched WatchFault) (end : SiteFault) → ArmsWatch armed next made x → r ≡ Err (fault.Site end) → IsRefusal (site_answer end) x → IsFor armed next r made
   for_fault x r end arms e h =
-      subst (λ (s : Result Unwatched WatchFault). IsFor armed next s made) (sym e) (subst (λ (o : Option Body). IsRefusal o made) (answers_same end) (refused_there (site_answer end) x arms h))
+      subst (λ (s : Result Unwatched WatchFault). IsFor armed next s made) (sym e) (refused_there (site_answer end) x arms h)

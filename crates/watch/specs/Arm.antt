@@ -6,9 +6,7 @@ use Rattle.machine_core.specs.declared.reply.Body.{Body}
 use Rattle.machine_core.specs.declared.reply.Body.TheVariants as body
 use Rattle.machine_core.specs.Matching.{Watch}
 use Rattle.machine_core.specs.Arming.{unless_refused, watch_limit}
-use Rattle.site_core.specs.declared.fault.SiteFault.{SiteFault}
-use Rattle.site_core.specs.declared.fault.SiteFault.TheVariants as site
-use Rattle.site_core.specs.Sites.{IsRefusal, IsTold}
+use Rattle.site_core.specs.Sites.{site_answer, IsRefusal, IsTold}
 use Rattle.site_core.specs.Traps.{traps_of, trap_place, IsTrapOf}
 use Rattle.watch.specs.declared.fault.WatchFault.{WatchFault}
 use Rattle.watch.specs.declared.fault.WatchFault.TheVariants as fault
@@ -16,24 +14,8 @@ use Rattle.watch.specs.declared.list.Unwatched.{Unwatched}
 
 -- the answer that a fault stands for; want of memory stands for none
 abbrev pub watch_answer : WatchFault → Option Body
-watch_answer (fault.NoSite line) = Some (body.NoSite line)
-watch_answer (fault.NoInstance instance) = Some (body.NoInstance instance)
-watch_answer (fault.BadCondAt offset) = Some (body.BadCondAt offset)
-watch_answer (fault.BadCondName name) = Some (body.BadCondName name)
-watch_answer (fault.CondRemoved name slot) = Some (body.CondRemoved name slot)
-watch_answer (fault.CondUnset name slot) = Some (body.CondUnset name slot)
+watch_answer (fault.Site found) = site_answer found
 watch_answer (fault.TooManyWatches limit) = Some (body.TooManyWatches limit)
-watch_answer fault.NoMemory = None
-
--- a fault of what was to be found, as one of arming
-abbrev pub watch_fault : SiteFault → WatchFault
-watch_fault (site.NoSite line) = fault.NoSite line
-watch_fault (site.NoInstance instance) = fault.NoInstance instance
-watch_fault (site.BadCondAt offset) = fault.BadCondAt offset
-watch_fault (site.BadCondName name) = fault.BadCondName name
-watch_fault (site.CondRemoved name slot) = fault.CondRemoved name slot
-watch_fault (site.CondUnset name slot) = fault.CondUnset name slot
-watch_fault site.NoMemory = fault.NoMemory
 
 -- nothing is refused; or this is, unless memory ran out
 abbrev pub TellsNone : {X : Type 0} → Result X WatchFault → Option Body → Type 0

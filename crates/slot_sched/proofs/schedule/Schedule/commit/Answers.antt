@@ -28,7 +28,7 @@ invariant_of-self-2 c =
       spanned = subst (λ (l : List Armed). are_spanned c.widen_last.new.spans.items 0 l ≡ true) c.deref.ensures.value
           (c.widen_last.ensures.spanned c.args.self.now.armed.items _ (c.deref.ensures.value ∙ c.in_ok-push.ensures.items)
           (spanned_kept _ _ c.grown.ensures.keeps 0 c.args.self.now.armed.items c.args.self.now.spanned));
-      gaps = c.widen_last.ensures.gaps;
+      gaps = c.widen_last.ensures.gaps (c.grown.ensures.gaps c.args.self.now.gaps);
     }
 
 pub widen_last-requires-clause-within : goal.widen_last-requires-clause-within
