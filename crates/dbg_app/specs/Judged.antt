@@ -19,7 +19,9 @@ use Rattle.dbg_app.specs.Asked.{alone_as, over_as}
 use Rattle.batch_run.specs.Texts.{requests_fault}
 use Rattle.dbg_app.specs.Answers.{Contents, Held, HoldsDesign, HoldsRows, HoldsRequests, RefusesDesign, RefusesStimulus, RefusesRequests, usage_fault, text_of}
 use Rattle.dbg_app.specs.Compiled.{StandsOnNet}
-use Rattle.dbg_app.specs.Outcome as outcome
+use Rattle.run_status.specs.Statuses.{status_of}
+use Rattle.run_status.specs.declared.Ending.{Ending}
+use Rattle.run_status.specs.declared.Ending.TheVariants as ends
 use Rattle.dbg_app.specs.declared.command.OfDesign.{OfDesign}
 use Rattle.dbg_app.specs.declared.command.OverRows.{OverRows}
 use Rattle.dbg_app.specs.declared.judge.Judged.{Judged}
@@ -151,17 +153,17 @@ HasText (judged.Over task mode a stim) = (stim.ports ≡ a.ports) × HasRun (ove
 HasText (judged.Session mode a stim requests) = (stim.ports ≡ a.ports) × HasRun (session mode a stim requests.items)
 
 -- how a run with it ends, where all of the text is written
-abbrev pub way_of : Judged → outcome.Ending
-way_of judged.NoCommand = outcome.NoCommand
-way_of (judged.NoDesign fault) = outcome.NoDesign
-way_of (judged.NoStimulus fault) = outcome.NoStimulus
-way_of judged.NoRequests = outcome.NoRequests
-way_of (judged.Alone task mode a) = outcome.Written
-way_of (judged.Over task mode a stim) = outcome.Written
-way_of (judged.Session mode a stim requests) = outcome.Written
+abbrev pub way_of : Judged → Ending
+way_of judged.NoCommand = ends.NoCommand
+way_of (judged.NoDesign fault) = ends.NoDesign
+way_of (judged.NoStimulus fault) = ends.NoStimulus
+way_of judged.NoRequests = ends.NoRequests
+way_of (judged.Alone task mode a) = ends.Written
+way_of (judged.Over task mode a stim) = ends.Written
+way_of (judged.Session mode a stim requests) = ends.Written
 
 abbrev pub judged_status : Judged → ℕ
-judged_status judged = outcome.status_of (way_of judged)
+judged_status judged = status_of (way_of judged)
 
 -- the text that goes with what was judged, with listeners that mean this
 abbrev pub IsTextOf : List Heard → Judged → List ℕ → Type 0

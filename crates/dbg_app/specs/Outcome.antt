@@ -8,6 +8,8 @@ use Rattle.design_judge.specs.declared.DesignFault.{DesignFault}
 use Rattle.design_judge.specs.Refusals.{is_no_memory, design_line, stimulus_line}
 use Rattle.listen.specs.Pairs.{Heard}
 use Rattle.project_read.specs.Asking.{AsksSome}
+use Rattle.run_status.specs.Statuses.{status_of}
+use Rattle.run_status.specs.declared.Ending.TheVariants.{Written, NoCommand, NoDesign, NoStimulus, NoRequests, NotRead, NotTaken, OutOfMemory}
 use Rattle.dbg_app.specs.Command.{Command, file_names, rest_names}
 use Rattle.dbg_app.specs.Names.{AsksBehind}
 use Rattle.dbg_app.specs.Answers.{Answer, Contents, Asks, RefusesLoop}
@@ -15,29 +17,6 @@ use Rattle.dbg_app.specs.declared.halt.Halt.{Halt}
 use Rattle.dbg_app.specs.declared.halt.Halt.TheVariants.{ReadFault, WriteFault, NoMemory}
 
 -- ---- the statuses
-
--- The ways in which a run ends. The words are judged before the source, the source before the stimulus, the stimulus before the
--- requests, and all of them before a byte is written. A file that is not read ends the run where it stands in that order. An output
--- that fails, or want of memory, takes the place of what else would have come.
-pub data Ending : Type 0 where
-  Written : Ending
-  NoCommand : Ending
-  NoDesign : Ending
-  NoStimulus : Ending
-  NoRequests : Ending
-  NotRead : Ending
-  NotTaken : Ending
-  OutOfMemory : Ending
-
-abbrev pub status_of : Ending → ℕ
-status_of Written = 0
-status_of NoCommand = 2
-status_of NoDesign = 3
-status_of NoStimulus = 4
-status_of NoRequests = 6
-status_of NotRead = 7
-status_of NotTaken = 8
-status_of OutOfMemory = 9
 
 -- the statuses that a run of a command over a design ends with; a replay may end with 5 too (`is_status_of` of `Call`)
 abbrev pub is_status : ℕ → Bool

@@ -6,6 +6,7 @@ ghost use Rattle.dbg_app.specs.declared.halt.Halt.TheVariants.{WriteFault, NoMem
 ghost use Rattle.dbg_app.specs.Outcome.{is_status, halt_status};
 
 use io_edge::{Failed, ReadEnd, SinkEnd};
+use run_status::Ending;
 use std::alloc::{AllocError, AllocFailed};
 
 /// Why a run ends before its text is written.
@@ -27,9 +28,9 @@ impl Halt {
         ensures late { 7 ≤ result }
     {
         match self {
-            Halt::ReadFault => 7,
-            Halt::WriteFault => 8,
-            Halt::NoMemory => 9,
+            Halt::ReadFault => Ending::NotRead.status(),
+            Halt::WriteFault => Ending::NotTaken.status(),
+            Halt::NoMemory => Ending::OutOfMemory.status(),
         }
     }
 }

@@ -23,6 +23,7 @@ use crate::requests::read_requests;
 use design_core::Ports;
 use design_judge::{Accepted, DesignFault, judge_design};
 use io_edge::{Files, Words};
+use run_status::Ending;
 use std::alloc::Global;
 use stim_text::{Stim, StimFault};
 use world_core::Mode;
@@ -51,13 +52,13 @@ impl Judged {
         ensures early { result < 7 }
     {
         match self {
-            Judged::NoCommand => 2,
-            Judged::NoDesign(_) => 3,
-            Judged::NoStimulus(_) => 4,
-            Judged::NoRequests => 6,
-            Judged::Alone(_, _, _) => 0,
-            Judged::Over(_, _, _, _) => 0,
-            Judged::Session(_, _, _, _) => 0,
+            Judged::NoCommand => Ending::NoCommand.status(),
+            Judged::NoDesign(_) => Ending::NoDesign.status(),
+            Judged::NoStimulus(_) => Ending::NoStimulus.status(),
+            Judged::NoRequests => Ending::NoRequests.status(),
+            Judged::Alone(_, _, _) => Ending::Written.status(),
+            Judged::Over(_, _, _, _) => Ending::Written.status(),
+            Judged::Session(_, _, _, _) => Ending::Written.status(),
         }
     }
 }

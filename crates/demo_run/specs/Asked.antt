@@ -22,6 +22,8 @@ use Rattle.trim_laws.specs.Runs.{RunsOver}
 use Rattle.machine_core.specs.Reading.{Reader, IsReader}
 use Rattle.machine_core.specs.Machine.{opening}
 use Rattle.batch_run.specs.Texts.{requests_of, most_requests, requests_fault}
+use Rattle.run_status.specs.Statuses.{status_of}
+use Rattle.run_status.specs.declared.Ending.TheVariants as ends
 use Rattle.demo_run.specs.Chain.{chain_source, chain_stimulus, chain_top, row_count}
 use Rattle.demo_run.specs.Stops.{batch_stops}
 use Rattle.demo_run.specs.Line.{demo_line}
@@ -126,7 +128,9 @@ pub data AsksDemo (heard : List Heard) (files : Contents) (given : Given) (statu
 
 -- what the status of one may be
 abbrev pub is_status : ℕ → Bool
-is_status status = status == 0 || status == 3 || status == 4 || status == 6 || status == 7 || status == 8 || status == 9
+is_status status =
+    status == status_of ends.Written || status == status_of ends.NoDesign || status == status_of ends.NoStimulus || status == status_of ends.NoRequests
+    || status == status_of ends.NotRead || status == status_of ends.NotTaken || status == status_of ends.OutOfMemory
 
 -- the line of a refused source was taken, or that of a refused stimulus
 pub record TakesDesignLine (old new : Option (List ℕ)) : Type 0 where

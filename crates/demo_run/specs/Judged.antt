@@ -15,6 +15,8 @@ use Rattle.world_core.specs.Source.{source_world}
 use Rattle.trim_laws.specs.Runs.{RunsOver}
 use Rattle.machine_core.specs.Reading.{Reader, IsReader}
 use Rattle.batch_run.specs.Texts.{requests_fault, most_requests}
+use Rattle.run_status.specs.Statuses.{status_of}
+use Rattle.run_status.specs.declared.Ending.TheVariants as ends
 use Rattle.demo_run.specs.Asked.{Given, Contents, IsChain, HasRows, HoldsRequests, RefusesDesign, RefusesStimulus, RefusesRequests, line_over}
 use Rattle.demo_run.specs.declared.judge.Demo.{Demo}
 use Rattle.demo_run.specs.declared.walk.Walk.{Walk}
@@ -62,10 +64,10 @@ HasText judged.NoRequests = Unit {0}
 HasText (judged.Walked walk) = IsWalk walk
 
 abbrev pub judged_status : Judged → ℕ
-judged_status (judged.NoDesign fault) = 3
-judged_status (judged.NoStimulus fault) = 4
-judged_status judged.NoRequests = 6
-judged_status (judged.Walked walk) = 0
+judged_status (judged.NoDesign fault) = status_of ends.NoDesign
+judged_status (judged.NoStimulus fault) = status_of ends.NoStimulus
+judged_status judged.NoRequests = status_of ends.NoRequests
+judged_status (judged.Walked walk) = status_of ends.Written
 
 -- the line of a design and a mode, over some run and by the one way to read conditions; n is how many signals are driven
 abbrev pub IsSessionLine : List Heard → ℕ → Design → ℕ → Mode → List (List Bits) → List ℕ → List ℕ → Type 0

@@ -16,6 +16,7 @@ use crate::chain::{chain_given, chain_source, chain_stimulus};
 use crate::walk::Walk;
 use design_judge::{Accepted, DesignFault, judge_rows, judge_text};
 use io_edge::{Files, MOST_REQUESTS, ReadEnd, read_file};
+use run_status::Ending;
 use std::alloc::Global;
 use stim_text::{Stim, StimFault};
 use text_core::NoMemory;
@@ -47,10 +48,10 @@ impl Judged {
         ensures early { result < 7 }
     {
         match self {
-            Judged::NoDesign(_) => 3,
-            Judged::NoStimulus(_) => 4,
-            Judged::NoRequests => 6,
-            Judged::Walked(_) => 0,
+            Judged::NoDesign(_) => Ending::NoDesign.status(),
+            Judged::NoStimulus(_) => Ending::NoStimulus.status(),
+            Judged::NoRequests => Ending::NoRequests.status(),
+            Judged::Walked(_) => Ending::Written.status(),
         }
     }
 }

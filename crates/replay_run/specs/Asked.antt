@@ -11,6 +11,8 @@ use Rattle.trace_judge.specs.declared.trace_fault.TraceFault.{TraceFault}
 use Rattle.trace_judge.specs.Refusals.{table_line, trace_line}
 use Rattle.trace_judge.specs.Judgement.{JudgesTable, IsRefusal, told_trace}
 use Rattle.machine_core.specs.Reading.{Reader, IsReader}
+use Rattle.run_status.specs.Statuses.{status_of}
+use Rattle.run_status.specs.declared.Ending.TheVariants as ends
 use Rattle.batch_run.specs.Texts.{batch_text, most_requests, requests_fault}
 
 -- the names of a symbol file and of a value change dump file, a scope in that, and the name of a file of requests
@@ -96,7 +98,9 @@ pub data AsksReplay (heard : List Heard) (files : Contents) (names : Names) (sta
 
 -- what the status of one may be
 abbrev pub is_status : ℕ → Bool
-is_status status = status == 0 || status == 5 || status == 6 || status == 7 || status == 8 || status == 9
+is_status status =
+    status == status_of ends.Written || status == status_of ends.NoTrace || status == status_of ends.NoRequests
+    || status == status_of ends.NotRead || status == status_of ends.NotTaken || status == status_of ends.OutOfMemory
 
 -- the line of a refused symbol file was taken, or that of a refused dump file
 pub record TakesTableLine (old new : Option (List ℕ)) : Type 0 where

@@ -11,6 +11,8 @@ use Rattle.trace_judge.specs.Judgement.{IsRefusal}
 use Rattle.trace_judge.specs.Refusals.{table_line, trace_line}
 use Rattle.machine_core.specs.Reading.{Reader, IsReader}
 use Rattle.batch_run.specs.Texts.{batch_text, requests_fault}
+use Rattle.run_status.specs.Statuses.{status_of}
+use Rattle.run_status.specs.declared.Ending.TheVariants as ends
 use Rattle.replay_run.specs.Asked.{Names, Contents, HoldsTable, HoldsTrace, HoldsRequests}
 use Rattle.replay_run.specs.declared.judge.Replay.{Replay}
 use Rattle.replay_run.specs.declared.judge.Judged.{Judged}
@@ -46,10 +48,10 @@ HasLine judged.NoRequests = Unit {0}
 HasLine (judged.Walked walk) = Unit {0}
 
 abbrev pub judged_status : Judged → ℕ
-judged_status (judged.NoTable fault) = 5
-judged_status (judged.NoTrace fault) = 5
-judged_status judged.NoRequests = 6
-judged_status (judged.Walked walk) = 0
+judged_status (judged.NoTable fault) = status_of ends.NoTrace
+judged_status (judged.NoTrace fault) = status_of ends.NoTrace
+judged_status judged.NoRequests = status_of ends.NoRequests
+judged_status (judged.Walked walk) = status_of ends.Written
 
 -- what a session over a table and samples puts out for these requests, with listeners that mean this
 abbrev pub IsWalkText : List Heard → TableParts → Samples → List ℕ → List ℕ → Type 0

@@ -9,6 +9,7 @@ ghost use Rattle.replay_run.specs.Judged.{HasLine, Judges, asked_behind, asked_f
 
 use crate::walk::Walk;
 use io_edge::{Files, MOST_REQUESTS, ReadEnd, read_file};
+use run_status::Ending;
 use std::alloc::Global;
 use symtab::Table;
 use symtab_json::TableFault;
@@ -42,10 +43,10 @@ impl Judged {
         ensures early { result < 7 }
     {
         match self {
-            Judged::NoTable(_) => 5,
-            Judged::NoTrace(_) => 5,
-            Judged::NoRequests => 6,
-            Judged::Walked(_) => 0,
+            Judged::NoTable(_) => Ending::NoTrace.status(),
+            Judged::NoTrace(_) => Ending::NoTrace.status(),
+            Judged::NoRequests => Ending::NoRequests.status(),
+            Judged::Walked(_) => Ending::Written.status(),
         }
     }
 }

@@ -12,6 +12,7 @@ use crate::judge::{Judged, Replay, judge};
 use crate::write::write;
 use io_edge::{Files, ReadEnd, Sink, SinkEnd};
 use listen::Listener;
+use run_status::Ending;
 use std::alloc::Global;
 
 /// Writes the text that goes with what was judged, and gives the status.
@@ -28,8 +29,8 @@ fn end<S: Sink>(alloc: Global, judged: Judged, listeners: Vec<Box<dyn Listener>>
     let status = judged.status();
     match write(alloc, judged, listeners, out) {
         Ok(()) => status,
-        Err(SinkEnd::Failed) => 8,
-        Err(SinkEnd::NoMemory) => 9,
+        Err(SinkEnd::Failed) => Ending::NotTaken.status(),
+        Err(SinkEnd::NoMemory) => Ending::OutOfMemory.status(),
     }
 }
 
@@ -88,7 +89,7 @@ pub fn run_replay<F: Files, S: Sink>(
 {
     match judge(alloc, replay, files) {
         Ok(judged) => end(alloc, judged, listeners, out),
-        Err(ReadEnd::Failed) => 7,
-        Err(ReadEnd::NoMemory) => 9,
+        Err(ReadEnd::Failed) => Ending::NotRead.status(),
+        Err(ReadEnd::NoMemory) => Ending::OutOfMemory.status(),
     }
 }

@@ -8,6 +8,8 @@ use Rattle.link_edge.specs.declared.answers.End.TheVariants.{NoMemory}
 use Rattle.io_edge.specs.declared.sink_end.SinkEnd.{SinkEnd}
 use Rattle.io_edge.specs.declared.sink_end.SinkEnd.TheVariants as sink_ends
 use Rattle.duo_run.specs.declared.served.Served.{Served}
+use Rattle.run_status.specs.Statuses.{status_of}
+use Rattle.run_status.specs.declared.Ending.TheVariants as ends
 use Rattle.serve_net.specs.declared.visit.Visit.{Visit}
 use Rattle.serve_net.specs.Visits.{Told, HasLine, links_in, failures_in, visits_text}
 use Rattle.serve_net.specs.Over.{Over}
@@ -61,8 +63,8 @@ pub record AsksNone {L : Type 0} (left_old left_new : Option ℕ) (faults_old fa
 -- ---- the statuses
 
 abbrev pub end_status : SinkEnd → ℕ
-end_status sink_ends.Failed = 8
-end_status sink_ends.NoMemory = 9
+end_status sink_ends.Failed = status_of ends.NotTaken
+end_status sink_ends.NoMemory = status_of ends.OutOfMemory
 
 abbrev pub is_end_status : ℕ → Bool
-is_end_status status = status == 0 || status == 8 || status == 9
+is_end_status status = status == status_of ends.Written || status == status_of ends.NotTaken || status == status_of ends.OutOfMemory

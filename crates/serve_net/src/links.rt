@@ -12,6 +12,7 @@ use duo_run::Served;
 use io_edge::{Sink, SinkEnd};
 use link_edge::Door;
 use listen::Listener;
+use run_status::Ending;
 use std::alloc::Global;
 use std::sync::Wait;
 use std::thread::Threads;
@@ -29,8 +30,8 @@ fn status_of(end: SinkEnd) -> u8
     ensures { result ≡ end_status end }
 {
     match end {
-        SinkEnd::Failed => 8,
-        SinkEnd::NoMemory => 9,
+        SinkEnd::Failed => Ending::NotTaken.status(),
+        SinkEnd::NoMemory => Ending::OutOfMemory.status(),
     }
 }
 
@@ -68,7 +69,7 @@ pub fn serve_links<R: Threads + Wait + Sync, D: Door, S: Sink>(
     };
     if hall.served.try_reserve(usize::from(count)).is_err() {
         return Many {
-            status: 9,
+            status: Ending::OutOfMemory.status(),
             served: hall.served,
         };
     }
@@ -84,7 +85,7 @@ pub fn serve_links<R: Threads + Wait + Sync, D: Door, S: Sink>(
         }
     }
     Many {
-        status: 0,
+        status: Ending::Written.status(),
         served: hall.served,
     }
 }

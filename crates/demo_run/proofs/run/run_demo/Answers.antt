@@ -42,7 +42,7 @@ pub returns-in-Ok-clause-unread : goal.returns-in-Ok-clause-unread
 returns-in-Ok-clause-unread g c = λ seven. absurd (c.end.ensures.no_read seven)
 
 pub returns-in-Err-Failed-clause-files : goal.returns-in-Err-Failed-clause-files
-returns-in-Err-Failed-clause-files g c = files_late _ 7 _ _ (omega arith)
+returns-in-Err-Failed-clause-files g c = rw c.status.ensures (files_late _ 7 _ _ (omega arith))
 
 pub returns-in-Err-Failed-clause-kept : goal.returns-in-Err-Failed-clause-kept
 returns-in-Err-Failed-clause-kept g c = grows_not _ _ refl

@@ -41,7 +41,7 @@ returns-in-Ok-clause-kept g c =
     let e = c.end.ensures in ends_grown _ c.in-Ok.judged c.end.result _ _ e.statuses e.done e.no_read e.front
 
 pub returns-in-Err-Failed-clause-files : goal.returns-in-Err-Failed-clause-files
-returns-in-Err-Failed-clause-files g c = files_late _ 7 _ _ _ _ (omega arith)
+returns-in-Err-Failed-clause-files g c = rw c.status.ensures (files_late _ 7 _ _ _ _ (omega arith))
 
 pub returns-in-Err-Failed-clause-kept : goal.returns-in-Err-Failed-clause-kept
 returns-in-Err-Failed-clause-kept g c = grows_not _ _ refl

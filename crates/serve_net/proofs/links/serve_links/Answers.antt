@@ -3,7 +3,7 @@ use Rattle.serve_net.proofs.Walking.{walked_none, walked_more, walked_halted, wa
 use Rattle.serve_net.proofs.links.serve_links.Goals as goal
 
 pub returns-then-is_err-clause-some : goal.returns-then-is_err-clause-some
-returns-then-is_err-clause-some g c = λ late over sh. rw (c.try_reserve.ensures.items, c.new.ensures.items) (starved_first _ over _ c.args.count _ _ _)
+returns-then-is_err-clause-some g c = λ late over sh. rw (c.try_reserve.ensures.items, c.new.ensures.items, c.status.ensures) (starved_first _ over _ c.args.count _ _ _)
 
 pub loop-number-init : goal.loop-number-init
 loop-number-init g c = record {
