@@ -20,7 +20,7 @@ one_split (x ∷ a) b (y ∷ c) d e l =
     let same : x ≡ y = cc in
     (ap₂ (λ u v. u ∷ v) same it.0, it.1)
 
-one_frame : (text body rest other beyond : List ℕ) → IsFrame text body rest → IsFrame text other beyond → (body ≡ other) × (rest ≡ beyond)
+pub one_frame : (text body rest other beyond : List ℕ) → IsFrame text body rest → IsFrame text other beyond → (body ≡ other) × (rest ≡ beyond)
 one_frame text body rest other beyond a b =
     let same = one_length text (length body) (length other) a.behind b.behind a.head b.head in
     one_split body rest other beyond (sym a.split ∙ same.1 ∙ b.split) same.0
@@ -151,7 +151,7 @@ more_fault text more k ended (inr (inr (inl (e, bad)))) = inr (inr (inl (e, reco
 more_fault text more k ended (inr (inr (inr (inl (e, cut))))) = absurd (let apart : false ≡ true = cut.over in cc)
 more_fault text more k ended (inr (inr (inr (inr (e, bad))))) = inr (inr (inr (inr (e, record { body = bad.body; rest = bad.rest ++ more; frame = more_frame text bad.body bad.rest more bad.frame; bad = bad.bad }))))
 
-more_message : (text body rest more : List ℕ) → IsMessage text body rest → IsMessage (text ++ more) body (rest ++ more)
+pub more_message : (text body rest more : List ℕ) → IsMessage text body rest → IsMessage (text ++ more) body (rest ++ more)
 more_message text body rest more m = record { frame = more_frame text body rest more m.frame; good = m.good }
 
 pub more_is_behind : MoreIsBehind

@@ -4,3 +4,10 @@ mod Utf8
 mod Heads
 mod Apart
 mod Firsts
+pub mod Requests
+pub mod Runs
+pub mod Told
+pub mod Talking
+mod Failing
+mod Answering
+mod Reacting

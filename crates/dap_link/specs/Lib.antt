@@ -2,3 +2,9 @@ pub mod Frames
 pub mod Framing
 pub mod Heads
 pub mod Laws
+pub mod Conversation
+pub mod State
+pub mod Reactions
+pub mod Conversing
+pub mod Talks
+pub mod Answers
