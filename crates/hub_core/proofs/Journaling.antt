@@ -3,12 +3,11 @@ use Rattle.std.proofs.Common.{◌≡◌, ℕ, zero, suc, Bool, true, false, ◌&
 use Rattle.world_core.specs.World.{World}
 use Rattle.machine_core.specs.Reading.{Reader}
 use Rattle.machine_core.specs.Machine.{Machine, turn_of}
-use Rattle.machine_core.specs.Journal as core
 use Rattle.machine_core.specs.Journal.{Replied, turns_from, journal_from}
 use Rattle.hub_core.specs.declared.event.HubEvent.{HubEvent}
 use Rattle.hub_core.specs.declared.event.HubEvent.TheVariants.{Ask, Left, Turns}
-use Rattle.hub_core.specs.Hubs.{HubState, gone, answer_in, after_ask_in, told_of_turn, turned}
-use Rattle.hub_core.specs.HubJournals.{HubDeed, Goes, goings, hub_deeds, at_client, client_lines, after_hub_deeds, hub_entries, is_of, are_of, IsJournal}
+use Rattle.hub_core.specs.Hubs.{HubState, gone, answer_in, told_of_turn, turned}
+use Rattle.hub_core.specs.HubJournals.{HubDeed, goings, hub_deeds, client_lines, after_hub_deeds, hub_entries, are_of, IsJournal}
 
 both : (a b : Bool) → (a && b) ≡ true → (a ≡ true) × (b ≡ true)
 both true b e = (refl, e)

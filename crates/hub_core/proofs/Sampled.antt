@@ -1,5 +1,5 @@
 -- The sample of two clients: what they are told and what they asked, computed.
-use Rattle.std.proofs.Common.{◌≡◌, ℕ, Bool, true, false, List, [], ◌∷◌, ◌++◌, None, refl, sym, ◌∙◌, ap, if◌then◌else◌, nat_eq}
+use Rattle.std.proofs.Common.{◌≡◌, ℕ, Bool, true, false, List, [], ◌∷◌, ◌++◌, None, refl, ◌∙◌, ap, if◌then◌else◌, nat_eq}
 use Rattle.machine_core.specs.declared.request.Asked.{Asked}
 use Rattle.machine_core.specs.declared.request.Cmd.TheVariants as cmd
 use Rattle.machine_core.specs.Machine.{Machine, answer_of, turn_of}

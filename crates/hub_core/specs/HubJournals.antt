@@ -1,10 +1,10 @@
 -- The journal of a hub: what was done with it, one by one; the lines of each client by it; and what is never done.
-use Rattle.std.specs.Prelude.{◌≡◌, ℕ, zero, suc, Bool, true, false, ◌&&◌, List, [], ◌∷◌, ◌++◌, if◌then◌else◌, nat_eq}
+use Rattle.std.specs.Prelude.{◌≡◌, ℕ, zero, suc, Bool, true, false, ◌&&◌, ◌||◌, List, [], ◌∷◌, ◌++◌, if◌then◌else◌, nat_eq}
 use Rattle.world_core.specs.World.{World}
 use Rattle.machine_core.specs.Reading.{Reader}
-use Rattle.machine_core.specs.Machine.{Machine, turn_of, is_running}
+use Rattle.machine_core.specs.Machine.{Machine, turn_of}
 use Rattle.machine_core.specs.Journal as core
-use Rattle.machine_core.specs.Journal.{Entry, Replied, journal_from, closing_lines}
+use Rattle.machine_core.specs.Journal.{Entry, Replied, is_bye, journal_from, closing_lines}
 use Rattle.req_json.specs.Asked.{asked}
 use Rattle.req_json.specs.Texts.{texts_of}
 use Rattle.hub_core.specs.declared.event.HubEvent.{HubEvent}
@@ -111,3 +111,12 @@ is_proper read w s (Asks client text ∷ ds) =
     is_here s client && ((if takes_leave read w s text then leaves_next client ds else true) && is_proper read w (after_ask_in read w s text) ds)
 is_proper read w s (Leaves client ∷ ds) = is_here s client && is_proper read w (gone client s) ds
 is_proper read w s (Goes ∷ ds) = is_proper read w (turned w s).after ds
+
+-- ---- what a client did
+
+-- a client takes its leave by a `bye` that is accepted
+unfoldable pub took_leave : Reader → World → ℕ → Machine → List HubDeed → Bool
+took_leave read w k m [] = false
+took_leave read w k m (Asks client text ∷ ds) = (nat_eq client k && is_bye (answer_in read w m text).reply.body) || took_leave read w k (answer_in read w m text).after ds
+took_leave read w k m (Leaves client ∷ ds) = took_leave read w k m ds
+took_leave read w k m (Goes ∷ ds) = took_leave read w k (turn_of w m).after ds

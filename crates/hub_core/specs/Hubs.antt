@@ -19,6 +19,9 @@ pub record HubRan : Type 0 where
   pub after : HubState
   pub lines : List Line
 
+abbrev pub ran_to : HubState → List Line → HubRan
+ran_to after lines = record { after = after; lines = lines }
+
 abbrev pub line : ℕ → List ℕ → Line
 line client text = record { client = client; text = text }
 

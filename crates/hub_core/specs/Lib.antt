@@ -1,3 +1,10 @@
 pub mod Hubs
 pub mod HubJournals
+pub mod States
+pub mod Clients
+pub mod Ends
+pub mod Seating
+pub mod Paces
+pub mod Rounds
+pub mod Served
 pub mod Sample

@@ -1,4 +1,4 @@
-//! What is told to a client.
+//! What is told to a client, and what is answered where memory ran out.
 
 use text_core::Listed;
 
@@ -7,4 +7,10 @@ use text_core::Listed;
 pub struct Line {
     pub client: u32,
     pub text: Listed<u8>,
+}
+
+/// Memory ran out: whether the event was applied. Its lines are lost.
+#[derive(Clone, Copy, PartialEq, Eq)]
+pub struct HubStop {
+    pub applied: bool,
 }
