@@ -125,7 +125,6 @@ fn table(alloc: Global) -> Option<Table> {
 }
 
 /// Serves two links in lock step over a hub, if memory lasts.
-#[tactic(auto, unfolding(hub_core::specs::Ends::AllOpen))]
 fn serve_links<R: Wait, T: Trace + Drop>(
     rt: &R,
     alloc: Global,
