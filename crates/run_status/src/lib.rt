@@ -27,10 +27,12 @@ pub enum Ending {
     NotTaken,
     /// Memory ran out.
     OutOfMemory,
+    /// What an editor sends is not framed as its protocol says. All is written that was answered before.
+    BadInput,
 }
 
 impl Ending {
-    /// The status of the program: 0, or from 2 to 9. Takes no memory.
+    /// The status of the program: 0, or from 2 to 10. Takes no memory.
     pub const fn status(self) -> u8
         ensures { result ≡ status_of self }
     {
@@ -44,6 +46,7 @@ impl Ending {
             Ending::NotRead => 7,
             Ending::NotTaken => 8,
             Ending::OutOfMemory => 9,
+            Ending::BadInput => 10,
         }
     }
 }
