@@ -12,6 +12,7 @@ use Rattle.gen_text.specs.Source.{Reads}
 use Rattle.project_read.specs.Names.{folder_of, names_in, numbered}
 use Rattle.project_read.specs.Projects.{Contents, IsSourceOf, AreRead, IsRefusedAt, Text, TooManyFiles, TellsProject}
 use Rattle.project_read.specs.Asking.{AreAllNumbered, AsksAll, AsksProject, AsksFront, StopsInside}
+use Rattle.project_read.specs.Named.{AreNamesOf}
 use Rattle.project_read.specs.Steps.{AsksName, IsNext, TellsNext, name_at}
 use Rattle.project_read.specs.declared.end.ProjectEnd.{ProjectEnd}
 use Rattle.project_read.specs.declared.end.ProjectEnd.TheVariants as ends
@@ -103,8 +104,8 @@ front_inside told src sources names old mid new file so f = (
 )
 
 -- it was not read
-pub stops_inside : {S : Type 0} (asked : S → Option (List (List ℕ))) (fault_count : S → ℕ) (told : Option Contents) (src : List ℕ) (sources : List code_source.Source) (names : List (List ℕ)) (old mid new : S) (file : ℕ) (e : ProjectEnd)
-    (r : Result (Vec code_source.Source Global) ProjectEnd) → r ≡ Err e → IsSoFar told src sources names (asked old) (asked mid) file → fault_count old ≤ fault_count mid
+pub stops_inside : {S A : Type 0} (asked : S → Option (List (List ℕ))) (fault_count : S → ℕ) (told : Option Contents) (src : List ℕ) (sources : List code_source.Source) (names : List (List ℕ)) (old mid new : S) (file : ℕ) (e : ProjectEnd)
+    (r : Result A ProjectEnd) → r ≡ Err e → IsSoFar told src sources names (asked old) (asked mid) file → fault_count old ≤ fault_count mid
     → (IsErrOf {T = code_source.Source} (Err e) ends.ReadFault → StopsAt asked fault_count mid new (name_at names file ∷ [])) → IsErrOf r ends.ReadFault → StopsInside told src asked fault_count old new
 stops_inside asked fault_count told src sources names old mid new file e r q so later stops h =
     let fault : e ≡ ends.ReadFault = cc in (
@@ -152,13 +153,26 @@ one_read told now src folder sources pushed s names more old mid new file e so s
 
 -- ---- all are read
 
+-- so many sources as names
+all_read : (sources : Vec code_source.Source Global) (names : Vec (String Global) Global) (some all : ℕ) → some ≡ vec_len sources → all ≡ vec_len names → all ≤ some → length sources.items ≤ length (names_in names.items)
+    → length sources.items ≡ length (names_in names.items)
+all_read sources names some all e m h within = omega (arith, e, m, h, within, sources.ok.0, names.ok.0, length-map names.items (λ (x : String Global). string_bytes x))
+
+pub all_named : (told : Option Contents) (src : List ℕ) (sources : Vec code_source.Source Global) (names : Vec (String Global) Global) (some all : ℕ) → some ≡ vec_len sources → all ≡ vec_len names → all ≤ some
+    → length sources.items ≤ length (names_in names.items) → Stands told src (sources_of sources.items) (names_in names.items) → AreNamesOf told src (sources_of sources.items) (names_in names.items)
+all_named told src sources names some all e m h within s = record {
+  are = are_names told src (sources_of sources.items) (names_in names.items) s;
+  read = s.read;
+  all = length-map sources.items source_of ∙ all_read sources names some all e m h within;
+}
+
 pub all_asked : (told : Option Contents) (src : List ℕ) (sources : Vec code_source.Source Global) (names : Vec (String Global) Global) (old new : Option (List (List ℕ))) (some all : ℕ) → some ≡ vec_len sources → all ≡ vec_len names → all ≤ some
     → length sources.items ≤ length (names_in names.items) → Stands told src (sources_of sources.items) (names_in names.items) → Appends old new (take (length sources.items) (names_in names.items)) → AsksAll told src old new
 all_asked told src sources names old new some all e m h within s a =
     (names_in names.items, are_names told src (sources_of sources.items) (names_in names.items) s, by told s.read, subst (Appends old new) (take_all (length sources.items) (names_in names.items) (omega (arith, same))) a)
   where
     same : length sources.items ≡ length (names_in names.items)
-    same = omega (arith, e, m, h, within, sources.ok.0, names.ok.0, length-map names.items (λ (x : String Global). string_bytes x))
+    same = all_read sources names some all e m h within
 
     by : (told : Option Contents) → IfSome told (λ files. AreRead files src (sources_of sources.items) (names_in names.items)) → IfSome told (λ files. AreAllNumbered files src (names_in names.items))
     by None r = tt

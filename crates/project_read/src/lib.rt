@@ -12,4 +12,4 @@ mod project;
 
 pub use end::ProjectEnd;
 pub use laws::{files_are_one_project, numbers_are_given_once, numbers_are_so};
-pub use project::read_project;
+pub use project::{Project, read_named, read_project};

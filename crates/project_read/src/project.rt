@@ -1,12 +1,13 @@
 //! Reads the files of a design, one after the other by their numbers. A file's text is let go of before the next one is read.
 
-ghost use Rattle.std.specs.Prelude.{◌≡◌, ◌<◌, ◌≤◌, [], ◌∷◌, IfSome, IsErrOf, length};
+ghost use Rattle.std.specs.Prelude.{◌≡◌, ◌<◌, ◌≤◌, [], ◌∷◌, IfOk, IfSome, IsErrOf, length};
 ghost use Rattle.io_edge.specs.Faults.{Rose};
 ghost use Rattle.io_edge.specs.Taken.{AppendsFront};
 ghost use Rattle.io_edge.specs.Unread.{StopsAt};
 ghost use Rattle.project_read.specs.Names.{names_in};
 ghost use Rattle.project_read.specs.Projects.{TellsProject};
 ghost use Rattle.project_read.specs.Asking.{AsksProject, AsksFront, IsFitProject, StopsInside};
+ghost use Rattle.project_read.specs.Named.{NamesProject, sources_read};
 ghost use Rattle.project_read.specs.Steps.{AsksName, IsNext, IsOfFile, TellsFile, TellsNext, name_at};
 
 use crate::ProjectEnd;
@@ -15,6 +16,13 @@ use gen_text::{TextFault, read_source};
 use gen_tree::Source;
 use io_edge::{Files, MOST_SOURCE, read_file};
 use std::alloc::Global;
+
+/// The files of a design: the sources that they are, and their names, both by their numbers.
+#[derive(Drop)]
+pub struct Project {
+    pub sources: Vec<Source>,
+    pub names: Vec<String>,
+}
 
 /// Reads the file of this name and this number: the source that it is, or why it is none.
 fn read_one<F: Files>(
@@ -68,6 +76,33 @@ fn read_next<F: Files>(
     Ok(source)
 }
 
+/// Reads the files of the design whose source has this name: the sources that they are, and their names, by their numbers. The source is
+/// file 0, and `import x;` names the file `x.hg` in its folder, which gets the next number unless it has one. Files are taken by number;
+/// each is read and judged, and then its imports are numbered in order.
+///
+/// Errors: `Text`, where a file has more than 1 MiB or is no source; `TooManyFiles`, at an import that names a 65th file; `ReadFault`,
+/// where a file was not read; and `NoMemory`.
+pub fn read_named<F: Files>(alloc: Global, files: &mut F, src: &str) -> Result<Project, ProjectEnd>
+    ensures told { IfSome (F.told files.old) (λ told. TellsProject told src.now (sources_read result)) }
+    ensures fit { IsFitProject (sources_read result) }
+    ensures names { IfOk result (NamesProject (F.told files.old) src.now) }
+    ensures same { F.told files.new ≡ F.told files.old }
+    ensures asked { AsksProject (F.told files.old) src.now (F.asked files.old) (F.asked files.new) (sources_read result) }
+    ensures front { AsksFront (F.told files.old) src.now (F.asked files.old) (F.asked files.new) }
+    ensures failed { IsErrOf result ProjectEnd.ReadFault → Rose (F.fault_count files.old) (F.fault_count files.new) }
+    ensures unread { IsErrOf result ProjectEnd.ReadFault → StopsInside (F.told files.old) src.now F.asked F.fault_count files.old files.new }
+    ensures later { F.fault_count files.old ≤ F.fault_count files.new }
+{
+    let folder = folder_of(src);
+    let mut names = vec![in alloc; String::from_str(alloc, src)?]?;
+    let mut sources = Vec::new(alloc);
+    while sources.len() < names.len() {
+        let source = read_next(alloc, files, folder, &mut names, sources.len() as u32)?;
+        sources.push(source)?;
+    }
+    Ok(Project { sources, names })
+}
+
 /// Reads the files of the design whose source has this name: the sources that they are, by their numbers. The source is file 0, and
 /// `import x;` names the file `x.hg` in its folder, which gets the next number unless it has one. Files are taken by number; each is
 /// read and judged, and then its imports are numbered in order.
@@ -88,12 +123,8 @@ pub fn read_project<F: Files>(
     ensures unread { IsErrOf result ProjectEnd.ReadFault → StopsInside (F.told files.old) src.now F.asked F.fault_count files.old files.new }
     ensures later { F.fault_count files.old ≤ F.fault_count files.new }
 {
-    let folder = folder_of(src);
-    let mut names = vec![in alloc; String::from_str(alloc, src)?]?;
-    let mut sources = Vec::new(alloc);
-    while sources.len() < names.len() {
-        let source = read_next(alloc, files, folder, &mut names, sources.len() as u32)?;
-        sources.push(source)?;
+    match read_named(alloc, files, src) {
+        Ok(project) => Ok(project.sources),
+        Err(end) => Err(end),
     }
-    Ok(sources)
 }

@@ -3,7 +3,7 @@ use Rattle.io_edge.specs.Taken.{Appends}
 use Rattle.gen_tree.specs.View.{sources_of}
 use Rattle.project_read.specs.Names.{names_in}
 use Rattle.project_read.proofs.Reading.{Stands}
-use Rattle.project_read.proofs.project.read_project.Given as goal
+use Rattle.project_read.proofs.project.read_named.Given as goal
 
 -- the files so far are read, and the names that they number are known
 abbrev pub invariant-loop-folder : goal.invariant-loop-folder
