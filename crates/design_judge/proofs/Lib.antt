@@ -1,5 +1,6 @@
 mod PortsFit
 mod Stimuli
+pub mod NamesAll
 mod SampleLines
 pub mod Sources
 pub mod OneReading

@@ -3,4 +3,5 @@ pub mod Refusals
 pub mod Judgement
 pub mod Accepting
 pub mod Judging
+pub mod Naming
 pub mod Laws

@@ -20,6 +20,13 @@ pub struct Accepted {
     pub ports: Ports,
 }
 
+/// A design that is accepted, and the names of its files, by their numbers.
+#[derive(Drop)]
+pub struct Named {
+    pub accepted: Accepted,
+    pub names: Vec<String>,
+}
+
 impl Accepted {
     /// A design that no check refuses, with an order of its driven signals.
     pub(crate) fn new(alloc: Global, design: Design, order: Order) -> Result<Accepted, NoMemory>

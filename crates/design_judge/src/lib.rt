@@ -15,9 +15,9 @@ mod loops;
 mod source;
 mod stimulus_fault;
 
-pub use accepted::Accepted;
+pub use accepted::{Accepted, Named};
 pub use design_fault::DesignFault;
-pub use files::{judge_design, judge_rows, judge_stimulus};
+pub use files::{judge_design, judge_named, judge_rows, judge_stimulus};
 pub use laws::{lines_are_so, sources_have_one_judgement};
 pub use lines::{design_line, stimulus_line};
 pub use source::{judge_sources, judge_text};
