@@ -3,7 +3,8 @@ mod Steps
 mod Utf8
 mod Heads
 mod Apart
-mod Firsts
+mod Slash
+pub mod Firsts
 pub mod Requests
 pub mod Runs
 pub mod Told

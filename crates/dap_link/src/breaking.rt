@@ -27,7 +27,7 @@ fn is_no_slash(byte: u8) -> bool
 }
 
 /// How many bytes stand behind the last slash.
-fn last_len(path: &[u8]) -> usize
+pub(crate) fn last_len(path: &[u8]) -> usize
     ensures len { result ≡ suffix_len is_no_slash path.now }
     ensures within { result ≤ length path.now }
 {

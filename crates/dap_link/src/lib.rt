@@ -13,6 +13,7 @@ mod head;
 mod laws;
 mod leading;
 mod looking;
+mod naming;
 
 pub use adapter::{Adapter, Said};
 pub use framer::{Framed, Framer};
@@ -20,3 +21,4 @@ pub use laws::{
     a_conversation_is_one, messages_are_answered_in_order, pieces_are_one_text,
     what_fails_changes_nothing,
 };
+pub use naming::last_parts;
