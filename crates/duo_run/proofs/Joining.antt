@@ -1,5 +1,5 @@
 -- What the two sides have done together.
-use Rattle.std.proofs.Common.{◌≡◌, ◌≢◌, ◌≤◌, ◌⊎◌, ℕ, Bool, false, List, [], ◌∷◌, ◌++◌, length, Option, None, refl, sym, ◌∙◌, ap, append_assoc}
+use Rattle.std.proofs.Common.{◌≡◌, ◌≢◌, ◌≤◌, ◌⊎◌, ℕ, Bool, true, List, [], ◌∷◌, ◌++◌, length, Option, None, refl, sym, ◌∙◌, ap, append_assoc}
 use Rattle.std.specs.declared.alloc.Global.{Global}
 use Rattle.rtrb.specs.declared.AnyItems.{AnyItems}
 use Rattle.rtrb.specs.declared.producer.Producer.{Producer}
@@ -14,9 +14,9 @@ use Rattle.link_pump.specs.declared.cause.Cause.{Cause}
 use Rattle.link_pump.specs.declared.outlet.Outlet.{Outlet}
 use Rattle.link_pump.specs.declared.rings.FromLink.{FromLink}
 use Rattle.link_pump.specs.declared.rings.ToLink.{ToLink}
-use Rattle.link_pump.specs.declared.rings.ToLink.TheVariants.{Begun, SessionOver}
+use Rattle.link_pump.specs.declared.rings.ToLink.TheVariants.{Begun}
 use Rattle.link_pump.specs.Outlets.{Delivered}
-use Rattle.link_pump.specs.Rings.{heard_in, cause_in, lines_in, finishes}
+use Rattle.link_pump.specs.Rings.{heard_in, cause_in, lines_in, finishes, marked_last}
 use Rattle.link_pump.specs.Ends.{meaning_of}
 use Rattle.link_pump.specs.Sides.{IsSide, Passes, end_in_two}
 use Rattle.link_pump.proofs.Ringing.{heard_nothing, lines_of_begun}
@@ -31,19 +31,18 @@ use Rattle.duo_run.specs.Connections.{Carries, Applies}
 module _ (ma mb : Consumer FromLink Global AnyItems) (la lb : Producer ToLink Global AnyItems) (over after : Option Cause) (idles later : ℕ) (shut still : Bool)
     (journal : List Event) (unapplied pushed kept : List (List ℕ)) (end : End)
     (carries : Carries (meaning_of ma la over idles shut) (meaning_of mb lb after later still) journal unapplied pushed kept end) where
-  pub side_left : (final : Producer ToLink Global AnyItems) → received ma ≡ [] → sent la ≡ Begun ∷ [] → over ≡ None → cause_in (received mb) ≡ after → finishes (sent lb) ≡ false
-      → sent final ≡ sent lb ++ SessionOver ∷ [] → length unapplied ≤ 1 → IsSide mb final (requests_of journal) unapplied pushed end
-  side_left final none begun free marked going ended few =
+  pub side_left : (final : Producer ToLink Global AnyItems) → received ma ≡ [] → sent la ≡ Begun ∷ [] → over ≡ None → cause_in (received mb) ≡ after → lines_in (sent final) ≡ lines_in (sent lb)
+      → (finishes (sent final) ≡ true) × (marked_last (sent final) ≡ true) → length unapplied ≤ 1 → IsSide mb final (requests_of journal) unapplied pushed end
+  side_left final none begun free marked same last few =
       let told = told_messages ma mb (heard_in (received mb)) (heard_in (received ma) ++ (requests_of journal ++ unapplied)) carries.read in
       let made = told_lines la lb (lines_in (sent lb)) (lines_in (sent la) ++ pushed) carries.sent_is in
       record {
         read = told.rest ∙ ap (λ l. l ++ (requests_of journal ++ unapplied)) (ap heard_in none ∙ heard_nothing);
         few = few;
         all_applied = carries.all_applied;
-        front = sent lb;
-        ended = ended;
-        going = going;
-        pushed_are = made.rest ∙ ap (λ l. l ++ pushed) (ap lines_in begun ∙ lines_of_begun);
+        ended = last.0;
+        once = last.1;
+        pushed_are = same ∙ made.rest ∙ ap (λ l. l ++ pushed) (ap lines_in begun ∙ lines_of_begun);
         closed = λ e. marked ∙ closed_once after (rw free at (carries.closed e));
         failed = λ e. marked ∙ broke_once after (rw free at (carries.failed e));
       }

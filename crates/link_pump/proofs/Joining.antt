@@ -1,5 +1,5 @@
 -- What the two sides have done together, once both ends of each ring are in one thread.
-use Rattle.std.proofs.Common.{◌≡◌, ◌≢◌, ◌≤◌, ◌+◌, ◌⊎◌, inl, inr, arith, ℕ, suc, Bool, true, false, List, [], ◌∷◌, ◌++◌, length, Option, None, Some, MatchOption, option_to_list, refl, sym, ◌∙◌, ap, subst, append_assoc, append-nil}
+use Rattle.std.proofs.Common.{◌≡◌, ◌≢◌, ◌≤◌, ◌+◌, ◌⊎◌, inl, inr, arith, ℕ, suc, true, false, List, [], ◌∷◌, ◌++◌, length, Option, None, Some, MatchOption, option_to_list, refl, sym, ◌∙◌, ap, subst, append_assoc, append-nil}
 use Rattle.std.proofs.lemmas.List.{length-append, nil_from_length}
 use Rattle.std.specs.declared.alloc.Global.{Global}
 use Rattle.io_edge.specs.Faults.{Rose}
@@ -18,13 +18,13 @@ use Rattle.link_pump.specs.declared.pump.Pump.{Pump}
 use Rattle.link_pump.specs.declared.rings.FromLink.{FromLink}
 use Rattle.link_pump.specs.declared.rings.FromLink.TheVariants.{Message, LinkOver}
 use Rattle.link_pump.specs.declared.rings.ToLink.{ToLink}
-use Rattle.link_pump.specs.declared.rings.ToLink.TheVariants.{Begun, Line, SessionOver}
+use Rattle.link_pump.specs.declared.rings.ToLink.TheVariants.{Begun, Line, SessionOver, ClientOver}
 use Rattle.link_pump.specs.Outlets.{Delivered, Lasts}
-use Rattle.link_pump.specs.Rings.{heard_in, as_heard, cause_in, mark_of, lines_in, begins, finishes}
+use Rattle.link_pump.specs.Rings.{heard_in, as_heard, cause_in, mark_of, lines_in, begins, finishes, marked_last}
 use Rattle.link_pump.specs.Ends.{closes, breaks}
 use Rattle.link_pump.specs.Pumps.{Pumped}
 use Rattle.link_pump.specs.Sides.{IsSide, Passes, end_in_two}
-use Rattle.link_pump.proofs.Ringing.{heard_append, heard_nothing, lines_over}
+use Rattle.link_pump.proofs.Ringing.{heard_append, heard_nothing}
 use Rattle.link_pump.proofs.Pumping.{told_on}
 
 -- ---- how often it was closed and broke
@@ -43,20 +43,17 @@ broke_once (Some cause.NoMemory) h = absurd (omega arith)
 
 -- ---- what is left in the rings
 
--- a side that popped the mark that the session is over popped all that was pushed
-finishes_whole : (xs ys front : List ToLink) → xs ++ ys ≡ front ++ SessionOver ∷ [] → finishes xs ≡ true → finishes front ≡ false → ys ≡ []
-unfolding finishes
-finishes_whole [] ys front e over goes = absurd (let bad : false ≡ true = over in cc)
-finishes_whole (x ∷ xs) [] front e over goes = refl
-finishes_whole (x ∷ []) (y ∷ ys) [] e over goes = absurd (let bad : y ∷ ys ≡ [] = cc in cc)
-finishes_whole (x ∷ x' ∷ xs) (y ∷ ys) [] e over goes = absurd (let bad : x' ∷ (xs ++ y ∷ ys) ≡ [] = cc in cc)
-finishes_whole (Line u ∷ xs) ys (Line v ∷ front) e over goes = finishes_whole xs ys front (let t : xs ++ ys ≡ front ++ SessionOver ∷ [] = cc in t) over goes
-finishes_whole (Begun ∷ xs) ys (Begun ∷ front) e over goes = finishes_whole xs ys front (let t : xs ++ ys ≡ front ++ SessionOver ∷ [] = cc in t) over goes
-finishes_whole (x ∷ xs) ys (SessionOver ∷ front) e over goes = absurd (let bad : true ≡ false = goes in cc)
-finishes_whole (Line u ∷ xs) ys (Begun ∷ front) e over goes = absurd (let bad : Line u ≡ Begun = cc in cc)
-finishes_whole (Begun ∷ xs) ys (Line v ∷ front) e over goes = absurd (let bad : Begun ≡ Line v = cc in cc)
-finishes_whole (SessionOver ∷ xs) ys (Line v ∷ front) e over goes = absurd (let bad : SessionOver ≡ Line v = cc in cc)
-finishes_whole (SessionOver ∷ xs) ys (Begun ∷ front) e over goes = absurd (let bad : SessionOver ≡ Begun = cc in cc)
+-- a side that popped a last mark popped all that was pushed
+finishes_whole : (xs ys : List ToLink) → marked_last (xs ++ ys) ≡ true → finishes xs ≡ true → ys ≡ []
+unfolding finishes marked_last
+finishes_whole [] ys once over = absurd (let bad : false ≡ true = over in cc)
+finishes_whole (x ∷ xs) [] once over = refl
+finishes_whole (Begun ∷ xs) (y ∷ ys) once over = finishes_whole xs (y ∷ ys) once over
+finishes_whole (Line u ∷ xs) (y ∷ ys) once over = finishes_whole xs (y ∷ ys) once over
+finishes_whole (SessionOver ∷ []) (y ∷ ys) once over = absurd (let bad : false ≡ true = once in cc)
+finishes_whole (SessionOver ∷ x ∷ xs) (y ∷ ys) once over = absurd (let bad : false ≡ true = once in cc)
+finishes_whole (ClientOver ∷ []) (y ∷ ys) once over = absurd (let bad : false ≡ true = once in cc)
+finishes_whole (ClientOver ∷ x ∷ xs) (y ∷ ys) once over = absurd (let bad : false ≡ true = once in cc)
 
 no_rest : {A : Type 0} (xs ys : List A) → xs ++ ys ≡ [] → ys ≡ []
 no_rest [] ys e = e
@@ -82,6 +79,7 @@ never_begun (SessionOver ∷ []) ys e = refl
 never_begun (SessionOver ∷ x ∷ xs) ys e = absurd (let bad : x ∷ (xs ++ ys) ≡ [] = cc in cc)
 never_begun (Line t ∷ xs) ys e = absurd (let bad : Line t ≡ SessionOver = cc in cc)
 never_begun (Begun ∷ xs) ys e = absurd (let bad : Begun ≡ SessionOver = cc in cc)
+never_begun (ClientOver ∷ xs) ys e = absurd (let bad : ClientOver ≡ SessionOver = cc in cc)
 
 -- a side that was told at once that the session is over left the link as it was
 pub unread : {L : Type 0} (start now : Meaning) (back : Pump L) (left all : List ToLink) → received back.lines ++ left ≡ all → all ≡ SessionOver ∷ [] → Pumped start now back → now ≡ start
@@ -144,9 +142,9 @@ module _ {L : Type 0} (start now next : Meaning) (back : Pump L) (o : Outlet L) 
     (pump : Pumped start now back) (side : IsSide messages lines asked unapplied pushed end) where
   made_are : lines_in (received back.lines) ≡ pushed
   made_are =
-      let none : left ≡ [] = finishes_whole (received back.lines) left side.front (lines_are ∙ side.ended) over side.going in
-      let whole : received back.lines ≡ side.front ++ SessionOver ∷ [] = sym (append-nil (received back.lines)) ∙ ap (λ l. received back.lines ++ l) (sym none) ∙ lines_are ∙ side.ended in
-      ap lines_in whole ∙ lines_over side.front ∙ side.pushed_are
+      let none : left ≡ [] = finishes_whole (received back.lines) left (ap marked_last lines_are ∙ side.once) over in
+      let whole : received back.lines ≡ sent lines = sym (append-nil (received back.lines)) ∙ ap (λ l. received back.lines ++ l) (sym none) ∙ lines_are in
+      ap lines_in whole ∙ side.pushed_are
 
   pub told : Delivered start next o (pushed ++ kept)
   told = subst (λ l. Delivered start next o (l ++ kept)) made_are (delivers (lines_in (received back.lines)) pump.delivered)

@@ -13,11 +13,11 @@ use Rattle.link_pump.specs.declared.cause.Cause.TheVariants.{Closed, Failed, NoM
 use Rattle.link_pump.specs.declared.rings.FromLink.{FromLink}
 use Rattle.link_pump.specs.declared.rings.FromLink.TheVariants.{Message, LinkOver}
 use Rattle.link_pump.specs.declared.rings.ToLink.{ToLink}
-use Rattle.link_pump.specs.declared.rings.ToLink.TheVariants.{Line}
+use Rattle.link_pump.specs.declared.rings.ToLink.TheVariants.{Line, ClientOver}
 use Rattle.link_pump.specs.Rings.{heard_in, lines_in}
 use Rattle.link_pump.specs.Names.{place_of, ring_of_consumer, ring_of_producer}
 use Rattle.link_pump.specs.Ends.{over_as, meaning_of}
-use Rattle.link_pump.proofs.Ringing.{heard_message, heard_mark, lines_line}
+use Rattle.link_pump.proofs.Ringing.{heard_message, heard_mark, lines_line, lines_left}
 use denote.RawPtr.{Ptr, block_ptr, null_ptr}
 
 abbrev Messages : Type 0
@@ -140,3 +140,10 @@ line_pushed messages a b over idles shut t same e = record {
   counts = record { faults = omega arith; idles = omega arith; ends = omega arith };
   shut = refl;
 }
+
+-- the mark that the client has left changes nothing of what is told
+pub left_pushed : (messages : Messages) (a b : Lines) (over : Option Cause) (idles : ℕ) (shut : Bool) → SameProducer a b → sent b ≡ sent a ++ ClientOver ∷ []
+    → meaning_of messages b over idles shut ≡ meaning_of messages a over idles shut
+left_pushed messages a b over idles shut same e =
+    let told : ring_of_producer b ++ lines_in (sent b) ≡ ring_of_producer a ++ lines_in (sent a) = ap₂ (λ r l. r ++ l) (ring_stays_too a b same) (ap lines_in e ∙ lines_left (sent a)) in
+    ap (λ l. record (meaning_of messages a over idles shut) { sent = Some l }) told

@@ -16,11 +16,11 @@ use Rattle.link_pump.specs.declared.pump.Pump.{Pump}
 use Rattle.link_pump.specs.declared.rings.FromLink.{FromLink}
 use Rattle.link_pump.specs.declared.rings.FromLink.TheVariants.{Message, LinkOver}
 use Rattle.link_pump.specs.declared.rings.ToLink.{ToLink}
-use Rattle.link_pump.specs.declared.rings.ToLink.TheVariants.{Begun, Line, SessionOver}
+use Rattle.link_pump.specs.declared.rings.ToLink.TheVariants.{Begun, Line, SessionOver, ClientOver}
 use Rattle.link_pump.specs.Outlets.{Delivered, Lasts}
-use Rattle.link_pump.specs.Rings.{heard_in, as_heard, mark_of, lines_in, begins}
+use Rattle.link_pump.specs.Rings.{heard_in, as_heard, mark_of, lines_in, begins, client_left}
 use Rattle.link_pump.specs.Pumps.{Pumped}
-use Rattle.link_pump.proofs.Ringing.{heard_message, heard_mark, heard_nothing, as_heard_more, as_heard_nothing, lines_line, lines_begun, lines_over, lines_nothing, begins_line, begins_begun, begins_over}
+use Rattle.link_pump.proofs.Ringing.{heard_message, heard_mark, heard_nothing, as_heard_more, as_heard_nothing, lines_line, lines_begun, lines_over, lines_left, lines_nothing, begins_line, begins_begun, begins_over, begins_left, left_line, left_begun, left_over, left_left, left_nothing}
 use Rattle.link_pump.proofs.Sending.{nothing_grown}
 
 no_mark : (marked : Option Cause) (held : Option (List ℕ)) (t : List ℕ) → held ≡ Some t → ((c : Cause) → marked ≡ Some c → held ≡ None) → mark_of marked ≡ []
@@ -59,9 +59,9 @@ module _ {L : Type 0} where
     failed = λ over. absurd (let bad : None ≡ Some cause.Failed = sym free ∙ over in cc);
   }
 
-  pub pump_fresh : (start : Meaning) (p : Pump L) → sent p.messages ≡ [] → received p.lines ≡ [] → p.held ≡ None → p.marked ≡ None → p.begun ≡ false
+  pub pump_fresh : (start : Meaning) (p : Pump L) → sent p.messages ≡ [] → received p.lines ≡ [] → p.held ≡ None → p.marked ≡ None → p.begun ≡ false → p.left ≡ false
       → Delivered start start p.outlet [] → Pumped start start p
-  pump_fresh start p none_pushed none_popped free unmarked idle delivered = record {
+  pump_fresh start p none_pushed none_popped free unmarked idle stays delivered = record {
     read = rw (none_pushed, free, heard_nothing) (nothing_grown start.received);
     delivered = rw (none_popped, lines_nothing) delivered;
     feed = rw (none_pushed, heard_nothing, as_heard_nothing, unmarked) refl;
@@ -69,6 +69,7 @@ module _ {L : Type 0} where
     settled = λ c e. free;
     begun = λ e. absurd (let bad : false ≡ true = sym idle ∙ e in cc);
     untouched = λ e. refl;
+    left = rw (none_popped, left_nothing) stays;
   }
 
   pub held_pushed : (start now : Meaning) (p : Pump L) (ms : Producer FromLink Global AnyItems) (held : Option (List ℕ)) (t : List ℕ) → p.held ≡ Some t → sent ms ≡ sent p.messages ++ Message t ∷ [] → held ≡ None
@@ -85,6 +86,7 @@ module _ {L : Type 0} where
         settled = λ c e. gone;
         begun = was.begun;
         untouched = was.untouched;
+        left = was.left;
       }
 
   pub mark_pushed : (start now : Meaning) (p : Pump L) (ms : Producer FromLink Global AnyItems) (c : Cause) → p.held ≡ None → p.outlet.over ≡ Some c → p.marked ≡ None → sent ms ≡ sent p.messages ++ LinkOver c ∷ []
@@ -100,6 +102,7 @@ module _ {L : Type 0} where
         settled = λ d e. free;
         begun = was.begun;
         untouched = was.untouched;
+        left = was.left;
       }
 
   -- nothing was pushed
@@ -112,6 +115,7 @@ module _ {L : Type 0} where
     settled = rw kept was.settled;
     begun = was.begun;
     untouched = was.untouched;
+    left = was.left;
   }
 
   pub polled_once : (start now next : Meaning) (p : Pump L) (o : Outlet L) (held : Option (List ℕ)) → p.begun ≡ true → p.outlet.over ≡ None → p.held ≡ None → Appends now.received next.received (message_in held)
@@ -126,6 +130,7 @@ module _ {L : Type 0} where
         settled = λ c e. absurd (let bad : None ≡ Some c = sym unmarked ∙ e in cc);
         begun = was.begun;
         untouched = λ e. absurd (let bad : true ≡ false = sym (was.begun begun) ∙ e in cc);
+        left = was.left;
       }
 
   pub line_taken : (start now next : Meaning) (p : Pump L) (ls : Consumer ToLink Global AnyItems) (o : Outlet L) (t : List ℕ) → received ls ≡ received p.lines ++ Line t ∷ [] → Lasts p.outlet.over o.over → next.received ≡ now.received
@@ -140,6 +145,7 @@ module _ {L : Type 0} where
         settled = was.settled;
         begun = λ e. begun;
         untouched = λ e. absurd (let bad : true ≡ false = sym begun ∙ e in cc);
+        left = was.left ∙ sym (ap client_left popped ∙ left_line (received p.lines) t);
       }
 
   pub begun_taken : (start now : Meaning) (p : Pump L) (ls : Consumer ToLink Global AnyItems) → received ls ≡ received p.lines ++ Begun ∷ [] → Pumped start now p → Pumped start now (record p { lines = ls; begun = true })
@@ -153,6 +159,7 @@ module _ {L : Type 0} where
         settled = was.settled;
         begun = λ e. begun;
         untouched = λ e. absurd (let bad : true ≡ false = sym begun ∙ e in cc);
+        left = was.left ∙ sym (ap client_left popped ∙ left_begun (received p.lines));
       }
 
   pub over_taken : (start now : Meaning) (p : Pump L) (ls : Consumer ToLink Global AnyItems) → received ls ≡ received p.lines ++ SessionOver ∷ [] → Pumped start now p → Pumped start now (record p { lines = ls })
@@ -166,6 +173,21 @@ module _ {L : Type 0} where
         settled = was.settled;
         begun = λ e. same ∙ was.begun e;
         untouched = λ e. was.untouched (sym same ∙ e);
+        left = was.left ∙ sym (ap client_left popped ∙ left_over (received p.lines));
+      }
+
+  pub client_taken : (start now : Meaning) (p : Pump L) (ls : Consumer ToLink Global AnyItems) → received ls ≡ received p.lines ++ ClientOver ∷ [] → Pumped start now p → Pumped start now (record p { lines = ls; left = true })
+  client_taken start now p ls popped was =
+      let same : begins (received ls) ≡ begins (received p.lines) = ap begins popped ∙ begins_left (received p.lines) in
+      record {
+        read = was.read;
+        delivered = rw (popped, lines_left) was.delivered;
+        feed = was.feed;
+        told = was.told;
+        settled = was.settled;
+        begun = λ e. same ∙ was.begun e;
+        untouched = λ e. was.untouched (sym same ∙ e);
+        left = sym (ap client_left popped ∙ left_left (received p.lines));
       }
 
   pub nothing_taken : (start now : Meaning) (p : Pump L) (ls : Consumer ToLink Global AnyItems) → received ls ≡ received p.lines → Pumped start now p → Pumped start now (record p { lines = ls })
@@ -177,4 +199,5 @@ module _ {L : Type 0} where
     settled = was.settled;
     begun = rw same was.begun;
     untouched = rw same was.untouched;
+    left = was.left ∙ sym (ap client_left same);
   }

@@ -1,5 +1,5 @@
 -- What was sent of the lines made, step by step.
-use Rattle.std.proofs.Common.{◌≡◌, ◌≢◌, arith, ℕ, List, [], ◌∷◌, ◌++◌, Option, None, Some, refl, sym, ◌∙◌, ap, append_assoc, append-nil, Vec, inl, inr}
+use Rattle.std.proofs.Common.{◌≡◌, ◌≢◌, arith, ℕ, false, List, [], ◌∷◌, ◌++◌, Option, None, Some, refl, sym, ◌∙◌, ap, append_assoc, append-nil, Vec, inl, inr}
 use Rattle.io_edge.specs.Faults.{Rose}
 use Rattle.io_edge.specs.Taken.{Appends}
 use Rattle.io_edge.proofs.Growth.{grown_twice}
@@ -7,7 +7,7 @@ use Rattle.link_edge.specs.Links.{Meaning, NoneFell, AfterSend}
 use Rattle.link_pump.specs.declared.cause.Cause.{Cause}
 use Rattle.link_pump.specs.declared.cause.Cause.TheVariants as cause
 use Rattle.link_pump.specs.declared.outlet.Outlet.{Outlet}
-use Rattle.link_pump.specs.Outlets.{Delivered, Lasts}
+use Rattle.link_pump.specs.Outlets.{Delivered, Lasts, opened}
 
 pub none_fell : (a b c : Meaning) → NoneFell a b → NoneFell b c → NoneFell a c
 none_fell a b c p q = record { faults = omega (arith, p.faults, q.faults); idles = omega (arith, p.idles, q.idles); ends = omega (arith, p.ends, q.ends) }
@@ -22,6 +22,10 @@ no_starving over e f = let bad : None ≡ Some cause.NoMemory = sym e ∙ f in c
 -- a list that grew by nothing
 pub still_grown : {A : Type 0} (old mid new : Option (List A)) (xs : List A) → Appends old mid xs → Appends mid new [] → Appends old new xs
 still_grown old mid new xs p q = rw (append-nil xs) at (grown_twice old mid new xs [] p q)
+
+-- a link that is not shut is as it was before it is shut
+pub opened_same : (a : Meaning) → a.shut ≡ false → opened a ≡ a
+opened_same a e = ap (λ b. record a { shut = b }) (sym e)
 
 -- ---- why it is over
 

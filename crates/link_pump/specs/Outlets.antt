@@ -1,5 +1,5 @@
 -- What was sent over a link of the lines made for it, and why a link is no longer used.
-use Rattle.std.specs.Prelude.{◌≡◌, ◌≢◌, ◌⊎◌, ℕ, List, [], ◌∷◌, ◌++◌, Option, None, Some}
+use Rattle.std.specs.Prelude.{◌≡◌, ◌≢◌, ◌⊎◌, ℕ, false, List, [], ◌∷◌, ◌++◌, Option, None, Some}
 use Rattle.io_edge.specs.Faults.{Rose}
 use Rattle.io_edge.specs.Taken.{Appends}
 use Rattle.link_edge.specs.Links.{Meaning, NoneFell}
@@ -17,6 +17,10 @@ pub record Delivered {L : Type 0} (start now : Meaning) (o : Outlet L) (made : L
   pub shut : now.shut ≡ start.shut
   pub closed : o.over ≡ Some Closed → Rose start.ends now.ends
   pub failed : o.over ≡ Some Failed → Rose start.faults now.faults
+
+-- the same of a link that is shut, as it was before
+abbrev pub opened : Meaning → Meaning
+opened link = record link { shut = false }
 
 -- what a poll without a message adds to the polls: nothing has come, where the link is still in use
 abbrev pub polled_without : Option Cause → List (Option (List ℕ))

@@ -1,5 +1,5 @@
 -- The two rings when they are new, what the session's side of a link leaves of them, and what passed through the link.
-use Rattle.std.specs.Prelude.{◌≡◌, ◌≢◌, ◌≤◌, ◌⊎◌, ℕ, false, List, [], ◌∷◌, ◌++◌, Option, None, Some, length, Vec, vec_capacity}
+use Rattle.std.specs.Prelude.{◌≡◌, ◌≢◌, ◌≤◌, ◌⊎◌, ℕ, true, List, [], ◌++◌, Option, None, Some, length, Vec, vec_capacity}
 use Rattle.std.specs.declared.alloc.Global.{Global}
 use Rattle.io_edge.specs.Faults.{Rose}
 use Rattle.io_edge.specs.Taken.{Appends}
@@ -14,8 +14,7 @@ use Rattle.link_pump.specs.declared.cause.Cause.{Cause}
 use Rattle.link_pump.specs.declared.cause.Cause.TheVariants as cause
 use Rattle.link_pump.specs.declared.rings.FromLink.{FromLink}
 use Rattle.link_pump.specs.declared.rings.ToLink.{ToLink}
-use Rattle.link_pump.specs.declared.rings.ToLink.TheVariants.{SessionOver}
-use Rattle.link_pump.specs.Rings.{heard_in, cause_in, lines_in, finishes}
+use Rattle.link_pump.specs.Rings.{heard_in, cause_in, lines_in, finishes, marked_last}
 
 -- nothing was pushed, the ring of messages has 64 places, and there is room for 66 messages
 pub record AreFresh (messages : Producer FromLink Global AnyItems) (from_link : Consumer FromLink Global AnyItems) (to_link : Producer ToLink Global AnyItems) (lines : Consumer ToLink Global AnyItems)
@@ -27,16 +26,15 @@ pub record AreFresh (messages : Producer FromLink Global AnyItems) (from_link : 
   pub places : consumer_capacity from_link ≡ 64
   pub room : (unapplied.items ≡ []) × (66 ≤ vec_capacity unapplied)
 
--- the messages that were popped are those that were asked, and then those that were not applied; the lines were pushed, and then the
--- mark that the session is over; and the link was closed or broken where the mark that was popped says so
+-- the messages that were popped are those that were asked, and then those that were not applied; the lines were pushed, and then one
+-- last mark; and the link was closed or broken where the mark that was popped says so
 pub record IsSide (messages : Consumer FromLink Global AnyItems) (lines : Producer ToLink Global AnyItems) (asked unapplied pushed : List (List ℕ)) (end : End) : Type 0 where
   pub read : heard_in (received messages) ≡ asked ++ unapplied
   pub few : length unapplied ≤ 1
   pub all_applied : end ≢ ends.Bye → end ≢ ends.NoMemory → unapplied ≡ []
-  pub front : List ToLink
-  pub ended : sent lines ≡ front ++ SessionOver ∷ []
-  pub going : finishes front ≡ false
-  pub pushed_are : lines_in front ≡ pushed
+  pub ended : finishes (sent lines) ≡ true
+  pub once : marked_last (sent lines) ≡ true
+  pub pushed_are : lines_in (sent lines) ≡ pushed
   pub closed : end ≡ ends.Closed → cause_in (received messages) ≡ Some cause.Closed
   pub failed : end ≡ ends.Failed → cause_in (received messages) ≡ Some cause.Failed
 

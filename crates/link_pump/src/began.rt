@@ -43,6 +43,7 @@ pub fn unread<L: Link>(back: Pump<L>, to_link: Producer<ToLink>) -> L
         held: _,
         marked: _,
         begun: _,
+        left: _,
         alloc: _,
     } = back;
     let mut to_link = to_link;

@@ -4,7 +4,7 @@ ghost use Rattle.std.specs.Prelude.{◌≡◌, ◌≤◌, ◌<◌, ◌+◌, ◌+
 ghost use Rattle.rtrb.specs.Ring.{received, known_items, consumer_capacity, IsPair};
 ghost use Rattle.link_edge.specs.Links.{Meaning, message_in};
 ghost use Rattle.link_edge.specs.declared.answers.End.{End};
-ghost use Rattle.link_pump.specs.Outlets.{Delivered};
+ghost use Rattle.link_pump.specs.Outlets.{Delivered, opened};
 ghost use Rattle.link_pump.specs.Rings.{heard_in, finishes};
 ghost use Rattle.link_pump.specs.Sides.{IsSide, Passes, end_in_two};
 ghost use Rattle.link_pump.specs.Pumps.{Pumped};
@@ -88,7 +88,56 @@ pub fn end_in_two(end: End, over: Option<Cause>) -> End
 
 /// Puts the half of a link together with what the session's side left of its rings: the message that it popped and did not apply, and the
 /// lines that it could not push, which are delivered last, as all others are. What is left in the ring of messages, and the message that
-/// is held, go to those that are not applied.
+/// is held, go to those that are not applied. A link that its own side has shut, since its client has left, is sent nothing more.
+pub fn gather_shut<L: Link>(
+    back: Pump<L>,
+    messages: Consumer<FromLink>,
+    lines: Producer<ToLink>,
+    first: Vec<Listed<u8>>,
+    kept: Vec<Listed<u8>>,
+    unapplied: Vec<Listed<u8>>,
+) -> Gathered<L>
+    requires messages { IsPair back.messages messages }
+    requires lines { IsPair lines back.lines }
+    requires over { finishes (received back.lines) ≡ true }
+    requires places { consumer_capacity messages ≡ 64 }
+    requires room { (unapplied.items ≡ []) × (66 ≤ vec_capacity unapplied) }
+    requires few { length first.items ≤ 1 }
+
+    // By what was asked of the messages that were popped, and the lines that were pushed.
+    ensures passes { (start : Meaning) (asked pushed : List (List ℕ)) (end : End) → Pumped start (opened (L.meaning back.outlet.link)) back
+        → IsSide messages lines asked first.items pushed end → Passes start
+        (opened (L.meaning result.outlet.link)) asked result.unapplied.items result.outlet.sent.items result.outlet.unsent.items
+        (end_in_two end result.outlet.over) }
+    ensures told { (start : Meaning) (asked pushed : List (List ℕ)) (end : End) → Pumped start (opened (L.meaning back.outlet.link)) back
+        → IsSide messages lines asked first.items pushed end
+        → Delivered start (opened (L.meaning result.outlet.link)) result.outlet (pushed ++ kept.items) }
+    ensures shut { (L.meaning result.outlet.link).shut ≡ (L.meaning back.outlet.link).shut }
+{
+    let Pump {
+        mut outlet,
+        messages: mut pushed,
+        lines: mut popped,
+        held,
+        marked: _,
+        begun: _,
+        left: _,
+        alloc,
+    } = back;
+    let mut messages = messages;
+    let mut lines = lines;
+    popped.slots_beside(&mut lines);
+    let left = messages.slots_beside(&mut pushed);
+    let mut unapplied = unapplied;
+    keep(only(first), &mut unapplied);
+    drain(&mut messages, left, &mut unapplied);
+    keep(held, &mut unapplied);
+    outlet.deliver_last(alloc, kept);
+    Gathered { outlet, unapplied }
+}
+
+/// Puts the half of a link together as `gather_shut` does, where the link is not shut: lines that the session's side could not push are
+/// delivered.
 pub fn gather<L: Link>(
     back: Pump<L>,
     messages: Consumer<FromLink>,
@@ -113,23 +162,5 @@ pub fn gather<L: Link>(
     ensures told { (start : Meaning) (asked pushed : List (List ℕ)) (end : End) → Pumped start (L.meaning back.outlet.link) back
         → IsSide messages lines asked first.items pushed end → Delivered start (L.meaning result.outlet.link) result.outlet (pushed ++ kept.items) }
 {
-    let Pump {
-        mut outlet,
-        messages: mut pushed,
-        lines: mut popped,
-        held,
-        marked: _,
-        begun: _,
-        alloc,
-    } = back;
-    let mut messages = messages;
-    let mut lines = lines;
-    popped.slots_beside(&mut lines);
-    let left = messages.slots_beside(&mut pushed);
-    let mut unapplied = unapplied;
-    keep(only(first), &mut unapplied);
-    drain(&mut messages, left, &mut unapplied);
-    keep(held, &mut unapplied);
-    outlet.deliver_all(alloc, kept);
-    Gathered { outlet, unapplied }
+    gather_shut(back, messages, lines, first, kept, unapplied)
 }

@@ -22,7 +22,7 @@ mod rings;
 pub use began::{Began, unread};
 pub use cause::Cause;
 pub use ends::Ends;
-pub use gathering::{Gathered, end_in_two, gather};
+pub use gathering::{Gathered, end_in_two, gather, gather_shut};
 pub use outlet::Outlet;
 pub use pump::Pump;
 pub use rest::Rest;

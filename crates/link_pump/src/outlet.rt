@@ -20,12 +20,13 @@ impl<L: Link> Outlet<L> {
     ghost use Rattle.std.specs.Prelude.{◌≡◌, ◌≢◌, ◌++◌, [], ◌∷◌, List, ℕ, None, Some, false, IfOk, IfSome, IfNone, OnSome};
     ghost use Rattle.io_edge.specs.Taken.{Appends};
     ghost use Rattle.link_edge.specs.Links.{Meaning};
-    ghost use Rattle.link_pump.specs.Outlets.{Delivered, Lasts, polled_without};
+    ghost use Rattle.link_pump.specs.Outlets.{Delivered, Lasts, opened, polled_without};
 
     /// Memory ran out, and so these lines are lost, however many they are.
     pub fn lose(&mut self)
         ensures keeps { (start : Meaning) (made more : List (List ℕ)) → Delivered start (L.meaning self.old.link) self.old made
             → Delivered start (L.meaning self.new.link) self.new (made ++ more) }
+        ensures any { (start now : Meaning) (made more : List (List ℕ)) → Delivered start now self.old made → Delivered start now self.new (made ++ more) }
         ensures link { L.meaning self.new.link ≡ L.meaning self.old.link }
         ensures over { self.new.over ≡ Some Cause.NoMemory }
     {
@@ -37,6 +38,7 @@ impl<L: Link> Outlet<L> {
         requires { self.old.over ≢ None }
         ensures keeps { (start : Meaning) (made : List (List ℕ)) → Delivered start (L.meaning self.old.link) self.old made
             → Delivered start (L.meaning self.new.link) self.new (made ++ text ∷ []) }
+        ensures any { (start now : Meaning) (made : List (List ℕ)) → Delivered start now self.old made → Delivered start now self.new (made ++ text ∷ []) }
         ensures link { L.meaning self.new.link ≡ L.meaning self.old.link }
         ensures over { Lasts self.old.over self.new.over }
     {
@@ -99,9 +101,49 @@ impl<L: Link> Outlet<L> {
             → Delivered start (L.meaning self.new.link) self.new (made ++ texts.items) }
         ensures received { (L.meaning self.new.link).received ≡ (L.meaning self.old.link).received }
         ensures over { Lasts self.old.over self.new.over }
+        ensures shut { (L.meaning self.new.link).shut ≡ false }
     {
         for text in texts {
             self.deliver(alloc, text);
+        }
+    }
+
+    /// Keeps a line of a link that is shut, where the link is over; else it is lost.
+    fn keep_or_lose(&mut self, text: Listed<u8>)
+        ensures any { (start now : Meaning) (made : List (List ℕ)) → Delivered start now self.old made → Delivered start now self.new (made ++ text ∷ []) }
+        ensures link { L.meaning self.new.link ≡ L.meaning self.old.link }
+        ensures over { Lasts self.old.over self.new.over }
+    {
+        if self.over.is_none() {
+            self.lose();
+            return;
+        }
+        self.keep(text);
+    }
+
+    /// Keeps lines of a link that is shut, in order, where the link is over; else they are lost.
+    fn keep_all(&mut self, texts: Vec<Listed<u8>>)
+        ensures any { (start now : Meaning) (made : List (List ℕ)) → Delivered start now self.old made → Delivered start now self.new (made ++ texts.items) }
+        ensures link { L.meaning self.new.link ≡ L.meaning self.old.link }
+        ensures over { Lasts self.old.over self.new.over }
+    {
+        for text in texts {
+            self.keep_or_lose(text);
+        }
+    }
+
+    /// Delivers the last lines, in order. Where the link is shut, none is sent.
+    pub fn deliver_last(&mut self, alloc: Global, texts: Vec<Listed<u8>>)
+        ensures keeps { (start : Meaning) (made : List (List ℕ)) → Delivered start (opened (L.meaning self.old.link)) self.old made
+            → Delivered start (opened (L.meaning self.new.link)) self.new (made ++ texts.items) }
+        ensures received { (L.meaning self.new.link).received ≡ (L.meaning self.old.link).received }
+        ensures over { Lasts self.old.over self.new.over }
+        ensures shut { (L.meaning self.new.link).shut ≡ (L.meaning self.old.link).shut }
+    {
+        if self.link.shut() {
+            self.keep_all(texts);
+        } else {
+            self.deliver_all(alloc, texts);
         }
     }
 

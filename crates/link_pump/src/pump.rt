@@ -17,7 +17,7 @@ use text_core::Listed;
 /// What a step came to.
 #[derive(Clone, Copy, PartialEq, Eq)]
 enum Stepped {
-    /// The mark was popped that the session is over.
+    /// A last mark was popped: the session is over, or the client has left.
     Over,
     /// Something was popped or read.
     Worked,
@@ -26,7 +26,7 @@ enum Stepped {
 }
 
 /// A link with what was sent over it, its ends of the two rings, the message that was read and not pushed yet, why the mark that the
-/// link is over says that it is, once it was pushed, and whether the session has begun.
+/// link is over says that it is, once it was pushed, whether the session has begun, and whether the client has left.
 #[derive(Drop)]
 pub struct Pump<L> {
     pub outlet: Outlet<L>,
@@ -35,6 +35,7 @@ pub struct Pump<L> {
     pub held: Option<Listed<u8>>,
     pub marked: Option<Cause>,
     pub begun: bool,
+    pub left: bool,
     pub alloc: Global,
 }
 
@@ -65,6 +66,7 @@ impl<L: Link> Pump<L> {
             held: None,
             marked: None,
             begun: false,
+            left: false,
             alloc,
         }
     }
@@ -88,6 +90,10 @@ impl<L: Link> Pump<L> {
                 Stepped::Worked
             }
             Ok(ToLink::SessionOver) => Stepped::Over,
+            Ok(ToLink::ClientOver) => {
+                self.left = true;
+                Stepped::Over
+            }
             Err(_) => Stepped::Idle,
         }
     }
@@ -141,7 +147,7 @@ impl<L: Link> Pump<L> {
         self.held.is_some()
     }
 
-    /// One step: at most one item, one push and one poll. Where the session is over, nothing more is done.
+    /// One step: at most one item, one push and one poll. Where the session is over, or the client has left, nothing more is done.
     fn step(&mut self) -> Stepped
         requires { (L.meaning self.old.outlet.link).shut ≡ false }
         ensures keeps { (start : Meaning) → Pumped start (L.meaning self.old.outlet.link) self.old → Pumped start (L.meaning self.new.outlet.link) self.new }
@@ -162,7 +168,7 @@ impl<L: Link> Pump<L> {
         taken
     }
 
-    /// Serves the link, until the session is over. After steps in which there was nothing to do, it rests.
+    /// Serves the link, until the session is over, or the client has left. After steps in which there was nothing to do, it rests.
     ///
     /// Where the session goes on, it waits, and may never return.
     pub fn serve<R: Wait>(

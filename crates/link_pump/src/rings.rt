@@ -28,6 +28,8 @@ pub enum ToLink {
     Line(Listed<u8>),
     /// The mark that the session is over.
     SessionOver,
+    /// The mark that the link's client has left, while the session goes on.
+    ClientOver,
 }
 
 /// Pushes an item. While the ring is full, it lets other threads run and tries again.

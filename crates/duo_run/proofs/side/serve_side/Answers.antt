@@ -8,5 +8,5 @@ returns-clause-side g c =
     let s = c.serve_lockstep-link.result in
     rw c.finish-messages.ensures.messages
     (side_left a.messages s.link.messages a.lines s.link.lines a.over s.link.over a.idles s.link.idles a.shut s.link.shut s.journal.items s.unapplied.items s.sent.items s.unsent.items s.end
-    c.serve_lockstep-link.ensures.carried c.finish-messages.result.1 (search rules) c.begin-ends.ensures.lines.1 c.begin-ends.ensures.over s.link.marked s.link.going c.finish-messages.ensures.lines.1
+    c.serve_lockstep-link.ensures.carried c.finish-messages.result.1 (search rules) c.begin-ends.ensures.lines.1 c.begin-ends.ensures.over s.link.marked c.finish-messages.ensures.lines.1 c.finish-messages.ensures.last
     c.serve_lockstep-link.ensures.few)

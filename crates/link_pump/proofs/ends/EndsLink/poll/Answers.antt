@@ -9,13 +9,13 @@ use Rattle.link_pump.proofs.ends.EndsLink.poll.Goals as goal
 pub invariant_of-self-in-Message-1 : goal.invariant_of-self-in-Message-1
 invariant_of-self-in-Message-1 g c =
     let popped : received c.pop.new.self ≡ received c.args.self.now.messages ++ Message c.in-Ok-Message.text ∷ [] = search rules in
-    record { marked = ap cause_in popped ∙ cause_message _ _ ∙ c.args.self.now.marked; going = c.args.self.now.going }
+    record { marked = ap cause_in popped ∙ cause_message _ _ ∙ c.args.self.now.marked; going = c.args.self.now.going; once = c.args.self.now.once }
 
 pub invariant_of-self-in-Ok-LinkOver : goal.invariant_of-self-in-Ok-LinkOver
 invariant_of-self-in-Ok-LinkOver g c =
     let popped : received c.pop.new.self ≡ received c.args.self.now.messages ++ LinkOver c.in-Ok-LinkOver.cause ∷ [] = search rules in
     let free : c.args.self.now.over ≡ None = search rules in
-    record { marked = ap cause_in popped ∙ cause_mark _ _ (c.args.self.now.marked ∙ free); going = c.args.self.now.going }
+    record { marked = ap cause_in popped ∙ cause_mark _ _ (c.args.self.now.marked ∙ free); going = c.args.self.now.going; once = c.args.self.now.once }
 
 pub returns-in-Ok-Message : goal.returns-in-Ok-Message
 returns-in-Ok-Message g c = record {

@@ -2,7 +2,7 @@ use Rattle.std.proofs.Common.{rules, ◌≡◌, ◌∷◌, ◌++◌, [], ◌∙�
 use Rattle.rtrb.specs.Ring.{sent}
 use Rattle.link_pump.specs.declared.rings.ToLink.TheVariants.{Line}
 use Rattle.link_pump.specs.Rings.{finishes}
-use Rattle.link_pump.proofs.Ringing.{finishes_line}
+use Rattle.link_pump.proofs.Ringing.{finishes_line, last_while}
 use Rattle.link_pump.proofs.Naming.{line_pushed}
 use Rattle.link_pump.proofs.ends.EndsLink.send.Goals as goal
 
@@ -10,6 +10,7 @@ pub invariant_of-self : goal.invariant_of-self
 invariant_of-self g c = record {
   marked = c.args.self.now.marked;
   going = ap finishes c.push_waiting.ensures.pushed ∙ finishes_line _ _ ∙ c.args.self.now.going;
+  once = last_while _ (ap finishes c.push_waiting.ensures.pushed ∙ finishes_line _ _ ∙ c.args.self.now.going ∙ (search rules));
 }
 
 pub returns-in-Ok-clause-ok : goal.returns-in-Ok-clause-ok
