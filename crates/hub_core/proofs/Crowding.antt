@@ -48,6 +48,12 @@ module _ {L : Type 0} (m : L → Meaning) where
       let here = same k (λ e. absurd (omega (arith, at, e))) in
       (rw (here.0, here.1) all.0, one_fit (suc k) p asked made asked' made' starts cs i x y (omega (arith, at)) (omega (arith, within)) all.1 step same)
 
+  -- one of them changed, but for what was asked and made
+  pub kept_at : (asked made : ℕ → List (List ℕ)) (starts : List Meaning) (cs : List (Client L)) (i : ℕ) (x y : Client L) → i < length cs → AllFit m 0 asked made starts cs
+      → ((a : Meaning) (qs ls : List (List ℕ)) → ClientFits a (m (get_or cs i x).outlet.link) (get_or cs i x) qs ls → ClientFits a (m y.outlet.link) y qs ls)
+      → AllFit m 0 asked made starts (set cs i y)
+  kept_at asked made starts cs i x y within all step = one_fit 0 i asked made asked made starts cs i x y (omega arith) within all (λ a was. step a (asked i) (made i) was) (λ j apart. (refl, refl))
+
   pub opened : (cs : List (Client L)) (i : ℕ) (y : Client L) → i < length cs → y.outlet.over ≡ None → open_at i (set cs i y) ≡ true
   unfolding open_at
   opened [] i y within free = absurd (omega (arith, within))

@@ -8,7 +8,7 @@ use Rattle.link_pump.specs.declared.cause.Cause.TheVariants.{Closed, Failed, NoM
 use Rattle.hub_core.specs.declared.client.Client.{Client}
 use Rattle.hub_core.specs.declared.served.ClientEnd.{ClientEnd}
 use Rattle.hub_core.specs.Clients.{ClientFits, HasPlace, AllFit, AllUsable}
-use Rattle.hub_core.specs.Ends.{end_of, client_end, shut_unless, ends_from, links_from, ClientServed, AllServed, AllOpen}
+use Rattle.hub_core.specs.Ends.{end_of, client_end, shut_unless, ends_from, links_from, ClientServed, AllServed, AllApplied, AllOpen}
 
 -- ---- ends, by why a link is over
 
@@ -65,7 +65,7 @@ module _ {L : Type 0} where
     sent_is = was.delivered.sent_is;
     all_sent = all_sent_of _ _ took c.outlet.over c.outlet.unsent.items was.delivered.unsent was.delivered.closed was.delivered.failed;
     read = was.read;
-    all_applied = λ fed. place.0 (end_fed took c.outlet.over fed);
+    all_applied = λ bye fed. place.0 (end_fed took c.outlet.over fed);
     bye = end_bye took c.outlet.over;
     took_leave = end_took took c.outlet.over;
     closed = λ e. was.delivered.closed (end_closed took c.outlet.over e);
@@ -78,7 +78,7 @@ module _ {L : Type 0} where
     sent_is = was.delivered.sent_is;
     all_sent = all_sent_of _ _ took c.outlet.over c.outlet.unsent.items was.delivered.unsent was.delivered.closed was.delivered.failed;
     read = was.read;
-    all_applied = λ fed. place.0 (end_fed took c.outlet.over fed);
+    all_applied = λ bye fed. place.0 (end_fed took c.outlet.over fed);
     bye = end_bye took c.outlet.over;
     took_leave = end_took took c.outlet.over;
     closed = λ e. was.delivered.closed (end_closed took c.outlet.over e);
@@ -99,6 +99,14 @@ module _ {L : Type 0} (m : L → Meaning) where
   all_served k asked made here byes [] (c ∷ cs) still usable fit = absurd fit
   all_served k asked made here byes (a ∷ starts) [] still usable fit = absurd fit
 
+  pub all_applied : (k : ℕ) (byes : List Bool) (cs : List (Client L)) → AllUsable m cs → AllApplied (ends_from byes k cs)
+  unfolding AllUsable AllApplied ends_from
+  all_applied k byes [] usable = tt
+  all_applied k byes (c ∷ cs) usable =
+      let took = slice_index_or byes k false in
+      let place = usable.0 in
+      (record { few = place.2; all = λ fed. place.0 (end_fed took c.outlet.over fed) }, all_applied (suc k) byes cs usable.2)
+
   -- only what stands for their numbers counts
   pub served_same : (k : ℕ) (asked lines asked' lines' : ℕ → List (List ℕ)) (took here took' here' : ℕ → Bool) (starts nows : List Meaning) (es : List ClientEnd) → AllServed k asked lines took here starts nows es
       → ((j : ℕ) → (asked' j ≡ asked j) × (lines' j ≡ lines j) × (took' j ≡ took j) × (here' j ≡ here j)) → AllServed k asked' lines' took' here' starts nows es
@@ -111,6 +119,12 @@ module _ {L : Type 0} (m : L → Meaning) where
   served_same k asked lines asked' lines' took here took' here' [] [] (e ∷ es) all same = absurd all
   served_same k asked lines asked' lines' took here took' here' (a ∷ starts) [] es all same = absurd all
   served_same k asked lines asked' lines' took here took' here' (a ∷ starts) (b ∷ nows) [] all same = absurd all
+
+-- where nobody was served
+pub none_applied : (es : List ClientEnd) → es ≡ [] → AllApplied es
+unfolding AllApplied
+none_applied [] e = tt
+none_applied (e ∷ es) none = absurd (let bad : e ∷ es ≡ [] = none in cc)
 
 -- one more was given back
 pub ends_more : {L : Type 0} (byes : List Bool) (n next : ℕ) (c : Client L) (cs rest : List (Client L)) (es grown total : List ClientEnd) (e : ClientEnd) → next ≡ n + 1 → cs ≡ c ∷ rest → e ≡ client_end (slice_index_or byes n false) c

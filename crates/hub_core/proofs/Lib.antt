@@ -10,3 +10,5 @@ mod Stepping
 mod Journaling
 mod Carrying
 mod Sampled
+mod Writing
+pub mod Handing

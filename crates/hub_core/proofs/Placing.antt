@@ -13,16 +13,13 @@ use Rattle.hub_core.specs.declared.client.Client.{Client}
 use Rattle.hub_core.specs.Clients.{ClientFits}
 
 -- what holds while memory has not run out and while a link is in use holds on
-pub place_on : (old new : Option Cause) (A B : Type 0) → Lasts old new → (old ≢ Some NoMemory → A) × (old ≡ None → B) → (new ≢ Some NoMemory → A) × (new ≡ None → B)
-place_on None new A B lasts was = (λ fed. was.0 (λ e. let bad : None ≡ Some NoMemory = e in cc), λ free. was.1 refl)
-place_on (Some c) new A B (inl e) was = (λ fed. was.0 (λ f. fed (e ∙ f)), λ free. absurd (let bad : None ≡ Some c = sym free ∙ e in cc))
-place_on (Some c) new A B (inr e) was = (λ fed. absurd (fed e), λ free. absurd (let bad : None ≡ Some NoMemory = sym free ∙ e in cc))
+pub place_on : (old new : Option Cause) (A B C : Type 0) → Lasts old new → (old ≢ Some NoMemory → A) × (old ≡ None → B) × C → (new ≢ Some NoMemory → A) × (new ≡ None → B) × C
+place_on None new A B C lasts was = (λ fed. was.0 (λ e. let bad : None ≡ Some NoMemory = e in cc), λ free. was.1 refl, was.2)
+place_on (Some c) new A B C (inl e) was = (λ fed. was.0 (λ f. fed (e ∙ f)), λ free. absurd (let bad : None ≡ Some c = sym free ∙ e in cc), was.2)
+place_on (Some c) new A B C (inr e) was = (λ fed. absurd (fed e), λ free. absurd (let bad : None ≡ Some NoMemory = sym free ∙ e in cc), was.2)
 
-pub place_open : (old new : Option Cause) (A B : Type 0) → old ≡ None → (old ≢ Some NoMemory → A) × (old ≡ None → B) → (new ≢ Some NoMemory → A) × (new ≡ None → B)
-place_open old new A B free was = (λ fed. was.0 (λ e. let bad : None ≡ Some NoMemory = sym free ∙ e in cc), λ over. was.1 free)
-
-pub place_lost : (new : Option Cause) (A B : Type 0) → new ≡ Some NoMemory → (new ≢ Some NoMemory → A) × (new ≡ None → B)
-place_lost new A B e = (λ fed. absurd (fed e), λ free. absurd (let bad : None ≡ Some NoMemory = sym free ∙ e in cc))
+pub place_lost : (new : Option Cause) (A B C : Type 0) → new ≡ Some NoMemory → C → (new ≢ Some NoMemory → A) × (new ≡ None → B) × C
+place_lost new A B C e few = (λ fed. absurd (fed e), λ free. absurd (let bad : None ≡ Some NoMemory = sym free ∙ e in cc), few)
 
 module _ {L : Type 0} where
   -- nothing was read and made
@@ -33,6 +30,22 @@ module _ {L : Type 0} where
   pub fits_roomy : (start now next : Meaning) (c : Client L) (o : Outlet L) (u : Vec (List ℕ) _) (asked made : List (List ℕ)) → u.items ≡ c.unapplied.items → next ≡ now → (Delivered start now c.outlet made → Delivered start next o made)
       → ClientFits start now c asked made → ClientFits start next (record c { outlet = o; unapplied = u }) asked made
   fits_roomy start now next c o u asked made e same delivers was = record { delivered = delivers was.delivered; read = rw (same, e) was.read }
+
+  -- room was taken for a line
+  pub room_sent : (start now : Meaning) (c : Client L) (s : Vec (List ℕ) _) (asked made : List (List ℕ)) → s.items ≡ c.outlet.sent.items
+      → ClientFits start now c asked made → ClientFits start now (record c { outlet = record c.outlet { sent = s } }) asked made
+  room_sent start now c s asked made e was = record {
+    delivered = record {
+      sent_is = rw e was.delivered.sent_is;
+      lines = rw e was.delivered.lines;
+      unsent = was.delivered.unsent;
+      counts = was.delivered.counts;
+      shut = was.delivered.shut;
+      closed = was.delivered.closed;
+      failed = was.delivered.failed;
+    };
+    read = was.read;
+  }
 
   -- lines were delivered, or lost
   pub fits_sent : (start now next : Meaning) (c : Client L) (o : Outlet L) (asked made more : List (List ℕ)) → next.received ≡ now.received → (Delivered start now c.outlet made → Delivered start next o more)

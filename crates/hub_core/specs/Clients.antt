@@ -1,5 +1,5 @@
 -- Clients of a hub while they are served: what was read of each, and what was sent of the lines that were made for it.
-use Rattle.std.specs.Prelude.{◌≡◌, ◌≢◌, ◌≤◌, ℕ, zero, suc, Bool, true, false, List, [], ◌∷◌, ◌++◌, Option, None, Some, ⊤, vec_capacity}
+use Rattle.std.specs.Prelude.{◌≡◌, ◌≢◌, ◌≤◌, ℕ, zero, suc, Bool, true, false, List, [], ◌∷◌, ◌++◌, Option, None, Some, ⊤, length, vec_capacity}
 use Rattle.io_edge.specs.Taken.{Appends}
 use Rattle.link_edge.specs.Links.{Meaning}
 use Rattle.link_pump.specs.declared.cause.Cause.{Cause}
@@ -15,9 +15,10 @@ pub record ClientFits {L : Type 0} (start now : Meaning) (c : Client L) (asked m
   pub delivered : Delivered start now c.outlet made
   pub read : Appends start.received now.received (asked ++ c.unapplied.items)
 
--- there is room for a message that is not applied while the link is in use, and none that is not applied unless memory ran out
+-- there is room for a message that is not applied while the link is in use, and none that is not applied unless memory ran out, and then
+-- at most one
 abbrev pub HasPlace : {L : Type 0} → Client L → Type 0
-HasPlace c = (c.outlet.over ≢ Some NoMemory → c.unapplied.items ≡ []) × (c.outlet.over ≡ None → 1 ≤ vec_capacity c.unapplied)
+HasPlace c = (c.outlet.over ≢ Some NoMemory → c.unapplied.items ≡ []) × (c.outlet.over ≡ None → 1 ≤ vec_capacity c.unapplied) × (length c.unapplied.items ≤ 1)
 
 -- nothing of any client
 abbrev pub nothing : ℕ → List (List ℕ)

@@ -1,5 +1,5 @@
 -- How clients are given back that were served: what passed through each one's link, by what it asked and the lines made for it, and why it ended.
-use Rattle.std.specs.Prelude.{◌≡◌, ◌≢◌, ◌⊎◌, not, ℕ, suc, Bool, true, false, List, [], ◌∷◌, ◌++◌, Option, None, Some, ⊤, slice_index_or}
+use Rattle.std.specs.Prelude.{◌≡◌, ◌≢◌, ◌≤◌, ◌⊎◌, not, ℕ, suc, Bool, true, false, List, [], ◌∷◌, ◌++◌, Option, None, Some, ⊤, length, slice_index_or}
 use Rattle.io_edge.specs.Faults.{Rose}
 use Rattle.io_edge.specs.Taken.{Appends}
 use Rattle.link_edge.specs.Links.{Meaning, NoneFell, after_close}
@@ -48,7 +48,7 @@ pub record ClientServed (start now : Meaning) (e : ClientEnd) (asked lines : Lis
   pub all_sent : (e.unsent.items ≡ []) ⊎ (Rose start.ends now.ends ⊎ (Rose start.faults now.faults ⊎ (e.end ≡ ends.NoMemory)))
   -- what was received is what it asked, and then what was not applied
   pub read : Appends start.received now.received (asked ++ e.unapplied.items)
-  pub all_applied : e.end ≢ ends.NoMemory → e.unapplied.items ≡ []
+  pub all_applied : e.end ≢ ends.Bye → e.end ≢ ends.NoMemory → e.unapplied.items ≡ []
   -- why it ended
   pub bye : e.end ≡ ends.Bye → took ≡ true
   pub took_leave : took ≡ true → (e.end ≡ ends.Bye) ⊎ (e.end ≡ ends.NoMemory)
@@ -65,6 +65,16 @@ AllServed k asked lines took here [] (b ∷ nows) es = ⊥
 AllServed k asked lines took here [] [] (e ∷ es) = ⊥
 AllServed k asked lines took here (a ∷ starts) [] es = ⊥
 AllServed k asked lines took here (a ∷ starts) (b ∷ nows) [] = ⊥
+
+-- nothing is read in lock step that is not applied, but for one message where memory ran out
+pub record IsApplied (e : ClientEnd) : Type 0 where
+  pub few : length e.unapplied.items ≤ 1
+  pub all : e.end ≢ ends.NoMemory → e.unapplied.items ≡ []
+
+-- of each of them
+unfoldable pub AllApplied : List ClientEnd → Type 0
+AllApplied [] = ⊤
+AllApplied (e ∷ es) = IsApplied e × AllApplied es
 
 -- none of them is shut
 unfoldable pub AllOpen : List Meaning → Type 0

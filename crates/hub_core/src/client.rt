@@ -5,6 +5,7 @@
 ghost use Rattle.std.specs.Prelude.{◌≡◌};
 ghost use Rattle.hub_core.specs.Ends.{end_of, client_end, shut_unless};
 
+use crate::parter::Parter;
 use crate::served::ClientEnd;
 use link_edge::{End, Link};
 use link_pump::{Cause, Outlet};
@@ -80,6 +81,19 @@ impl<L: Link> Client<L> {
         }
     }
 
+    /// Takes the room for a line that will be sent. Where there is none, memory ran out.
+    pub(crate) fn ready(&mut self)
+        ensures keeps { (start : Meaning) (asked made : List (List ℕ))
+            → ClientFits start (L.meaning self.old.outlet.link) self.old asked made
+            → ClientFits start (L.meaning self.new.outlet.link) self.new asked made }
+        ensures place { HasPlace self.old → HasPlace self.new }
+        ensures shut { (L.meaning self.new.outlet.link).shut ≡ (L.meaning self.old.outlet.link).shut }
+    {
+        if self.outlet.sent.try_reserve(1).is_err() {
+            self.outlet.lose();
+        }
+    }
+
     /// Memory ran out, and so these lines are lost, however many they are.
     pub(crate) fn lose(&mut self)
         ensures keeps { (start : Meaning) (asked made more : List (List ℕ))
@@ -116,6 +130,17 @@ impl<L: Link> Client<L> {
         ensures shut { (L.meaning self.new.outlet.link).shut ≡ false }
     {
         self.outlet.deliver(self.alloc, text);
+    }
+
+    /// Parts from its link, since the client has left.
+    pub(crate) fn part<P: Parter<L>>(&mut self, parter: &P)
+        ensures keeps { (start : Meaning) (asked made : List (List ℕ))
+            → ClientFits start (L.meaning self.old.outlet.link) self.old asked made
+            → ClientFits start (L.meaning self.new.outlet.link) self.new asked made }
+        ensures place { HasPlace self.old → HasPlace self.new }
+        ensures shut { (L.meaning self.new.outlet.link).shut ≡ (L.meaning self.old.outlet.link).shut }
+    {
+        parter.part(&mut self.outlet.link);
     }
 
     /// The next message, if one has come and the link is in use.

@@ -7,8 +7,77 @@ ghost use Rattle.hub_core.specs.Clients.{AllFit, AllUsable, lines_to, open_at};
 
 use crate::client::Client;
 use crate::line::Line;
+use crate::parter::Parter;
+use crate::seats::at;
 use link_edge::Link;
 use text_core::Listed;
+
+/// Takes the room for a line that will be sent to one.
+pub(crate) fn ready_at<L: Link>(clients: &mut [Client<L>], k: usize)
+    requires within { k < length clients.old }
+    requires usable { AllUsable L.meaning clients.old }
+    ensures keeps { (starts : List Meaning) (asked made : ℕ → List (List ℕ))
+        → AllFit L.meaning 0 asked made starts clients.old → AllFit L.meaning 0 asked made starts clients.new }
+    ensures usable { AllUsable L.meaning clients.new }
+    ensures len { length clients.new ≡ length clients.old }
+{
+    clients[k].ready();
+}
+
+/// Takes the room for a line that will be sent to each.
+pub(crate) fn ready_all<L: Link>(clients: &mut [Client<L>])
+    requires usable { AllUsable L.meaning clients.old }
+    ensures keeps { (starts : List Meaning) (asked made : ℕ → List (List ℕ))
+        → AllFit L.meaning 0 asked made starts clients.old → AllFit L.meaning 0 asked made starts clients.new }
+    ensures usable { AllUsable L.meaning clients.new }
+    ensures len { length clients.new ≡ length clients.old }
+{
+    for client in clients.iter_mut() {
+        client.ready();
+    }
+}
+
+/// Parts one from its link, where its client has left.
+fn part_at<L: Link, P: Parter<L>>(clients: &mut [Client<L>], k: usize, here: bool, parter: &P)
+    requires within { k < length clients.old }
+    requires usable { AllUsable L.meaning clients.old }
+    ensures keeps { (starts : List Meaning) (asked made : ℕ → List (List ℕ))
+        → AllFit L.meaning 0 asked made starts clients.old → AllFit L.meaning 0 asked made starts clients.new }
+    ensures usable { AllUsable L.meaning clients.new }
+    ensures len { length clients.new ≡ length clients.old }
+{
+    if !here {
+        clients[k].part(parter);
+    }
+}
+
+/// Parts those from their links whose clients have left: all that these answers do not tell to be here.
+fn part_all<L: Link, P: Parter<L>>(clients: &mut [Client<L>], here: &[bool], parter: &P)
+    requires usable { AllUsable L.meaning clients.old }
+    ensures keeps { (starts : List Meaning) (asked made : ℕ → List (List ℕ))
+        → AllFit L.meaning 0 asked made starts clients.old → AllFit L.meaning 0 asked made starts clients.new }
+    ensures usable { AllUsable L.meaning clients.new }
+    ensures len { length clients.new ≡ length clients.old }
+{
+    for k in 0..clients.len() {
+        part_at(clients, k, at(here, k), parter);
+    }
+}
+
+/// The same, of all clients of a hub.
+pub(crate) fn part_gone<L: Link, P: Parter<L>>(
+    clients: &mut Vec<Client<L>>,
+    here: &[bool],
+    parter: &P,
+)
+    requires usable { AllUsable L.meaning clients.old.items }
+    ensures keeps { (starts : List Meaning) (asked made : ℕ → List (List ℕ))
+        → AllFit L.meaning 0 asked made starts clients.old.items → AllFit L.meaning 0 asked made starts clients.new.items }
+    ensures usable { AllUsable L.meaning clients.new.items }
+    ensures len { length clients.new.items ≡ length clients.old.items }
+{
+    part_all(clients, here, parter);
+}
 
 /// The next message of one, if one has come.
 pub(crate) fn poll_at<L: Link>(clients: &mut [Client<L>], k: usize) -> Option<Listed<u8>>

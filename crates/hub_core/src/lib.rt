@@ -11,7 +11,7 @@
 //! ```
 //!
 //! In lock step a hub is served over the links of its clients, from start to end: each round polls each client that is here once, and makes
-//! one turn if the session runs.
+//! one turn if the session runs. Who took the room for its clients before (`HubRoom`) serves it by `serve_hub_in`, which always begins.
 //!
 //! `specs/` has the definitions: `Hubs` what a hub does and tells, `HubJournals` the journal of a hub, the lines of each client by it, and
 //! what is never done, `Paces` that the session goes on between two requests of one client, `Ends` how a client was served, `Served` what is
@@ -27,6 +27,7 @@ mod journal;
 mod laws;
 mod line;
 mod lockstep;
+mod parter;
 mod rounds;
 mod seats;
 mod served;
@@ -36,5 +37,7 @@ pub use event::HubEvent;
 pub use hub::{Hub, HubOf};
 pub use laws::{hub_journals_are_journals, two_are_served};
 pub use line::{HubStop, Line};
-pub use lockstep::serve_hub_lockstep;
+pub use lockstep::{serve_hub_in, serve_hub_lockstep, serve_hub_parting};
+pub use parter::Parter;
+pub use seats::HubRoom;
 pub use served::{ClientEnd, HubEnd, HubServed};

@@ -11,13 +11,16 @@ ghost use Rattle.dbg_core.specs.World.{world_of};
 ghost use Rattle.link_edge.specs.Links.{Meaning};
 ghost use Rattle.hub_core.specs.States.{hub_state};
 ghost use Rattle.hub_core.specs.Clients.{AllFit, AllUsable, nothing};
-ghost use Rattle.hub_core.specs.Ends.{AllOpen, ends_from, links_from};
+ghost use Rattle.hub_core.specs.Ends.{AllApplied, AllOpen, ends_from, links_from};
+ghost use Rattle.hub_core.specs.Seating.{HasRoom};
 ghost use Rattle.hub_core.specs.Served.{HubCarries, HubServes};
 
+use crate::crowd::part_gone;
 use crate::hub::Hub;
 use crate::journal::HubJournal;
+use crate::parter::{Later, Parter};
 use crate::rounds::round_all;
-use crate::seats::{Seats, begin, finish_all, unserved};
+use crate::seats::{HubRoom, Seats, finish_all, seat_all, unserved};
 use crate::served::{HubEnd, HubServed};
 use link_edge::{Gate, Link};
 use link_pump::Rest;
@@ -86,13 +89,14 @@ fn finish<T: Trace + Drop, L: Link>(
 }
 
 /// Serves clients until none of them is here, or memory ran out.
-fn serve_seats<R: Wait, T: Trace + Drop, L: Link, G: Gate>(
+fn serve_seats<R: Wait, T: Trace + Drop, L: Link, G: Gate, P: Parter<L>>(
     rt: &R,
     alloc: Global,
     hub: Hub<T>,
     seats: Seats<L>,
     journal: HubJournal,
     gate: G,
+    parter: &P,
 ) -> HubServed<L>
     requires empty { (seats.links.items ≡ []) × (seats.ends.items ≡ []) }
     requires room { (length seats.clients.items ≤ vec_capacity seats.links) × (length seats.clients.items ≤ vec_capacity seats.ends) }
@@ -104,6 +108,7 @@ fn serve_seats<R: Wait, T: Trace + Drop, L: Link, G: Gate>(
         → HubCarries read (world_of hub.session.table (T.samples hub.session.trace))
         (hub_state hub.session hub.here.items (map (option_map (λ b. heard (b.vtable, b.value))) hub.listeners.boxes.items))
         starts (map L.meaning result.links.items) result.clients.items result.journal.items result.closing.items result.end }
+    ensures applied { AllApplied result.clients.items }
 {
     let Seats {
         mut clients,
@@ -122,6 +127,7 @@ fn serve_seats<R: Wait, T: Trace + Drop, L: Link, G: Gate>(
         rest.step(rt);
         let events = journal.events.len();
         fed = round_all(&mut hub, &mut clients, &mut journal, &mut gate);
+        part_gone(&mut clients, hub.who_is_here(), parter);
         wake(&mut rest, hub.running() || journal.events.len() != events);
     }
     let seats = Seats {
@@ -136,6 +142,58 @@ fn serve_seats<R: Wait, T: Trace + Drop, L: Link, G: Gate>(
 fn wake(rest: &mut Rest, busy: bool) {
     if busy {
         rest.end();
+    }
+}
+
+/// Serves the clients of a hub as `serve_hub_parting` does, in room that was taken for them: it always begins.
+///
+/// Where the links are silent, it waits, and may never return.
+pub fn serve_hub_in<R: Wait, T: Trace + Drop, L: Link, G: Gate, P: Parter<L>>(
+    rt: &R,
+    alloc: Global,
+    hub: Hub<T>,
+    room: HubRoom<L>,
+    links: Vec<L>,
+    gate: G,
+    parter: P,
+) -> HubServed<L>
+    // As many links as clients, for which there is room, and none is shut.
+    requires clients { length links.items ≡ length hub.here.items }
+    requires usable { AllOpen (map L.meaning links.items) }
+    requires room { HasRoom (length links.items) room }
+    ensures carried { (read : Reader) → IsReader read → HubCarries read (world_of hub.session.table (T.samples hub.session.trace))
+        (hub_state hub.session hub.here.items (map (option_map (λ b. heard (b.vtable, b.value))) hub.listeners.boxes.items))
+        (map L.meaning links.items) (map L.meaning result.links.items) result.clients.items result.journal.items result.closing.items result.end }
+    ensures applied { AllApplied result.clients.items }
+{
+    let HubRoom { seats, journal } = room;
+    let seats = seat_all(alloc, links, seats);
+    serve_seats(rt, alloc, hub, seats, journal, gate, &parter)
+}
+
+/// Serves the clients of a hub over their links, as `serve_hub_lockstep` does; a link whose client has left is parted from it between two
+/// rounds.
+///
+/// Where the links are silent, it waits, and may never return.
+pub fn serve_hub_parting<R: Wait, T: Trace + Drop, L: Link, G: Gate, P: Parter<L>>(
+    rt: &R,
+    alloc: Global,
+    hub: Hub<T>,
+    links: Vec<L>,
+    gate: G,
+    parter: P,
+) -> HubServed<L>
+    // As many links as clients, and none is shut.
+    requires clients { length links.items ≡ length hub.here.items }
+    requires usable { AllOpen (map L.meaning links.items) }
+    ensures served { (read : Reader) → IsReader read → HubServes read (world_of hub.session.table (T.samples hub.session.trace))
+        (hub_state hub.session hub.here.items (map (option_map (λ b. heard (b.vtable, b.value))) hub.listeners.boxes.items))
+        (map L.meaning links.items) (map L.meaning result.links.items) result.clients.items result.journal.items result.closing.items result.end }
+    ensures applied { AllApplied result.clients.items }
+{
+    match HubRoom::new(alloc, links.len()) {
+        Ok(room) => serve_hub_in(rt, alloc, hub, room, links, gate, parter),
+        Err(NoMemory) => unserved(alloc, links),
     }
 }
 
@@ -158,9 +216,8 @@ pub fn serve_hub_lockstep<R: Wait, T: Trace + Drop, L: Link, G: Gate>(
     ensures served { (read : Reader) → IsReader read → HubServes read (world_of hub.session.table (T.samples hub.session.trace))
         (hub_state hub.session hub.here.items (map (option_map (λ b. heard (b.vtable, b.value))) hub.listeners.boxes.items))
         (map L.meaning links.items) (map L.meaning result.links.items) result.clients.items result.journal.items result.closing.items result.end }
+    // Nothing is read that is not applied, but for one message where memory ran out.
+    ensures applied { AllApplied result.clients.items }
 {
-    match begin(alloc, links) {
-        Ok((seats, journal)) => serve_seats(rt, alloc, hub, seats, journal, gate),
-        Err(links) => unserved(alloc, links),
-    }
+    serve_hub_parting(rt, alloc, hub, links, gate, Later)
 }

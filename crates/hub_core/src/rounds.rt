@@ -12,7 +12,7 @@ ghost use Rattle.hub_core.specs.Paces.{from_round};
 ghost use Rattle.hub_core.specs.Rounds.{HubAt};
 
 use crate::client::Client;
-use crate::crowd::{deliver_all, lose_all, poll_at, starve_at};
+use crate::crowd::{deliver_all, lose_all, poll_at, ready_all, ready_at, starve_at};
 use crate::hub::Hub;
 use crate::journal::HubJournal;
 use crate::line::HubStop;
@@ -64,7 +64,7 @@ fn ask_for<T: Trace + Drop, L: Link>(
     }
 }
 
-/// One turn behind the gate, if the session runs. Says whether there was memory for it.
+/// One turn behind the gate, if the session runs. The room for what is told is taken before. Says whether there was memory for it.
 fn turn_once<T: Trace + Drop, L: Link, G: Gate>(
     hub: &mut Hub<T>,
     clients: &mut [Client<L>],
@@ -91,6 +91,7 @@ fn turn_once<T: Trace + Drop, L: Link, G: Gate>(
         lose_all(clients);
         return false;
     }
+    ready_all(clients);
     gate.before_turn();
     match hub.turn() {
         Ok(notices) => {
@@ -106,7 +107,8 @@ fn turn_once<T: Trace + Drop, L: Link, G: Gate>(
     }
 }
 
-/// What one client of a round brings: it leaves, where its link is over, or its next message is asked. Says whether there was memory.
+/// What one client of a round brings: it leaves, where its link is over, or its next message is asked. The room for the reply is taken before it is
+/// read. Says whether there was memory.
 fn serve_one<T: Trace + Drop, L: Link>(
     hub: &mut Hub<T>,
     clients: &mut [Client<L>],
@@ -134,6 +136,7 @@ fn serve_one<T: Trace + Drop, L: Link>(
         lose_all(clients);
         return false;
     }
+    ready_at(clients, k as usize);
     match poll_at(clients, k as usize) {
         Some(text) => ask_for(hub, clients, journal, k, text),
         None => {

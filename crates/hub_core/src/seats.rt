@@ -1,6 +1,6 @@
 //! The clients of a hub while they are served, with room for what is given back of them: each has a seat from the start to the end.
 
-ghost use Rattle.std.specs.Prelude.{◌≡◌, ◌≤◌, [], List, ℕ, length, map, slice_index_or, false, vec_capacity, IfOk, IfErr, replicate};
+ghost use Rattle.std.specs.Prelude.{◌≡◌, ◌≤◌, [], List, ℕ, length, map, slice_index_or, false, vec_capacity, IfOk};
 ghost use Rattle.link_edge.specs.Links.{Meaning};
 ghost use Rattle.hub_core.specs.Clients.{AllFit, AllUsable, nothing};
 ghost use Rattle.hub_core.specs.Ends.{AllOpen, ends_from, links_from, shut_unless};
@@ -60,21 +60,29 @@ pub(crate) fn clients_of<L: Link>(
     clients
 }
 
-/// Room for so many clients, and a journal of them.
-fn room_for<L: Link>(alloc: Global, count: usize) -> Result<(Seats<L>, HubJournal), NoMemory>
-    ensures empty { IfOk result (λ room. (room.0.clients.items ≡ []) × (room.0.links.items ≡ []) × (room.0.ends.items ≡ [])) }
-    ensures room { IfOk result (λ room. (count ≤ vec_capacity room.0.clients) × (count ≤ vec_capacity room.0.links)
-        × (count ≤ vec_capacity room.0.ends)) }
-    ensures events { IfOk result (λ room. room.1.events.items ≡ []) }
-    ensures byes { IfOk result (λ room. room.1.byes.items ≡ replicate count false) }
-{
-    let seats = seats_for(alloc, count)?;
-    let journal = HubJournal::new(alloc, count)?;
-    Ok((seats, journal))
+/// Room for the clients of a hub, for what is given back of each of them, and for who took its leave.
+#[derive(Drop)]
+pub struct HubRoom<L> {
+    pub(crate) seats: Seats<L>,
+    pub(crate) journal: HubJournal,
+}
+
+impl<L: Link> HubRoom<L> {
+    ghost use Rattle.std.specs.Prelude.{IfOk};
+    ghost use Rattle.hub_core.specs.Seating.{HasRoom};
+
+    /// Room for so many clients.
+    pub fn new(alloc: Global, count: usize) -> Result<HubRoom<L>, NoMemory>
+        ensures { IfOk result (λ room. HasRoom count room) }
+    {
+        let seats = seats_for(alloc, count)?;
+        let journal = HubJournal::new(alloc, count)?;
+        Ok(HubRoom { seats, journal })
+    }
 }
 
 /// A client for each link, where there is room for it.
-fn seat_all<L: Link>(alloc: Global, links: Vec<L>, seats: Seats<L>) -> Seats<L>
+pub(crate) fn seat_all<L: Link>(alloc: Global, links: Vec<L>, seats: Seats<L>) -> Seats<L>
     requires empty { (seats.clients.items ≡ []) × (seats.links.items ≡ []) × (seats.ends.items ≡ []) }
     requires room { (length links.items ≤ vec_capacity seats.clients) × (length links.items ≤ vec_capacity seats.links)
         × (length links.items ≤ vec_capacity seats.ends) }
@@ -95,21 +103,6 @@ fn seat_all<L: Link>(alloc: Global, links: Vec<L>, seats: Seats<L>) -> Seats<L>
     }
 }
 
-/// A client for each link, and their journal; or the links, where there is no memory for it.
-pub(crate) fn begin<L: Link>(alloc: Global, links: Vec<L>) -> Result<(Seats<L>, HubJournal), Vec<L>>
-    requires usable { AllOpen (map L.meaning links.items) }
-    ensures seated { IfOk result (λ begun. AreSeated L.meaning links.items begun.0) }
-    ensures usable { IfOk result (λ begun. AllUsable L.meaning begun.0.clients.items) }
-    ensures events { IfOk result (λ begun. begun.1.events.items ≡ []) }
-    ensures byes { IfOk result (λ begun. begun.1.byes.items ≡ replicate (length links.items) false) }
-    ensures err { IfErr result (λ back. back ≡ links) }
-{
-    match room_for(alloc, links.len()) {
-        Ok((seats, journal)) => Ok((seat_all(alloc, links, seats), journal)),
-        Err(NoMemory) => Err(links),
-    }
-}
-
 /// What is given back where there was no memory to begin.
 pub(crate) fn unserved<L: Link>(alloc: Global, links: Vec<L>) -> HubServed<L>
     ensures links { result.links ≡ links }
@@ -126,7 +119,7 @@ pub(crate) fn unserved<L: Link>(alloc: Global, links: Vec<L>) -> HubServed<L>
 }
 
 /// The answer for a number; no behind the last.
-fn at(answers: &[bool], k: usize) -> bool
+pub(crate) fn at(answers: &[bool], k: usize) -> bool
     ensures { result ≡ slice_index_or answers.now k false }
 {
     match answers.get(k) {

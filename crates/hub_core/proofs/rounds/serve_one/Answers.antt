@@ -23,7 +23,7 @@ returns-in-Some-clause-keeps g c = λ read reader first starts was.
     c.ask_for.ensures.keeps read reader first starts
     (rw (c.reserve.ensures.same, c.reserve.ensures.byes)
     (at_same read _ m first starts _ c.args.clients.now c.poll_at.new.clients c.args.journal.now.events.items c.args.journal.now.byes.items nothing (λ j. at_client c.args.k j (c.in-Some.text ∷ [])) c.args.k was
-    (λ asked made all. c.in-Some.ensures.keeps starts asked made (asked_none m asked made starts c.args.clients.now all))))
+    (λ asked made all. c.in-Some.ensures.keeps starts asked made (c.ready_at.ensures.keeps starts asked made (asked_none m asked made starts c.args.clients.now all)))))
 
 pub returns-then-is_some-clause-keeps : goal.returns-then-is_some-clause-keeps
 returns-then-is_some-clause-keeps g c = λ read reader first starts was.
@@ -32,7 +32,7 @@ returns-then-is_some-clause-keeps g c = λ read reader first starts was.
     (at_weaker read _ m first starts _ c.poll_at.new.clients c.add_left.new.self.events.items c.args.journal.now.byes.items nothing c.args.k (c.args.k + 1) (omega arith)
     (at_left read _ m first starts _ _ c.poll_at.new.clients c.args.journal.now.events.items c.add_left.new.self.events.items c.args.journal.now.byes.items c.args.k c.args.k
     (at_same read _ m first starts _ c.args.clients.now c.poll_at.new.clients c.args.journal.now.events.items c.args.journal.now.byes.items nothing nothing c.args.k was
-    (λ asked made all. polled_none m asked made starts c.poll_at.new.clients c.args.k (c.in-None.ensures.keeps starts asked made (asked_none m asked made starts c.args.clients.now all))))
+    (λ asked made all. polled_none m asked made starts c.poll_at.new.clients c.args.k (c.in-None.ensures.keeps starts asked made (c.ready_at.ensures.keeps starts asked made (asked_none m asked made starts c.args.clients.now all)))))
     (search rules) (rw c.reserve.ensures.same at c.add_left.ensures.added) refl))
 
 pub returns-else-is_some-clause-keeps : goal.returns-else-is_some-clause-keeps
@@ -41,4 +41,4 @@ returns-else-is_some-clause-keeps g c = λ read reader first starts was.
     rw (c.reserve.ensures.same, c.reserve.ensures.byes)
     (at_weaker read _ m first starts _ c.poll_at.new.clients c.args.journal.now.events.items c.args.journal.now.byes.items nothing c.args.k (c.args.k + 1) (omega arith)
     (at_same read _ m first starts _ c.args.clients.now c.poll_at.new.clients c.args.journal.now.events.items c.args.journal.now.byes.items nothing nothing c.args.k was
-    (λ asked made all. polled_none m asked made starts c.poll_at.new.clients c.args.k (c.in-None.ensures.keeps starts asked made (asked_none m asked made starts c.args.clients.now all)))))
+    (λ asked made all. polled_none m asked made starts c.poll_at.new.clients c.args.k (c.in-None.ensures.keeps starts asked made (c.ready_at.ensures.keeps starts asked made (asked_none m asked made starts c.args.clients.now all))))))

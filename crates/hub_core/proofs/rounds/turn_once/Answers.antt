@@ -21,11 +21,12 @@ pub returns-in-Ok-clause-keeps : goal.returns-in-Ok-clause-keeps
 returns-in-Ok-clause-keeps g c = λ read reader first starts was.
     rw (c.add_turn.ensures.byes, c.reserve.ensures.byes)
     (at_turn read _ g.L.Link.meaning first starts _ _ c.args.clients.now c.deliver_all.new.clients c.args.journal.now.events.items c.add_turn.new.self.events.items c.args.journal.now.byes.items 8 was
-    (rw c.reserve.ensures.same at c.add_turn.ensures.added) c.turn.ensures.state (λ asked made all. rw (← c.in-Ok.ensures.lines) (c.deliver_all.ensures.keeps starts asked made all)))
+    (rw c.reserve.ensures.same at c.add_turn.ensures.added) c.turn.ensures.state
+    (λ asked made all. rw (← c.in-Ok.ensures.lines) (c.deliver_all.ensures.keeps starts asked made (c.ready_all.ensures.keeps starts asked made all))))
 
 pub returns-in-Err-clause-keeps : goal.returns-in-Err-clause-keeps
 returns-in-Err-clause-keeps g c = λ read reader first starts was.
     rw (c.add_turn-in-Err.ensures.byes, c.reserve.ensures.byes)
     (at_weaker read _ g.L.Link.meaning first starts _ c.lose_all-in-Err.new.clients c.add_turn-in-Err.new.self.events.items c.args.journal.now.byes.items nothing 0 8 (omega arith)
     (at_turn read _ g.L.Link.meaning first starts _ _ c.args.clients.now c.lose_all-in-Err.new.clients c.args.journal.now.events.items c.add_turn-in-Err.new.self.events.items c.args.journal.now.byes.items 8 was
-    (rw c.reserve.ensures.same at c.add_turn-in-Err.ensures.added) c.turn.ensures.state (λ asked made all. c.lose_all-in-Err.ensures.keeps starts asked made (λ j. lines_to j (turned _ _).lines) all)))
+    (rw c.reserve.ensures.same at c.add_turn-in-Err.ensures.added) c.turn.ensures.state (λ asked made all. c.lose_all-in-Err.ensures.keeps starts asked made (λ j. lines_to j (turned _ _).lines) (c.ready_all.ensures.keeps starts asked made all))))

@@ -6,4 +6,4 @@ returns-clause-keeps g c = λ start asked made was.
     fits_sent start _ _ c.args.self.now c.deliver.new.self asked made _ c.deliver.ensures.received (λ d. c.deliver.ensures.keeps start made d) was
 
 pub returns-clause-place : goal.returns-clause-place
-returns-clause-place g c = λ was. place_on _ _ _ _ c.deliver.ensures.over was
+returns-clause-place g c = λ was. place_on _ _ _ _ _ c.deliver.ensures.over was
