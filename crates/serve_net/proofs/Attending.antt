@@ -8,7 +8,7 @@ use Rattle.io_edge.specs.declared.sink_end.SinkEnd.{SinkEnd}
 use Rattle.duo_run.specs.declared.served.Served.{Served}
 use Rattle.serve_net.specs.declared.visit.Visit.{Visit}
 use Rattle.serve_net.specs.Visits.{visit_line}
-use Rattle.serve_net.specs.Over.{Over}
+use Rattle.show_net.specs.Over.{Over}
 use Rattle.serve_net.specs.Members.{IsMember, next_of, behind_next}
 use Rattle.serve_net.specs.Attending.{Keeps, TakesLink, Attends, linked, Breaks, lost, ended, Visited, Halted, unwritten}
 

@@ -1,5 +1,4 @@
 pub mod Lines
 pub mod Attending
 pub mod Walking
-pub mod Readying
 mod Sampled

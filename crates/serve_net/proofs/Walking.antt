@@ -14,7 +14,7 @@ use Rattle.duo_run.specs.declared.served.Served.{Served}
 use Rattle.serve_net.specs.declared.visit.Visit.{Visit}
 use Rattle.serve_net.specs.declared.visit.Visit.TheVariants.{NoLink, Linked}
 use Rattle.serve_net.specs.Visits.{Told, HasLine, visit_line, visits_text, lines_from, links_in, failures_in}
-use Rattle.serve_net.specs.Over.{Over}
+use Rattle.show_net.specs.Over.{Over}
 use Rattle.serve_net.specs.Members.{told_of, IsMember, next_of, behind_next, AreMembers}
 use Rattle.serve_net.specs.Service.{Answers, ServesAll, ServesSome, end_status}
 use Rattle.serve_net.specs.Attending.{TakesLink, Attends, failed, linked, Breaks, at_door, lost, ended, Visited, Halted, starved, unwritten}

@@ -13,7 +13,7 @@ use Rattle.duo_run.specs.declared.served.Served.{Served}
 use Rattle.serve_net.specs.declared.visit.Visit.{Visit}
 use Rattle.serve_net.specs.declared.visit.Visit.TheVariants.{NoLink, Linked}
 use Rattle.serve_net.specs.Visits.{visit_line}
-use Rattle.serve_net.specs.Over.{Over}
+use Rattle.show_net.specs.Over.{Over}
 use Rattle.serve_net.specs.Members.{told_of, IsMember, next_of, behind_next}
 
 -- a connection was kept: it stands last, and has a visit unless it ended for want of memory; or there was no room for it

@@ -10,7 +10,7 @@ use Rattle.duo_run.specs.declared.served.Served.{Served}
 use Rattle.duo_run.specs.Journals.{requests_of}
 use Rattle.duo_run.specs.Connections.{Carries, Applies}
 use Rattle.serve_net.specs.Visits.{Told}
-use Rattle.serve_net.specs.Over.{Over, world_over, RunsAs}
+use Rattle.show_net.specs.Over.{Over, world_over, RunsAs}
 
 -- how it ended, and after how many requests
 abbrev pub told_of : {L : Type 0} → Served L → Told

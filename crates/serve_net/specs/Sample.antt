@@ -7,7 +7,7 @@ use Rattle.duo_run.specs.declared.event.Event.TheVariants.{Request, Turns}
 use Rattle.duo_run.specs.declared.served.Served.{Served}
 use Rattle.serve_net.specs.declared.visit.Visit.{Visit}
 use Rattle.serve_net.specs.declared.visit.Visit.TheVariants.{NoLink, Linked}
-use Rattle.serve_net.specs.Over.{Over}
+use Rattle.show_net.specs.Over.{Over}
 use Rattle.serve_net.specs.Members.{IsMember}
 use Rattle.serve_net.specs.Service.{ServesAll}
 

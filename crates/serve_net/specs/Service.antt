@@ -12,7 +12,7 @@ use Rattle.run_status.specs.Statuses.{status_of}
 use Rattle.run_status.specs.declared.Ending.TheVariants as ends
 use Rattle.serve_net.specs.declared.visit.Visit.{Visit}
 use Rattle.serve_net.specs.Visits.{Told, HasLine, links_in, failures_in, visits_text}
-use Rattle.serve_net.specs.Over.{Over}
+use Rattle.show_net.specs.Over.{Over}
 use Rattle.serve_net.specs.Members.{told_of, AreMembers}
 
 -- so many links were taken from a door, where it tells how many it has, and it failed at least so often, or its count stands at its end

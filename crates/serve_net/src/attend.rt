@@ -2,16 +2,16 @@
 
 ghost use Rattle.std.specs.Prelude.{◌≡◌, ◌≤◌, All, IfOk, IfErr, OnOk, OnErr, IsErrOf, length, map, reverse};
 ghost use Rattle.io_edge.specs.Faults.{Rose};
-ghost use Rattle.serve_net.specs.Over.{Over, Shows};
+ghost use Rattle.show_net.specs.Over.{Over, Shows};
 ghost use Rattle.serve_net.specs.Attending.{Attends, Breaks, Keeps, Visited, Halted};
 
 use crate::connect::{connect, request_count};
 use crate::hall::Hall;
-use crate::service::Service;
 use crate::visit::{Visit, write_visit};
 use duo_run::Served;
 use io_edge::{Sink, SinkEnd};
 use link_edge::{Door, DoorEnd, End};
+use show_net::Service;
 use std::alloc::Global;
 use std::sync::Wait;
 use std::thread::Threads;

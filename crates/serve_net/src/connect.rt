@@ -3,13 +3,13 @@
 ghost use Rattle.std.specs.Prelude.{◌≡◌, ◌≤◌, IfOk, length, map};
 ghost use Rattle.link_edge.specs.Links.{IsFresh};
 ghost use Rattle.duo_run.specs.Journals.{requests_of};
-ghost use Rattle.serve_net.specs.Over.{Over, Shows};
+ghost use Rattle.show_net.specs.Over.{Over, Shows};
 ghost use Rattle.serve_net.specs.Members.{IsMember};
 
-use crate::service::{Service, ready_for};
-use duo_run::{Event, Served, serve_connection};
+use duo_run::{Event, Ready, Served, serve_connection};
 use link_edge::{Link, OpenGate};
 use listen::Listener;
+use show_net::{Service, Shown, ready_for};
 use std::alloc::Global;
 use std::sync::Wait;
 use std::thread::Threads;
@@ -46,7 +46,8 @@ pub(crate) fn connect<R: Threads + Wait + Sync, L: Link>(
     ensures member { IfOk result (λ served. (over : Over) → Shows service.now over
         → IsMember (λ l. L.meaning l) over (map (λ b. heard b) listeners.items) served) }
 {
-    let ready = ready_for(alloc, service)?;
+    let Shown { table, trace } = ready_for(alloc, service)?;
+    let ready = Ready { table, trace };
     let mut served = serve_connection(rt, alloc, ready, link, OpenGate, listeners);
     served.link.close();
     Ok(served)

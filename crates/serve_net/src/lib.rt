@@ -1,8 +1,9 @@
 //! A debugger over an accepted design that serves the clients which a door lets in, one after another.
 //!
 //! Each client has a session of its own, from the start of the design's run. `specs/` has the definitions: `Visits` what comes of
-//! each time that the door is asked and the line that tells it, `Over` what a service shows, `Members` what each served connection
-//! is, and `Service` the whole of it; `Sample` is one that was worked by hand. No contract says that a client comes, nor that a connection ends.
+//! each time that the door is asked and the line that tells it, `Members` what each served connection is, and `Service` the whole
+//! of it; `Sample` is one that was worked by hand. What a service shows is defined in `show_net`. No contract says that a client
+//! comes, nor that a connection ends.
 #![tactic(auto)]
 
 mod attend;
@@ -10,10 +11,8 @@ mod connect;
 mod hall;
 mod laws;
 mod links;
-mod service;
 mod visit;
 
 pub use laws::two_connections_are_served;
 pub use links::{Many, serve_links};
-pub use service::Service;
 pub use visit::Visit;

@@ -2,17 +2,17 @@
 
 ghost use Rattle.std.specs.Prelude.{◌≡◌, ◌≤◌, ◌<◌, All, IsTrue, length, map, reverse};
 ghost use Rattle.io_edge.specs.Faults.{Rose};
-ghost use Rattle.serve_net.specs.Over.{Over, Shows};
+ghost use Rattle.show_net.specs.Over.{Over, Shows};
 ghost use Rattle.serve_net.specs.Service.{ServesAll, ServesSome, end_status, is_end_status};
 
 use crate::attend::visit;
 use crate::hall::Hall;
-use crate::service::Service;
 use duo_run::Served;
 use io_edge::{Sink, SinkEnd};
 use link_edge::Door;
 use listen::Listener;
 use run_status::Ending;
+use show_net::Service;
 use std::alloc::Global;
 use std::sync::Wait;
 use std::thread::Threads;

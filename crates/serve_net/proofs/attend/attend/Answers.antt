@@ -1,5 +1,5 @@
 use Rattle.std.proofs.Common.{[], reverse, sym}
-use Rattle.serve_net.specs.Over.{Shows}
+use Rattle.show_net.specs.Over.{Shows}
 use Rattle.serve_net.proofs.Attending.{attended, broken}
 use Rattle.serve_net.proofs.attend.attend.Goals as goal
 

@@ -1,5 +1,5 @@
 use Rattle.std.proofs.Common.{refl}
-use Rattle.serve_net.specs.Over.{Shows}
+use Rattle.show_net.specs.Over.{Shows}
 use Rattle.serve_net.specs.Attending.{starved}
 use Rattle.serve_net.proofs.Attending.{visited, halted}
 use Rattle.serve_net.proofs.attend.visit.Goals as goal

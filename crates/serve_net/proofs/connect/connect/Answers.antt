@@ -14,6 +14,6 @@ returns g c = record {
     closed = c.close.ensures;
     applied = λ run runs read reader.
         subst (λ (w : World). Applies read w (opening (map (λ b. (goal.Listener-dyn g (b.vtable, b.value)).heard b.value) c.args.listeners.items)) c.serve_connection-served.result.journal.items c.serve_connection-served.result.sent.items c.serve_connection-served.result.unsent.items c.serve_connection-served.result.end)
-        (c.in_ok-ready.ensures.tells over shows run runs) (c.serve_connection-served.ensures.applied read reader);
+        (c.in_ok-table.ensures.tells over shows run runs) (c.serve_connection-served.ensures.applied read reader);
   };
 }

@@ -1,5 +1,5 @@
 use Rattle.std.proofs.Common.{◌≤◌, All, length, map, reverse}
-use Rattle.serve_net.specs.Over.{Over, Shows}
+use Rattle.show_net.specs.Over.{Over, Shows}
 use Rattle.serve_net.proofs.Walking.{Walked}
 use Rattle.serve_net.proofs.links.serve_links.Given as goal
 

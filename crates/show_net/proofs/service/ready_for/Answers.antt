@@ -8,9 +8,9 @@ use Rattle.sim_hist.specs.Run.{Traced, run_samples}
 use Rattle.trace_world.specs.Fitting.{FitsTable}
 use Rattle.trim_laws.proofs.Fitted.{simulated_fit}
 use Rattle.trail_net.proofs.Called.{inputs_are_ports}
-use Rattle.serve_net.specs.Readied.{TellsRuns}
-use Rattle.serve_net.proofs.Readying.{readied, inputs_of}
-use Rattle.serve_net.proofs.service.ready_for.Goals as goal
+use Rattle.show_net.specs.Readied.{TellsRuns}
+use Rattle.show_net.proofs.Readying.{readied, inputs_of}
+use Rattle.show_net.proofs.service.ready_for.Goals as goal
 
 pub trace_of-requires : goal.trace_of-requires
 trace_of-requires c =

@@ -5,7 +5,7 @@ use Rattle.exec_core.specs.Whole.{Place}
 use Rattle.symtab.specs.declared.parts.TableParts.{TableParts}
 use Rattle.trace_core.specs.Samples.{Samples}
 use Rattle.dbg_core.specs.World.{world_of}
-use Rattle.serve_net.specs.Over.{Over, world_over, RunsAs}
+use Rattle.show_net.specs.Over.{Over, world_over, RunsAs}
 
 -- the world of each run is theirs, as it is seen
 abbrev pub TellsRuns : Over → TableParts → Samples → Type 0

@@ -13,9 +13,9 @@ use Rattle.sim_hist.specs.Run.{run_samples}
 use Rattle.trim_core.specs.Trimmed.{IsTrimmed}
 use Rattle.trim_laws.specs.Runs.{HasInputs, RunsOver}
 use Rattle.trim_laws.proofs.Worlds.{worlds_are_seen_alike}
-use Rattle.serve_net.specs.declared.service.Service.{Service}
-use Rattle.serve_net.specs.Over.{Over, Shows}
-use Rattle.serve_net.specs.Readied.{TellsRuns}
+use Rattle.show_net.specs.declared.service.Service.{Service}
+use Rattle.show_net.specs.Over.{Over, Shows}
+use Rattle.show_net.specs.Readied.{TellsRuns}
 
 value_in : {A E : Type 0} → A → Result A E → A
 value_in d (Ok z) = z

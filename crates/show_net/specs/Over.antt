@@ -11,7 +11,7 @@ use Rattle.world_core.specs.Seen.{seen}
 use Rattle.world_core.specs.Source.{source_world}
 use Rattle.trim_laws.specs.Runs.{RunsOver}
 use Rattle.design_judge.specs.Accepting.{IsKept, accepting_of}
-use Rattle.serve_net.specs.declared.service.Service.{Service}
+use Rattle.show_net.specs.declared.service.Service.{Service}
 
 -- n signals of the design are driven
 pub record Over : Type 0 where
