@@ -153,7 +153,7 @@ pub const STIMULUS: [Advice; 4] = [
 ];
 
 /// The sentences for ends of the program by their status.
-pub const SENTENCES: [(u8, &str); 6] = [
+pub const SENTENCES: [(u8, &str); 7] = [
     (2, "`hgdb --help` tells the commands"),
     (
         5,
@@ -163,12 +163,16 @@ pub const SENTENCES: [(u8, &str); 6] = [
         6,
         "the requests have more than 16 MiB; give the session fewer of them",
     ),
-    (7, "a file was not read"),
+    (7, "a file, or what an editor sends, was not read"),
     (
         8,
         "standard output took no more, as a full disk or a reader that has gone; a front of the text was written",
     ),
     (9, "memory ran out; a front of the text was written"),
+    (
+        10,
+        "what an editor sends is not framed as its protocol says; what was answered before was written",
+    ),
 ];
 
 /// The sentences on a refusal of this kind and number, where there are some: the kind is the first word of its line.

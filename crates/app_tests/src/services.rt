@@ -104,7 +104,7 @@ static CASES: [Case; 5] = [
     },
 ];
 
-fn files_of(alloc: Global, reads: &[u64]) -> Result<MemFiles, NoMemory> {
+pub(crate) fn files_of(alloc: Global, reads: &[u64]) -> Result<MemFiles, NoMemory> {
     let mut files = Vec::new(alloc);
     for (name, text) in &FILES {
         let name = String::from_str(alloc, name)?;
@@ -113,7 +113,7 @@ fn files_of(alloc: Global, reads: &[u64]) -> Result<MemFiles, NoMemory> {
     MemFiles::new(alloc, files, reads.to_vec(alloc)?)
 }
 
-fn words_of(alloc: Global, words: &[&str]) -> Result<Words, NoMemory> {
+pub(crate) fn words_of(alloc: Global, words: &[&str]) -> Result<Words, NoMemory> {
     let mut all = Words::new(alloc);
     for word in words {
         all.add(word)?;

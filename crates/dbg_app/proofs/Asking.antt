@@ -25,7 +25,7 @@ use Rattle.batch_run.specs.Texts.{requests_fault, most_requests}
 use Rattle.dbg_app.specs.Answers.{Answer, Contents, Held, Holds, HoldsDesign, HoldsRows, HoldsRequests, Asks, NoDesign, NoStimulus, NoRequests, Accepted, RefusesDesign, RefusesStimulus, RefusesRequests, ShowsText, text_of}
 use Rattle.dbg_app.specs.Judged.{Judges, Work, HoldsWork, IsWorkText, TakesText, alone, over, session, held_by, judged_status}
 use Rattle.dbg_app.specs.Outcome.{TakesAnswer}
-use Rattle.serve_net.specs.Over.{Over}
+use Rattle.show_net.specs.Over.{Over}
 use Rattle.dbg_app.specs.Serving.{HoldsOver}
 
 some_one : {A : Type 0} (o : Option A) (x y : A) → o ≡ Some x → o ≡ Some y → x ≡ y

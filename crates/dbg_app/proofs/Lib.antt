@@ -9,3 +9,4 @@ mod Judging
 mod Given
 pub mod Offering
 mod Reading
+mod Dapping

@@ -7,8 +7,8 @@ use Rattle.design_core.specs.DesignView.{design_of}
 use Rattle.trim_laws.proofs.Orders.{one_length}
 use Rattle.stim_text.specs.Rows.{rows_of}
 use Rattle.design_judge.specs.Accepting.{IsKept, accepting_of}
-use Rattle.serve_net.specs.declared.service.Service.{Service}
-use Rattle.serve_net.specs.Over.{Over, Shows}
+use Rattle.show_net.specs.declared.service.Service.{Service}
+use Rattle.show_net.specs.Over.{Over, Shows}
 use Rattle.std.specs.Prelude.{option_map}
 use Rattle.std.proofs.lemmas.List.{append-nil}
 use Rattle.dbg_app.specs.Command.{Command, file_names, rest_names}

@@ -10,3 +10,4 @@ pub mod Call
 pub mod Offer
 pub mod Serving
 pub mod Ends
+pub mod Dap

@@ -11,7 +11,7 @@ use Rattle.design_judge.specs.Judgement.{ArePortsOf}
 use Rattle.design_judge.specs.Judging.{JudgesStimulus}
 use Rattle.link_edge.specs.Links.{Meaning}
 use Rattle.duo_run.specs.declared.served.Served.{Served}
-use Rattle.serve_net.specs.Over.{Over, Shows}
+use Rattle.show_net.specs.Over.{Over, Shows}
 use Rattle.serve_net.specs.Service.{AsksNone, ServesAll, ServesSome}
 use Rattle.io_edge.specs.Taken.{Appends}
 use Rattle.project_read.specs.Asking.{AsksSome}

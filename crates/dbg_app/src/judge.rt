@@ -7,6 +7,7 @@ ghost use Rattle.io_edge.specs.Unread.{StopsAt};
 ghost use Rattle.design_core.specs.DesignView.{design_of};
 ghost use Rattle.design_judge.specs.Accepting.{IsKept, accepting_of};
 ghost use Rattle.project_read.specs.Asking.{AsksFront, StopsInside};
+ghost use Rattle.design_judge.specs.Naming.{NamesAccepted, accepted_in};
 ghost use Rattle.design_judge.specs.Judging.{AsksFiles, IsFit, IsWhole, JudgesFiles, JudgesStimulus};
 ghost use Rattle.dbg_app.specs.Command.{command_of};
 ghost use Rattle.dbg_app.specs.Names.{AsksFrontOf, StopsInsideOf};
@@ -21,7 +22,7 @@ use crate::arguments::given_in;
 use crate::command::{Command, OfDesign, OverRows, Task, read_command};
 use crate::requests::read_requests;
 use design_core::Ports;
-use design_judge::{Accepted, DesignFault, judge_design};
+use design_judge::{Accepted, DesignFault, Named, judge_design, judge_named};
 use io_edge::{Files, Words};
 use run_status::Ending;
 use std::alloc::Global;
@@ -82,6 +83,29 @@ pub(crate) fn judge_source<F: Files>(
     let given = given_in(alloc, command.words, command.first)?;
     let top = command.top.as_bytes();
     Ok(judge_design(alloc, files, command.source, top, &given)?)
+}
+
+/// The same, with the names of the files of the design, where it is accepted.
+pub(crate) fn judge_files<F: Files>(
+    alloc: Global,
+    command: &Command<'_>,
+    files: &mut F,
+) -> Result<Result<Named, DesignFault>, Halt>
+    ensures judged { IfOk result (λ found. IfSome (F.told files.old) (λ told. JudgesFiles told command.now.source.now (command_as command.now).top
+        (accepted_in found))) }
+    ensures fit { IfOk result (λ found. IsFit (accepted_in found)) }
+    ensures names { IfOk result (NamesAccepted (F.told files.old) command.now.source.now) }
+    ensures same { F.told files.new ≡ F.told files.old }
+    ensures asked { IfOk result (λ found. AsksFiles (F.told files.old) command.now.source.now (F.asked files.old) (F.asked files.new) (accepted_in found)) }
+    ensures front { AsksFront (F.told files.old) command.now.source.now (F.asked files.old) (F.asked files.new) }
+    ensures read { IsErrOf result Halt.ReadFault → Rose (F.fault_count files.old) (F.fault_count files.new) }
+    ensures unread { IsErrOf result Halt.ReadFault → StopsInside (F.told files.old) command.now.source.now F.asked F.fault_count files.old files.new }
+    ensures no_write { IsErrOf result Halt.WriteFault → ⊥ }
+    ensures later { F.fault_count files.old ≤ F.fault_count files.new }
+{
+    let given = given_in(alloc, command.words, command.first)?;
+    let top = command.top.as_bytes();
+    Ok(judge_named(alloc, files, command.source, top, &given)?)
 }
 
 /// Reads and judges the stimulus of a command, for these ports.

@@ -3,6 +3,7 @@
 
 mod arguments;
 mod command;
+mod dap;
 mod demo;
 mod halt;
 mod judge;
@@ -15,6 +16,7 @@ mod serving;
 mod shown;
 mod write;
 
+pub use dap::{is_dap, run_dap};
 use halt::Halt;
 pub use offer::address_of;
 pub use program::{Ended, run};

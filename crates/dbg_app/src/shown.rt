@@ -2,7 +2,7 @@
 //!
 //! The text of the stimulus is kept: each session reads its rows anew.
 
-ghost use Rattle.std.specs.Prelude.{◌≡◌, ◌≤◌, [], ◌∷◌, Some, None, IfOk, IfSome, OnOk, IsErrOf};
+ghost use Rattle.std.specs.Prelude.{◌≡◌, ◌≤◌, [], ◌∷◌, Some, None, IfOk, IfSome, OnOk, IsErrOf, map, string_bytes};
 ghost use Rattle.io_edge.specs.Faults.{Rose};
 ghost use Rattle.io_edge.specs.Taken.{Appends, AppendsFront};
 ghost use Rattle.io_edge.specs.Unread.{StopsAt};
@@ -11,15 +11,16 @@ ghost use Rattle.design_judge.specs.Accepting.{IsKept, accepting_of};
 ghost use Rattle.dbg_app.specs.Asked.{command_as, requests_as, stimulus_as};
 ghost use Rattle.dbg_app.specs.Names.{AsksFrontOf, StopsInsideOf};
 ghost use Rattle.dbg_app.specs.Answers.{HoldsDesign};
+ghost use Rattle.dbg_app.specs.Dap.{NamesShown};
 ghost use Rattle.dbg_app.specs.Serving.{AreRows, FindsRows, IsShown, JudgesOffer, AsksShown, asked_show};
 
 use crate::Halt;
 use crate::command::Command;
-use crate::judge::{Judged, judge_source};
+use crate::judge::{Judged, judge_files};
 use design_core::Ports;
-use design_judge::{Accepted, judge_rows};
+use design_judge::{Accepted, Named, judge_rows};
 use io_edge::{Files, MOST_BYTES, read_file};
-use serve_net::Service;
+use show_net::Service;
 use std::alloc::Global;
 use stim_text::StimFault;
 
@@ -88,7 +89,38 @@ fn show<F: Files>(
     }
 }
 
-/// Reads the source of a service, the files that it imports, and the stimulus, in this order, and judges each before the next is read.
+/// Reads the source of a service, the files that it imports, and the stimulus, in this order, and judges each before the next is read. What
+/// is accepted has the names of the files of its design, by their numbers.
+pub(crate) fn judge_named<F: Files>(
+    alloc: Global,
+    command: &Command<'_>,
+    stimulus: &str,
+    files: &mut F,
+) -> Result<(Shown, Vec<String>), Halt>
+    requires stimulus { stimulus_as command.now.task ≡ Some stimulus.now }
+    requires bare { requests_as command.now.task ≡ None }
+    ensures judged { IfOk result (λ found. IfSome (F.told files.old) (λ told. JudgesOffer told (command_as command.now) found.0)) }
+    ensures shown { IfOk result (λ found. IsShown found.0) }
+    ensures names { IfOk result (λ found. NamesShown (F.told files.old) command.now.source.now found.0 (map (λ name. string_bytes name) found.1.items)) }
+    ensures same { F.told files.new ≡ F.told files.old }
+    ensures asked { IfOk result (λ found. AsksShown (F.told files.old) (command_as command.now) (F.asked files.old) (F.asked files.new) found.0) }
+    ensures front { AsksFrontOf (F.told files.old) (Some (command_as command.now)) (F.asked files.old) (F.asked files.new) }
+    ensures read { IsErrOf result Halt.ReadFault → Rose (F.fault_count files.old) (F.fault_count files.new) }
+    ensures unread { IsErrOf result Halt.ReadFault → StopsInsideOf (F.told files.old)
+        (Some (command_as command.now)) F.asked F.fault_count files.old files.new }
+    ensures no_write { IsErrOf result Halt.WriteFault → ⊥ }
+    ensures later { F.fault_count files.old ≤ F.fault_count files.new }
+{
+    match judge_files(alloc, command, files)? {
+        Ok(Named { accepted, names }) => {
+            let shown = show(alloc, command, stimulus, accepted, files)?;
+            Ok((shown, names))
+        }
+        Err(fault) => Ok((Shown::Refused(Judged::NoDesign(fault)), Vec::new(alloc))),
+    }
+}
+
+/// The same, without the names.
 pub(crate) fn judge_shown<F: Files>(
     alloc: Global,
     command: &Command<'_>,
@@ -108,8 +140,6 @@ pub(crate) fn judge_shown<F: Files>(
     ensures no_write { IsErrOf result Halt.WriteFault → ⊥ }
     ensures later { F.fault_count files.old ≤ F.fault_count files.new }
 {
-    match judge_source(alloc, command, files)? {
-        Ok(accepted) => show(alloc, command, stimulus, accepted, files),
-        Err(fault) => Ok(Shown::Refused(Judged::NoDesign(fault))),
-    }
+    let (shown, _) = judge_named(alloc, command, stimulus, files)?;
+    Ok(shown)
 }

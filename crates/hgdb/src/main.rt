@@ -1,7 +1,8 @@
 //! The program `hgdb`.
 //!
 //! It makes the words of the command line, the adapters of the system and the listeners of the sessions, calls `dbg_app::serve` where
-//! the words are a service and `dbg_app::run` otherwise, and ends with the status.
+//! the words are a service, `dbg_app::run_dap` where they are a conversation with an editor, and `dbg_app::run` otherwise, and ends with the
+//! status.
 //! Standard output has what these write. Once that is over, `reasons` says on standard error why the run ended as it did.
 #![tactic(auto)]
 
@@ -12,8 +13,8 @@ mod reasons;
 use crate::kept::KeptSink;
 use crate::noted::NotedFiles;
 use crate::reasons::{explain, explain_address, explain_status};
-use dbg_app::{address_of, run, serve};
-use io_edge::{Sink, StdFiles, StdSink, Words};
+use dbg_app::{address_of, is_dap, run, run_dap, serve};
+use io_edge::{Sink, StdFiles, StdSink, StdSource, Words};
 use listen::{CycleHits, LineHits, Listener};
 use std::io::ErrorKind;
 use std::marker::Send;
@@ -48,6 +49,9 @@ Usage:
           print how many stops a session over a chain of N cells reaches
   hgdb serve MODE SRC STIM ADDR COUNT TOP [NAME=N]..
           serve sessions over the design's run to clients that attach
+  hgdb dap MODE SRC STIM TOP [NAME=N]..
+          debug the design's run in an editor, by the Debug Adapter Protocol
+          over standard input and output
   hgdb --help
           print this text
   hgdb --version
@@ -74,6 +78,7 @@ Exit status:
   3  the source is refused             8  the output failed
   4  the stimulus is refused           9  memory ran out
   5  the symbol file or the dump is refused
+  10 what an editor sends is not framed as its protocol says
 ";
 
 /// The words of the command line without the program's name. Where a word is not UTF-8 there are none.
@@ -129,6 +134,20 @@ fn run_over<R: Files + Print + Eprint + AllocGlobal>(
     Ok(status)
 }
 
+/// Converses with an editor over the system's files, its standard input and its output, as the words say, and gives the status.
+fn converse_over<R: Files + Print + Eprint + Input + AllocGlobal + Wait>(
+    rt: &R,
+    words: &Words,
+) -> u8 {
+    let alloc = rt.alloc();
+    let mut files = NotedFiles::new(rt.alloc(), StdFiles::new(rt));
+    let mut input = StdSource::new(rt);
+    let mut out = KeptSink::new(StdSink::new(rt));
+    let status = run_dap(rt, alloc, words, &mut files, &mut input, &mut out).status;
+    explain(rt, words, status, &files, out.front());
+    status
+}
+
 /// Serves what the words say over the system's files, its output and its network, and gives the status. There are as many sets of the two
 /// listeners as a service has clients at most. Fails only where there is no memory for the address and the listeners.
 fn serve_over<R: Files + Print + Eprint + AllocGlobal + Net + Threads + Wait + Sync>(
@@ -168,6 +187,9 @@ fn main(rt: HostRuntime) -> io::Result<ExitCode> {
     };
     if let Some(text) = text_asked_for(&words) {
         return Ok(ended(&rt, print_text(&rt, text)));
+    }
+    if is_dap(&words) {
+        return Ok(ExitCode::from(converse_over(&rt, &words)));
     }
     let status = match address_of(&words) {
         Some(address) => serve_over(&rt, &words, address),
