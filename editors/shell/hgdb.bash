@@ -20,11 +20,11 @@ _hgdb() {
   local word=${COMP_WORDS[COMP_CWORD]} kinds kind top=0
   COMPREPLY=()
   if [ "$COMP_CWORD" -eq 1 ]; then
-    COMPREPLY=($(compgen -W "trail compile symbols sim debug replay demo serve --help --version" -- "$word"))
+    COMPREPLY=($(compgen -W "trail compile symbols sim debug replay demo serve dap --help --version" -- "$word"))
     return
   fi
   case ${COMP_WORDS[1]} in
-    trail | sim) kinds=(mode src stim top) ;;
+    trail | sim | dap) kinds=(mode src stim top) ;;
     compile | symbols) kinds=(mode src top) ;;
     debug) kinds=(mode src stim req top) ;;
     serve) kinds=(mode src stim addr count top) ;;
