@@ -1,0 +1,3 @@
+mod Tagging
+mod Standing
+mod Opening
