@@ -50,7 +50,7 @@ struct Case {
     offers: bool,
 }
 
-static CASES: [Case; 5] = [
+static CASES: [Case; 8] = [
     // The second time no client comes.
     Case {
         words: &["serve", "opt", "A.hg", "A.stim", "here", "2", "A"],
@@ -99,6 +99,37 @@ static CASES: [Case; 5] = [
         status: 8,
         least: 0,
         text: "connection 0 end bye requests 3\n",
+        served: true,
+        offers: true,
+    },
+    // All at once, on one session.
+    Case {
+        words: &["serveall", "opt", "A.hg", "A.stim", "here", "2", "A"],
+        reads: &[],
+        puts: &[],
+        status: 0,
+        least: 49,
+        text: "client 0 end bye requests 3\nclient 1 door failed\n",
+        served: true,
+        offers: true,
+    },
+    Case {
+        words: &["serveall", "opt", "A.hg", "A.stim", "here", "9", "A"],
+        reads: &[],
+        puts: &[],
+        status: 2,
+        least: 12,
+        text: "usage fault\n",
+        served: false,
+        offers: false,
+    },
+    Case {
+        words: &["serveall", "opt", "A.hg", "A.stim", "here", "8", "A"],
+        reads: &[],
+        puts: &[0],
+        status: 8,
+        least: 0,
+        text: "client 0 end bye requests 3\n",
         served: true,
         offers: true,
     },
@@ -154,9 +185,18 @@ fn are_told(sent: &[Listed<u8>], unsent: &[Listed<u8>]) -> bool {
 
 /// Whether the client was served, or nobody.
 fn is_served(many: &Many<MemLink>, served: bool) -> bool {
-    match many.served.first() {
-        Some(first) => served && many.served.len() == 1 && are_told(&first.sent, &first.unsent),
-        None => !served,
+    match (many.served.first(), &many.hub) {
+        (Some(first), None) => {
+            served && many.served.len() == 1 && are_told(&first.sent, &first.unsent)
+        }
+        (None, Some(hub)) => match hub.clients.first() {
+            Some(first) => {
+                served && hub.clients.len() == 1 && are_told(&first.sent, &first.unsent)
+            }
+            None => false,
+        },
+        (None, None) => !served,
+        (Some(_), Some(_)) => false,
     }
 }
 

@@ -10,3 +10,4 @@ mod Given
 pub mod Offering
 mod Reading
 mod Dapping
+mod Words

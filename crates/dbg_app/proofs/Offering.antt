@@ -18,13 +18,16 @@ use Rattle.dbg_app.specs.Offer.{Offer, offer_of, offer_files, IfOffered}
 use Rattle.listen.specs.Pairs.{Heard}
 use Rattle.link_edge.specs.Links.{Meaning}
 use Rattle.duo_run.specs.declared.served.Served.{Served}
-use Rattle.serve_net.specs.Service.{AsksNone, ServesAll, ServesSome, is_end_status}
+use Rattle.hub_core.specs.declared.served.HubServed.{HubServed}
+use Rattle.serve_net.specs.Service.{is_end_status}
+use Rattle.dbg_app.specs.declared.offer.Manner.{Manner}
+use Rattle.dbg_app.specs.declared.offer.Manner.TheVariants.{InTurn, AtOnce}
 use Rattle.dbg_app.specs.Answers.{IfAsked}
 use Rattle.dbg_app.specs.Judged.{AsksOwn, Judges, HasText, TakesText, TakesTextFront, judged_status}
 use Rattle.dbg_app.specs.Outcome.{is_status, EndsAsAsked, TakesSome, Completes}
 use Rattle.dbg_app.specs.declared.judge.Judged.{Judged}
 use Rattle.dbg_app.specs.declared.shown.Shown.TheVariants as shown
-use Rattle.dbg_app.specs.Serving.{AsksByStatus, AsksOffer, HoldsOver, ServesOffer, ServesFront, CompletesOffer, JudgesOffer}
+use Rattle.dbg_app.specs.Serving.{AsksByStatus, AsksNone, AsksOffer, HoldsOver, ServesWhole, ServesFrontOf, ServesOffer, ServesFront, CompletesOffer, JudgesOffer}
 use Rattle.dbg_app.proofs.Asking.{offer_status}
 use Rattle.dbg_app.proofs.Statuses.{source_asked, stimulus_asked, all_asked, early_is}
 use Rattle.dbg_app.proofs.Ending.{either, same_number, done_taken, front_taken, written_completes}
@@ -63,22 +66,22 @@ offered_is told words offer P e h = subst (λ (o : Option Offer). IfOffered told
 
 -- ---- what was served
 
-module _ {L : Type 0} (meant : L → Meaning) (told : Option Contents) (offer : Offer) (sets : List (List Heard)) (l0 l1 : Option ℕ) (f0 f1 : ℕ) (served : List (Served L)) (old new : Option (List ℕ)) (service : Service)
+module _ {L : Type 0} (meant : L → Meaning) (told : Option Contents) (offer : Offer) (sets : List (List Heard)) (l0 l1 : Option ℕ) (f0 f1 : ℕ) (served : List (Served L)) (hub : Option (HubServed L)) (old new : Option (List ℕ)) (service : Service)
     (shows : (over : Over) × Shows service over) (judged : IfSome told (λ files. JudgesOffer files offer.files (shown.Accepted service))) where
-  all_of : (told : Option Contents) → IfSome told (λ files. JudgesOffer files offer.files (shown.Accepted service)) → ((over : Over) → Shows service over → ServesAll meant over sets offer.count l0 l1 f0 f1 served old new)
-      → IfSome told (λ files. ServesOffer meant files offer sets l0 l1 f0 f1 served old new)
+  all_of : (told : Option Contents) → IfSome told (λ files. JudgesOffer files offer.files (shown.Accepted service)) → ((over : Over) → Shows service over → ServesWhole meant over sets offer.manner offer.count l0 l1 f0 f1 served hub old new)
+      → IfSome told (λ files. ServesOffer meant files offer sets l0 l1 f0 f1 served hub old new)
   all_of None j all = tt
   all_of (Some files) j all = record { over = shows.0; holds = j shows.0 shows.1; all = all shows.0 shows.1 }
 
-  pub serves_offer : ((over : Over) → Shows service over → ServesAll meant over sets offer.count l0 l1 f0 f1 served old new) → IfSome told (λ files. ServesOffer meant files offer sets l0 l1 f0 f1 served old new)
+  pub serves_offer : ((over : Over) → Shows service over → ServesWhole meant over sets offer.manner offer.count l0 l1 f0 f1 served hub old new) → IfSome told (λ files. ServesOffer meant files offer sets l0 l1 f0 f1 served hub old new)
   serves_offer all = all_of told judged all
 
-  some_of : (told : Option Contents) (status : ℕ) → IfSome told (λ files. JudgesOffer files offer.files (shown.Accepted service)) → ((over : Over) → Shows service over → ServesSome meant over sets offer.count l0 l1 f0 f1 served old new status)
-      → IfSome told (λ files. ServesFront meant files offer sets l0 l1 f0 f1 served old new status)
+  some_of : (told : Option Contents) (status : ℕ) → IfSome told (λ files. JudgesOffer files offer.files (shown.Accepted service)) → ((over : Over) → Shows service over → ServesFrontOf meant over sets offer.manner offer.count l0 l1 f0 f1 served hub old new status)
+      → IfSome told (λ files. ServesFront meant files offer sets l0 l1 f0 f1 served hub old new status)
   some_of None status j some = tt
   some_of (Some files) status j some = inr (record { over = shows.0; holds = j shows.0 shows.1; some = some shows.0 shows.1 })
 
-  pub serves_part : (status : ℕ) → ((over : Over) → Shows service over → ServesSome meant over sets offer.count l0 l1 f0 f1 served old new status) → IfSome told (λ files. ServesFront meant files offer sets l0 l1 f0 f1 served old new status)
+  pub serves_part : (status : ℕ) → ((over : Over) → Shows service over → ServesFrontOf meant over sets offer.manner offer.count l0 l1 f0 f1 served hub old new status) → IfSome told (λ files. ServesFront meant files offer sets l0 l1 f0 f1 served hub old new status)
   serves_part status some = some_of told status judged some
 
 end_status_is : (status : ℕ) → IsTrue (is_end_status status) → (status ≡ 0) ⊎ ((status ≡ 8) ⊎ (status ≡ 9))
@@ -125,12 +128,12 @@ module _ (offer : Offer) (status : ℕ) (old new : Option (List ℕ)) (read_rose
     pub refused_ends : HasText judged → status ≡ judged_status judged → TakesText [] judged old new → IfSome told (λ files. EndsAsAsked [] files offer.files status old new)
     refused_ends text is taken = ends told (done_taken [] told (Some offer.files) judged status old new (as_asked told j) text is taken)
 
-    module _ {L : Type 0} (meant : L → Meaning) (sets : List (List Heard)) (l0 l1 : Option ℕ) (f0 f1 : ℕ) (served : List (Served L)) (none : AsksNone l0 l1 f0 f1 served) where
-      fronts : (told : Option Contents) → IfAsked told (Some offer.files) (λ files command. TakesSome [] files command old new) → IfSome told (λ files. ServesFront meant files offer sets l0 l1 f0 f1 served old new status)
+    module _ {L : Type 0} (meant : L → Meaning) (sets : List (List Heard)) (l0 l1 : Option ℕ) (f0 f1 : ℕ) (served : List (Served L)) (hub : Option (HubServed L)) (none : AsksNone l0 l1 f0 f1 served hub) where
+      fronts : (told : Option Contents) → IfAsked told (Some offer.files) (λ files command. TakesSome [] files command old new) → IfSome told (λ files. ServesFront meant files offer sets l0 l1 f0 f1 served hub old new status)
       fronts None h = tt
       fronts (Some files) h = inl (record { none = none; taken = h })
 
-      pub refused_front : HasText judged → TakesTextFront [] judged old new → IfSome told (λ files. ServesFront meant files offer sets l0 l1 f0 f1 served old new status)
+      pub refused_front : HasText judged → TakesTextFront [] judged old new → IfSome told (λ files. ServesFront meant files offer sets l0 l1 f0 f1 served hub old new status)
       refused_front text taken = fronts told (front_taken [] told (Some offer.files) judged old new (as_asked told j) text taken)
 
 -- ---- the files that were asked for
@@ -182,14 +185,23 @@ module _ (told : Option Contents) (words : List (List ℕ)) (offer : Offer) (is_
 
 -- ---- what stays in front
 
-pub served_grown : {L : Type 0} (meant : L → Meaning) (sets : List (List Heard)) (count : ℕ) (l0 l1 : Option ℕ) (f0 f1 : ℕ) (served : List (Served L)) (old new : Option (List ℕ)) (service : Service) (status : ℕ) → ((over : Over) × Shows service over)
-    → IsTrue (is_end_status status) → (status ≡ 0 → (over : Over) → Shows service over → ServesAll meant over sets count l0 l1 f0 f1 served old new)
-    → (7 < status → (over : Over) → Shows service over → ServesSome meant over sets count l0 l1 f0 f1 served old new status) → Grows old new
-served_grown meant sets count l0 l1 f0 f1 served old new service status shows known all some = elim (end_status_is status known) [
-  | inl e ↦ grows_whole old new _ (all e shows.0 shows.1).taken
-  | inr (inl e) ↦ grows_front old new _ (some (omega (arith, e)) shows.0 shows.1).taken
-  | inr (inr e) ↦ grows_front old new _ (some (omega (arith, e)) shows.0 shows.1).taken
-]
+module _ {L : Type 0} (meant : L → Meaning) (sets : List (List Heard)) (count : ℕ) (l0 l1 : Option ℕ) (f0 f1 : ℕ) (served : List (Served L)) (hub : Option (HubServed L)) (old new : Option (List ℕ)) where
+  whole_grown : (over : Over) (manner : Manner) → ServesWhole meant over sets manner count l0 l1 f0 f1 served hub old new → Grows old new
+  whole_grown over InTurn all = grows_whole old new _ all.0.taken
+  whole_grown over AtOnce all = grows_whole old new _ all.0.taken
+
+  front_grown : (over : Over) (manner : Manner) (status : ℕ) → ServesFrontOf meant over sets manner count l0 l1 f0 f1 served hub old new status → Grows old new
+  front_grown over InTurn status some = grows_front old new _ some.0.taken
+  front_grown over AtOnce status some = grows_front old new _ some.0.taken
+
+  pub served_grown : (manner : Manner) (service : Service) (status : ℕ) → ((over : Over) × Shows service over) → IsTrue (is_end_status status)
+      → (status ≡ 0 → (over : Over) → Shows service over → ServesWhole meant over sets manner count l0 l1 f0 f1 served hub old new)
+      → (7 < status → (over : Over) → Shows service over → ServesFrontOf meant over sets manner count l0 l1 f0 f1 served hub old new status) → Grows old new
+  served_grown manner service status shows known all some = elim (end_status_is status known) [
+    | inl e ↦ whole_grown shows.0 manner (all e shows.0 shows.1)
+    | inr (inl e) ↦ front_grown shows.0 manner status (some (omega (arith, e)) shows.0 shows.1)
+    | inr (inr e) ↦ front_grown shows.0 manner status (some (omega (arith, e)) shows.0 shows.1)
+  ]
 
 -- a service that began ends with none of the statuses of a refusal
 pub ends_late : (status : ℕ) → IsTrue (is_end_status status) → (status ≡ 0 → ⊥) → status < 8 → ⊥

@@ -1,31 +1,47 @@
 -- The words of a service.
-use Rattle.std.specs.Prelude.{ℕ, ◌&&◌, List, ◌∷◌, Option, Some, None, option_map, option_and_then, codes, bytes_eq, if◌then◌else◌, ⊤}
+use Rattle.std.specs.Prelude.{ℕ, List, ◌∷◌, Option, Some, None, option_map, option_and_then, codes, bytes_eq, if◌then◌else◌, ⊤}
 use Rattle.world_core.specs.declared.mode.Mode.{Mode}
 use Rattle.dbg_app.specs.Number.{number_to}
 use Rattle.dbg_app.specs.Command.{Trail, Command, command_with, mode_of}
 use Rattle.dbg_app.specs.Call.{is_some_word}
 use Rattle.dbg_app.specs.Answers.{Contents}
+use Rattle.dbg_app.specs.declared.offer.Manner.{Manner}
+use Rattle.dbg_app.specs.declared.offer.Manner.TheVariants.{InTurn, AtOnce}
 
--- a service: its files, which are judged as those of a trail; where clients attach; and how many times the door is asked
+-- a service: its files, which are judged as those of a trail; how clients are served; where they attach; and how many times the door is asked
 pub record Offer : Type 0 where
   pub files : Command
+  pub manner : Manner
   pub address : List ℕ
   pub count : ℕ
 
-abbrev pub offered : List ℕ → ℕ → Command → Offer
-offered address count command = record { files = command; address = address; count = count }
+abbrev pub offered : Manner → List ℕ → ℕ → Command → Offer
+offered manner address count command = record { files = command; manner = manner; address = address; count = count }
 
-abbrev pub offered_to : List ℕ → Option Command → ℕ → Option Offer
-offered_to address command count = option_map (offered address count) command
+abbrev pub offered_to : Manner → List ℕ → Option Command → ℕ → Option Offer
+offered_to manner address command count = option_map (offered manner address count) command
 
-abbrev pub offer_with : (address count source stimulus top : List ℕ) → List (List ℕ) → Mode → Option Offer
-offer_with address count source stimulus top rest mode =
-    option_and_then (offered_to address (command_with Trail source (Some stimulus) None top rest mode)) (number_to 16 count)
+-- the first word: `serve`, for at most 16 clients, or `serveall`, for at most 8
+abbrev pub manner_of : List ℕ → Option Manner
+manner_of word = if bytes_eq word (codes "serve") then Some InTurn else if bytes_eq word (codes "serveall") then Some AtOnce else None
 
--- the words `serve MODE SRC STIM ADDR COUNT TOP [NAME=N]..`, where ADDR is not empty and COUNT is from 1 to 16
+abbrev pub most_of : Manner → ℕ
+most_of InTurn = 16
+most_of AtOnce = 8
+
+-- the words behind the mode
+abbrev pub offer_with : Manner → Mode → List (List ℕ) → Option Offer
+offer_with manner mode (word ∷ second ∷ source ∷ stimulus ∷ address ∷ count ∷ top ∷ rest) =
+    option_and_then (offered_to manner address (command_with Trail source (Some stimulus) None top rest mode)) (number_to (most_of manner) count)
+offer_with manner mode words = None
+
+abbrev pub offer_by : List (List ℕ) → Option Mode → Manner → Option Offer
+offer_by words mode manner = option_and_then (λ m. offer_with manner m words) mode
+
+-- the words `serve MODE SRC STIM ADDR COUNT TOP [NAME=N]..` or `serveall ..`, where ADDR is not empty and COUNT is from 1 to the most
 abbrev pub offer_of : List (List ℕ) → Option Offer
 offer_of (word ∷ mode ∷ source ∷ stimulus ∷ address ∷ count ∷ top ∷ rest) =
-    if bytes_eq word (codes "serve") && is_some_word address then option_and_then (offer_with address count source stimulus top rest) (mode_of mode) else None
+    if is_some_word address then option_and_then (offer_by (word ∷ mode ∷ source ∷ stimulus ∷ address ∷ count ∷ top ∷ rest) (mode_of mode)) (manner_of word) else None
 offer_of words = None
 
 abbrev pub offer_address : Offer → List ℕ

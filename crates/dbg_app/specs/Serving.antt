@@ -11,8 +11,11 @@ use Rattle.design_judge.specs.Judgement.{ArePortsOf}
 use Rattle.design_judge.specs.Judging.{JudgesStimulus}
 use Rattle.link_edge.specs.Links.{Meaning}
 use Rattle.duo_run.specs.declared.served.Served.{Served}
+use Rattle.hub_core.specs.declared.served.HubServed.{HubServed}
 use Rattle.show_net.specs.Over.{Over, Shows}
-use Rattle.serve_net.specs.Service.{AsksNone, ServesAll, ServesSome}
+use Rattle.serve_net.specs.Members.{next_of}
+use Rattle.serve_net.specs.Service.{ServesAll, ServesSome}
+use Rattle.hub_net.specs.AtOnce.{ServesAtOnce, ServesSomeAtOnce}
 use Rattle.io_edge.specs.Taken.{Appends}
 use Rattle.project_read.specs.Asking.{AsksSome}
 use Rattle.dbg_app.specs.Command.{Command, rest_names}
@@ -24,12 +27,14 @@ use Rattle.dbg_app.specs.Judged.{AsksOwn, HasText, Judges, asked_behind, judged_
 use Rattle.dbg_app.specs.Offer.{Offer}
 use Rattle.dbg_app.specs.declared.judge.Judged.{Judged}
 use Rattle.dbg_app.specs.declared.offer.Offer as code
+use Rattle.dbg_app.specs.declared.offer.Manner.{Manner}
+use Rattle.dbg_app.specs.declared.offer.Manner.TheVariants.{InTurn, AtOnce}
 use Rattle.dbg_app.specs.declared.shown.Shown as code_shown
 use Rattle.dbg_app.specs.declared.shown.Shown.TheVariants as shown
 
 -- without where the words lie in memory
 abbrev pub offer_as : code.Offer → Offer
-offer_as offer = record { files = command_as offer.command; address = offer.address.now; count = offer.count }
+offer_as offer = record { files = command_as offer.command; manner = offer.manner; address = offer.address.now; count = offer.count }
 
 -- ---- what the files hold
 
@@ -48,25 +53,46 @@ pub record HoldsOver (files : Contents) (command : Command) (over : Over) : Type
 abbrev pub is_serve_status : ℕ → Bool
 is_serve_status status = run.is_status status && not (status == 6)
 
+-- clients were served in their manner, so often, and all of it was told: there is a hub only where they share a session, and then no connection
+abbrev pub ServesWhole : {L : Type 0} → (L → Meaning) → Over → List (List Heard) → Manner → ℕ → Option ℕ → Option ℕ → ℕ → ℕ → List (Served L) → Option (HubServed L) → Option (List ℕ) → Option (List ℕ) → Type 0
+ServesWhole meant over sets InTurn count left_old left_new faults_old faults_new served hub old new =
+    ServesAll meant over sets count left_old left_new faults_old faults_new served old new × (hub ≡ None)
+ServesWhole meant over sets AtOnce count left_old left_new faults_old faults_new served hub old new =
+    ServesAtOnce meant over (next_of sets) count left_old left_new faults_old faults_new hub old new × (served ≡ [])
+
+-- or at most so often, and a front of it was told
+abbrev pub ServesFrontOf : {L : Type 0} → (L → Meaning) → Over → List (List Heard) → Manner → ℕ → Option ℕ → Option ℕ → ℕ → ℕ → List (Served L) → Option (HubServed L) → Option (List ℕ) → Option (List ℕ) → ℕ → Type 0
+ServesFrontOf meant over sets InTurn count left_old left_new faults_old faults_new served hub old new status =
+    ServesSome meant over sets count left_old left_new faults_old faults_new served old new status × (hub ≡ None)
+ServesFrontOf meant over sets AtOnce count left_old left_new faults_old faults_new served hub old new status =
+    ServesSomeAtOnce meant over (next_of sets) count left_old left_new faults_old faults_new hub old new status × (served ≡ [])
+
+-- nobody was served, and the door is what it was
+pub record AsksNone {L : Type 0} (left_old left_new : Option ℕ) (faults_old faults_new : ℕ) (served : List (Served L)) (hub : Option (HubServed L)) : Type 0 where
+  pub none : served ≡ []
+  pub no_hub : hub ≡ None
+  pub left : left_new ≡ left_old
+  pub faults : faults_new ≡ faults_old
+
 -- what the files hold was served, so often, and all of it was told
-pub record ServesOffer {L : Type 0} (meant : L → Meaning) (files : Contents) (offer : Offer) (sets : List (List Heard)) (left_old left_new : Option ℕ) (faults_old faults_new : ℕ) (served : List (Served L)) (old new : Option (List ℕ)) : Type 0 where
+pub record ServesOffer {L : Type 0} (meant : L → Meaning) (files : Contents) (offer : Offer) (sets : List (List Heard)) (left_old left_new : Option ℕ) (faults_old faults_new : ℕ) (served : List (Served L)) (hub : Option (HubServed L)) (old new : Option (List ℕ)) : Type 0 where
   pub over : Over
   pub holds : HoldsOver files offer.files over
-  pub all : ServesAll meant over sets offer.count left_old left_new faults_old faults_new served old new
+  pub all : ServesWhole meant over sets offer.manner offer.count left_old left_new faults_old faults_new served hub old new
 
 -- the door was asked for no link, and nothing or a front of the line of a refusal was taken; or a part was served, and a front of its lines was taken
-pub record RefusesFront {L : Type 0} (files : Contents) (offer : Offer) (left_old left_new : Option ℕ) (faults_old faults_new : ℕ) (served : List (Served L)) (old new : Option (List ℕ)) : Type 0 where
-  pub none : AsksNone left_old left_new faults_old faults_new served
+pub record RefusesFront {L : Type 0} (files : Contents) (offer : Offer) (left_old left_new : Option ℕ) (faults_old faults_new : ℕ) (served : List (Served L)) (hub : Option (HubServed L)) (old new : Option (List ℕ)) : Type 0 where
+  pub none : AsksNone left_old left_new faults_old faults_new served hub
   pub taken : run.TakesSome [] files offer.files old new
 
-pub record ServesPart {L : Type 0} (meant : L → Meaning) (files : Contents) (offer : Offer) (sets : List (List Heard)) (left_old left_new : Option ℕ) (faults_old faults_new : ℕ) (served : List (Served L)) (old new : Option (List ℕ)) (status : ℕ) : Type 0 where
+pub record ServesPart {L : Type 0} (meant : L → Meaning) (files : Contents) (offer : Offer) (sets : List (List Heard)) (left_old left_new : Option ℕ) (faults_old faults_new : ℕ) (served : List (Served L)) (hub : Option (HubServed L)) (old new : Option (List ℕ)) (status : ℕ) : Type 0 where
   pub over : Over
   pub holds : HoldsOver files offer.files over
-  pub some : ServesSome meant over sets offer.count left_old left_new faults_old faults_new served old new status
+  pub some : ServesFrontOf meant over sets offer.manner offer.count left_old left_new faults_old faults_new served hub old new status
 
-abbrev pub ServesFront : {L : Type 0} → (L → Meaning) → Contents → Offer → List (List Heard) → Option ℕ → Option ℕ → ℕ → ℕ → List (Served L) → Option (List ℕ) → Option (List ℕ) → ℕ → Type 0
-ServesFront meant files offer sets left_old left_new faults_old faults_new served old new status =
-    RefusesFront files offer left_old left_new faults_old faults_new served old new ⊎ ServesPart meant files offer sets left_old left_new faults_old faults_new served old new status
+abbrev pub ServesFront : {L : Type 0} → (L → Meaning) → Contents → Offer → List (List Heard) → Option ℕ → Option ℕ → ℕ → ℕ → List (Served L) → Option (HubServed L) → Option (List ℕ) → Option (List ℕ) → ℕ → Type 0
+ServesFront meant files offer sets left_old left_new faults_old faults_new served hub old new status =
+    RefusesFront files offer left_old left_new faults_old faults_new served hub old new ⊎ ServesPart meant files offer sets left_old left_new faults_old faults_new served hub old new status
 
 -- where the files ask for an answer, and neither count has risen, the status is its status, and the whole line of a refusal was taken; or memory
 -- ran out

@@ -21,5 +21,4 @@ use halt::Halt;
 pub use offer::address_of;
 pub use program::{Ended, run};
 pub use project_read::{ProjectEnd, read_project};
-pub use serve_net::Many;
-pub use serving::serve;
+pub use serving::{Many, serve};

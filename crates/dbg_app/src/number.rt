@@ -7,7 +7,8 @@ use text_core::{digits_len, number_of};
 
 /// The number from 1 to this most that decimal digits say, if they do. Leading zeros may stand in it.
 pub(crate) fn number_to(most: u16, digits: &[u8]) -> Option<u16>
-    ensures { result ≡ the_number_to most digits.now }
+    ensures number { result ≡ the_number_to most digits.now }
+    ensures within { IfSome result (λ number. number ≤ most) }
 {
     if digits.is_empty() || digits_len(10, digits) < digits.len() {
         return None;

@@ -49,6 +49,8 @@ Usage:
           print how many stops a session over a chain of N cells reaches
   hgdb serve MODE SRC STIM ADDR COUNT TOP [NAME=N]..
           serve sessions over the design's run to clients that attach
+  hgdb serveall MODE SRC STIM ADDR COUNT TOP [NAME=N]..
+          serve one session over the design's run to all that attach
   hgdb dap MODE SRC STIM TOP [NAME=N]..
           debug the design's run in an editor, by the Debug Adapter Protocol
           over standard input and output
@@ -70,7 +72,8 @@ Usage:
   SCOPE   the names of the scopes around its module there and its own,
           joined by dots
   ADDR    the address of the server, HOST:PORT, as 127.0.0.1:4711
-  COUNT   how many clients it serves, one after the other, 1 to 16
+  COUNT   how many clients it serves: 1 to 16 one after the other, or
+          1 to 8 at once
 
 Exit status:
   0  all was printed                   6  the requests are too long
@@ -149,7 +152,7 @@ fn converse_over<R: Files + Print + Eprint + Input + AllocGlobal + Wait>(
 }
 
 /// Serves what the words say over the system's files, its output and its network, and gives the status. There are as many sets of the two
-/// listeners as a service has clients at most. Fails only where there is no memory for the address and the listeners.
+/// listeners as a service has sessions at most. Fails only where there is no memory for the address and the listeners.
 fn serve_over<R: Files + Print + Eprint + AllocGlobal + Net + Threads + Wait + Sync>(
     rt: &R,
     words: &Words,

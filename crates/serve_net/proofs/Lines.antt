@@ -1,14 +1,14 @@
 -- Visits, when one is put last.
 use Rattle.std.proofs.Common.{arith, ◌≡◌, ◌+◌, ℕ, suc, List, [], ◌∷◌, ◌++◌, length, sym, ◌∙◌, ap, append_assoc, append-nil}
 use Rattle.serve_net.specs.declared.visit.Visit.{Visit}
-use Rattle.serve_net.specs.Visits.{visit_line, lines_from, link_in, links_in, failure_in, failures_in}
+use Rattle.serve_net.specs.Visits.{line_of, lines_from, link_in, links_in, failure_in, failures_in}
 
-pub lines_more : (number : ℕ) (visits : List Visit) (visit : Visit) → lines_from number (visits ++ visit ∷ []) ≡ lines_from number visits ++ visit_line (number + length visits) visit
+pub lines_more : (who : List ℕ) (number : ℕ) (visits : List Visit) (visit : Visit) → lines_from who number (visits ++ visit ∷ []) ≡ lines_from who number visits ++ line_of who (number + length visits) visit
 unfolding lines_from
-lines_more number [] visit = append-nil (visit_line number visit) ∙ ap (λ n. visit_line n visit) (omega arith)
-lines_more number (v ∷ visits) visit =
-    ap (λ l. visit_line number v ++ l) (lines_more (suc number) visits visit ∙ ap (λ n. lines_from (suc number) visits ++ visit_line n visit) (omega arith))
-    ∙ sym (append_assoc (visit_line number v) (lines_from (suc number) visits) (visit_line (number + suc (length visits)) visit))
+lines_more who number [] visit = append-nil (line_of who number visit) ∙ ap (λ n. line_of who n visit) (omega arith)
+lines_more who number (v ∷ visits) visit =
+    ap (λ l. line_of who number v ++ l) (lines_more who (suc number) visits visit ∙ ap (λ n. lines_from who (suc number) visits ++ line_of who n visit) (omega arith))
+    ∙ sym (append_assoc (line_of who number v) (lines_from who (suc number) visits) (line_of who (number + suc (length visits)) visit))
 
 pub links_more : (visits : List Visit) (visit : Visit) → links_in (visits ++ visit ∷ []) ≡ links_in visits ++ link_in visit
 unfolding links_in

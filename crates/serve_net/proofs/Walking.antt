@@ -13,7 +13,7 @@ use Rattle.io_edge.specs.declared.sink_end.SinkEnd.TheVariants as sink_ends
 use Rattle.duo_run.specs.declared.served.Served.{Served}
 use Rattle.serve_net.specs.declared.visit.Visit.{Visit}
 use Rattle.serve_net.specs.declared.visit.Visit.TheVariants.{NoLink, Linked}
-use Rattle.serve_net.specs.Visits.{Told, HasLine, visit_line, visits_text, lines_from, links_in, failures_in}
+use Rattle.serve_net.specs.Visits.{Told, HasLine, connection, visit_line, visits_text, lines_from, links_in, failures_in}
 use Rattle.show_net.specs.Over.{Over}
 use Rattle.serve_net.specs.Members.{told_of, IsMember, next_of, behind_next, AreMembers}
 use Rattle.serve_net.specs.Service.{Answers, ServesAll, ServesSome, end_status}
@@ -22,7 +22,7 @@ use Rattle.serve_net.proofs.Lines.{lines_more, links_more, failures_more}
 
 -- ---- the door
 
-answers_none : (left : Option ℕ) (faults : ℕ) → Answers 0 0 left left faults faults
+pub answers_none : (left : Option ℕ) (faults : ℕ) → Answers 0 0 left left faults faults
 answers_none None faults = record { links = refl; failures = omega arith }
 answers_none (Some n) faults = record { links = ap Some (omega arith); failures = omega arith }
 
@@ -30,19 +30,19 @@ more_left : (links : ℕ) (l0 l1 l2 : Option ℕ) → l0 ≡ option_map (λ left
 more_left links l0 l1 None p q = rw q at p
 more_left links l0 l1 (Some n) p q = (rw q at p) ∙ ap Some (omega arith)
 
-answers_link : (links failures : ℕ) (l0 l1 l2 : Option ℕ) (f0 f1 f2 : ℕ) → Answers links failures l0 l1 f0 f1 → TakesLink l1 l2 f1 f2 → Answers (links + 1) failures l0 l2 f0 f2
+pub answers_link : (links failures : ℕ) (l0 l1 l2 : Option ℕ) (f0 f1 f2 : ℕ) → Answers links failures l0 l1 f0 f1 → TakesLink l1 l2 f1 f2 → Answers (links + 1) failures l0 l2 f0 f2
 answers_link links failures l0 l1 l2 f0 f1 f2 a t = record {
   links = more_left links l0 l1 l2 a.links t.left;
   failures = omega (arith, a.failures, t.later);
 }
 
-answers_later : (links failures : ℕ) (l0 l1 l2 : Option ℕ) (f0 f1 f2 : ℕ) → Answers links failures l0 l1 f0 f1 → l2 ≡ l1 → f1 ≤ f2 → Answers links failures l0 l2 f0 f2
+pub answers_later : (links failures : ℕ) (l0 l1 l2 : Option ℕ) (f0 f1 f2 : ℕ) → Answers links failures l0 l1 f0 f1 → l2 ≡ l1 → f1 ≤ f2 → Answers links failures l0 l2 f0 f2
 answers_later links failures l0 l1 l2 f0 f1 f2 a same later = record {
   links = rw same a.links;
   failures = omega (arith, a.failures, later);
 }
 
-answers_failure : (links failures : ℕ) (l0 l1 l2 : Option ℕ) (f0 f1 f2 : ℕ) → Answers links failures l0 l1 f0 f1 → l2 ≡ l1 → Rose f1 f2 → Answers links (failures + 1) l0 l2 f0 f2
+pub answers_failure : (links failures : ℕ) (l0 l1 l2 : Option ℕ) (f0 f1 f2 : ℕ) → Answers links failures l0 l1 f0 f1 → l2 ≡ l1 → Rose f1 f2 → Answers links (failures + 1) l0 l2 f0 f2
 answers_failure links failures l0 l1 l2 f0 f1 f2 a same rose = record {
   links = rw same a.links;
   failures = omega (arith, a.failures, rose);
@@ -61,7 +61,7 @@ pub record Walked {L : Type 0} (meant : L → Meaning) (over : Over) (sets0 sets
   pub taken : Appends old now (visits_text visits)
 
 module _ {L : Type 0} (meant : L → Meaning) (over : Over) where
-  grown_none : (old : Option (List ℕ)) → Appends old old []
+  pub grown_none : (old : Option (List ℕ)) → Appends old old []
   grown_none None = refl
   grown_none (Some taken) = ap Some (sym (append-nil taken))
 
@@ -122,7 +122,7 @@ module _ {L : Type 0} (meant : L → Meaning) (over : Over) where
     stands = record { answers = was.answers; lines = was.lines; told = was.told; members = was.members }
 
     line_is : (visit : Visit) → visits_text (was.visits ++ visit ∷ []) ≡ visits_text was.visits ++ visit_line number visit
-    line_is visit = lines_more 0 was.visits visit ∙ ap (λ n. visits_text was.visits ++ visit_line n visit) (omega (arith, was.counted))
+    line_is visit = lines_more connection 0 was.visits visit ∙ ap (λ n. visits_text was.visits ++ visit_line n visit) (omega (arith, was.counted))
 
     count_is : (visit : Visit) → length (was.visits ++ visit ∷ []) ≡ number + 1
     count_is visit = length-append was.visits (visit ∷ []) ∙ ap (λ n. n + 1) was.counted

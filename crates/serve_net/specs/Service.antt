@@ -52,14 +52,6 @@ pub record ServesSome {L : Type 0} (meant : L → Meaning) (over : Over) (sets :
   -- each link that came was served and stands among the visits, where memory did not run out
   pub whole : status ≢ 9 → (untold ≡ []) × (unserved ≡ 0)
 
--- ---- a service that asked for no link
-
--- nobody was served, and the door is what it was
-pub record AsksNone {L : Type 0} (left_old left_new : Option ℕ) (faults_old faults_new : ℕ) (served : List (Served L)) : Type 0 where
-  pub none : served ≡ []
-  pub left : left_new ≡ left_old
-  pub faults : faults_new ≡ faults_old
-
 -- ---- the statuses
 
 abbrev pub end_status : SinkEnd → ℕ

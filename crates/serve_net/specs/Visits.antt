@@ -18,19 +18,25 @@ end_word Closed = codes "closed"
 end_word Failed = codes "failed"
 end_word NoMemory = []
 
--- `connection I door failed`, or `connection I end E requests R`
-abbrev pub visit_line : ℕ → Visit → List ℕ
-visit_line number NoLink = said (codes "connection ") number ++ codes " door failed\n"
-visit_line number (Linked end requests) =
-    said (codes "connection ") number ++ codes " end " ++ end_word end ++ said (codes " requests ") requests ++ codes "\n"
+-- `WHO I door failed`, or `WHO I end E requests R`, where WHO is what comes of a link, with a space behind it
+abbrev pub line_of : List ℕ → ℕ → Visit → List ℕ
+line_of who number NoLink = said who number ++ codes " door failed\n"
+line_of who number (Linked end requests) = said who number ++ codes " end " ++ end_word end ++ said (codes " requests ") requests ++ codes "\n"
 
 -- the lines of visits, counted from a number
-unfoldable pub lines_from : ℕ → List Visit → List ℕ
-lines_from number [] = []
-lines_from number (visit ∷ visits) = visit_line number visit ++ lines_from (suc number) visits
+unfoldable pub lines_from : List ℕ → ℕ → List Visit → List ℕ
+lines_from who number [] = []
+lines_from who number (visit ∷ visits) = line_of who number visit ++ lines_from who (suc number) visits
+
+-- of a link comes a connection
+abbrev pub connection : List ℕ
+connection = codes "connection "
+
+abbrev pub visit_line : ℕ → Visit → List ℕ
+visit_line number visit = line_of connection number visit
 
 abbrev pub visits_text : List Visit → List ℕ
-visits_text visits = lines_from 0 visits
+visits_text visits = lines_from connection 0 visits
 
 -- a visit has a line, unless its connection ended for want of memory
 abbrev pub HasLine : Visit → Type 0

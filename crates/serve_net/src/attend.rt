@@ -97,7 +97,7 @@ pub(crate) fn visit<R: Threads + Wait + Sync, D: Door, S: Sink>(
     ensures later { S.fault_count out.old ≤ S.fault_count out.new }
 {
     match attend(rt, alloc, service, door, hall) {
-        Ok(visit) => write_visit(alloc, number, visit, out),
+        Ok(visit) => write_visit(alloc, b"connection ", number, visit, out),
         Err(NoMemory) => Err(SinkEnd::NoMemory),
     }
 }

@@ -14,5 +14,5 @@ mod links;
 mod visit;
 
 pub use laws::two_connections_are_served;
-pub use links::{Many, serve_links};
-pub use visit::Visit;
+pub use links::{InTurn, serve_links};
+pub use visit::{Visit, write_visit};

@@ -17,10 +17,10 @@ use std::alloc::Global;
 use std::sync::Wait;
 use std::thread::Threads;
 
-/// What a service leaves: its status, which is 0 where all was served and told, 8 where the output failed, and 9 where memory ran out; and
-/// what each connection left, in order.
+/// What a service to one client after the other leaves: its status, which is 0 where all was served and told, 8 where the output failed, and 9
+/// where memory ran out; and what each connection left, in order.
 #[derive(Drop)]
-pub struct Many<L> {
+pub struct InTurn<L> {
     pub status: u8,
     pub served: Vec<Served<L>>,
 }
@@ -49,7 +49,7 @@ pub fn serve_links<R: Threads + Wait + Sync, D: Door, S: Sink>(
     door: &mut D,
     out: &mut S,
     sets: Vec<Vec<Box<dyn Listener>>>,
-) -> Many<D::Out>
+) -> InTurn<D::Out>
     requires shows { (over : Over) × Shows service.now over }
     requires few { All (λ s. length s.items ≤ 65536) sets.items }
     ensures statuses { IsTrue (is_end_status result.status) }
@@ -68,7 +68,7 @@ pub fn serve_links<R: Threads + Wait + Sync, D: Door, S: Sink>(
         served: Vec::new(alloc),
     };
     if hall.served.try_reserve(usize::from(count)).is_err() {
-        return Many {
+        return InTurn {
             status: Ending::OutOfMemory.status(),
             served: hall.served,
         };
@@ -77,14 +77,14 @@ pub fn serve_links<R: Threads + Wait + Sync, D: Door, S: Sink>(
         match visit(rt, alloc, service, number, door, &mut hall, out) {
             Ok(()) => {}
             Err(end) => {
-                return Many {
+                return InTurn {
                     status: status_of(end),
                     served: hall.served,
                 };
             }
         }
     }
-    Many {
+    InTurn {
         status: Ending::Written.status(),
         served: hall.served,
     }

@@ -3,7 +3,7 @@
 ghost use Rattle.std.specs.Prelude.{◌≡◌, ◌≤◌, ◌++◌, IfOk, OnOk, OnErr, IsErrOf};
 ghost use Rattle.io_edge.specs.Faults.{Rose};
 ghost use Rattle.io_edge.specs.Taken.{Appends, AppendsFront};
-ghost use Rattle.serve_net.specs.Visits.{said, end_word as the_end_word, visit_line as the_visit_line};
+ghost use Rattle.serve_net.specs.Visits.{said, end_word as the_end_word, line_of};
 
 use io_edge::{Sink, SinkEnd};
 use link_edge::End;
@@ -42,11 +42,11 @@ fn push_said(alloc: Global, line: &mut Vec<u8>, words: &[u8], number: u64) -> Re
 }
 
 /// The line of the visit of this number, counted from 0, with its line feed.
-fn visit_line(alloc: Global, number: u64, visit: Visit) -> Result<Vec<u8>, NoMemory>
-    ensures { IfOk result (λ line. line.items ≡ the_visit_line number visit) }
+fn visit_line(alloc: Global, who: &[u8], number: u64, visit: Visit) -> Result<Vec<u8>, NoMemory>
+    ensures { IfOk result (λ line. line.items ≡ line_of who.now number visit) }
 {
     let mut line = Vec::new(alloc);
-    push_said(alloc, &mut line, b"connection ", number)?;
+    push_said(alloc, &mut line, who, number)?;
     match visit {
         Visit::NoLink => line.extend_from_slice(b" door failed\n")?,
         Visit::Linked(end, requests) => {
@@ -59,19 +59,21 @@ fn visit_line(alloc: Global, number: u64, visit: Visit) -> Result<Vec<u8>, NoMem
     Ok(line)
 }
 
-/// Writes the line of the visit of this number, counted from 0. Where it fails, the sink took a front of it.
-pub(crate) fn write_visit<S: Sink>(
+/// Writes the line of the visit of this number, counted from 0: what comes of a link, with a space behind it, and what came of this one. Where
+/// it fails, the sink took a front of it.
+pub fn write_visit<S: Sink>(
     alloc: Global,
+    who: &[u8],
     number: u64,
     visit: Visit,
     out: &mut S,
 ) -> Result<(), SinkEnd>
-    ensures ok { OnOk result (Appends (S.taken out.old) (S.taken out.new) (the_visit_line number visit)) }
-    ensures front { OnErr result (AppendsFront (S.taken out.old) (S.taken out.new) (the_visit_line number visit)) }
+    ensures ok { OnOk result (Appends (S.taken out.old) (S.taken out.new) (line_of who.now number visit)) }
+    ensures front { OnErr result (AppendsFront (S.taken out.old) (S.taken out.new) (line_of who.now number visit)) }
     ensures failed { IsErrOf result SinkEnd.Failed → Rose (S.fault_count out.old) (S.fault_count out.new) }
     ensures later { S.fault_count out.old ≤ S.fault_count out.new }
 {
-    let line = visit_line(alloc, number, visit)?;
+    let line = visit_line(alloc, who, number, visit)?;
     out.put(&line)?;
     Ok(())
 }

@@ -17,20 +17,20 @@ returns-in_default-clause-usage_front g c = λ none.
 pub returns-in-Ok-Accepted-clause-served : goal.returns-in-Ok-Accepted-clause-served
 returns-in-Ok-Accepted-clause-served g c = λ done.
     offered_is (g.F.Files.told c.args.files.now) c.args.words.now (offer_as c.in-Some.offer) _ c.in-Some.ensures.offer
-    (serves_offer _ (g.F.Files.told c.args.files.now) (offer_as c.in-Some.offer) _ _ _ _ _ _ _ _ c.in-Ok-Accepted.service (rw c.in-Ok-Accepted.field-0-is at c.in-Ok-Accepted.ensures.shown) (rw c.in-Ok-Accepted.field-0-is at c.in-Ok-Accepted.ensures.judged) (c.serve_links.ensures.all done))
+    (serves_offer _ (g.F.Files.told c.args.files.now) (offer_as c.in-Some.offer) _ _ _ _ _ _ _ _ _ c.in-Ok-Accepted.service (rw c.in-Ok-Accepted.field-0-is at c.in-Ok-Accepted.ensures.shown) (rw c.in-Ok-Accepted.field-0-is at c.in-Ok-Accepted.ensures.judged) (c.serve_shown.ensures.all done))
 
 pub returns-in-Ok-Accepted-clause-complete : goal.returns-in-Ok-Accepted-clause-complete
 returns-in-Ok-Accepted-clause-complete g c =
     offered_is (g.F.Files.told c.args.files.now) c.args.words.now (offer_as c.in-Some.offer) _ c.in-Some.ensures.offer
-    (served_completes (offer_as c.in-Some.offer) c.serve_links.result.status _ _ _ _ (g.F.Files.told c.args.files.now) c.in-Ok-Accepted.service c.in-Some.ensures.requests (rw c.in-Ok-Accepted.field-0-is at c.in-Ok-Accepted.ensures.shown) (rw c.in-Ok-Accepted.field-0-is at c.in-Ok-Accepted.ensures.judged) c.serve_links.ensures.statuses c.serve_links.ensures.write)
+    (served_completes (offer_as c.in-Some.offer) c.serve_shown.result.status _ _ _ _ (g.F.Files.told c.args.files.now) c.in-Ok-Accepted.service c.in-Some.ensures.requests (rw c.in-Ok-Accepted.field-0-is at c.in-Ok-Accepted.ensures.shown) (rw c.in-Ok-Accepted.field-0-is at c.in-Ok-Accepted.ensures.judged) c.serve_shown.ensures.statuses c.serve_shown.ensures.write)
 
 pub returns-in-Ok-Accepted-clause-front : goal.returns-in-Ok-Accepted-clause-front
 returns-in-Ok-Accepted-clause-front g c = λ late.
     offered_is (g.F.Files.told c.args.files.now) c.args.words.now (offer_as c.in-Some.offer) _ c.in-Some.ensures.offer
-    (serves_part _ (g.F.Files.told c.args.files.now) (offer_as c.in-Some.offer) _ _ _ _ _ _ _ _ c.in-Ok-Accepted.service (rw c.in-Ok-Accepted.field-0-is at c.in-Ok-Accepted.ensures.shown) (rw c.in-Ok-Accepted.field-0-is at c.in-Ok-Accepted.ensures.judged) c.serve_links.result.status (c.serve_links.ensures.some late))
+    (serves_part _ (g.F.Files.told c.args.files.now) (offer_as c.in-Some.offer) _ _ _ _ _ _ _ _ _ c.in-Ok-Accepted.service (rw c.in-Ok-Accepted.field-0-is at c.in-Ok-Accepted.ensures.shown) (rw c.in-Ok-Accepted.field-0-is at c.in-Ok-Accepted.ensures.judged) c.serve_shown.result.status (c.serve_shown.ensures.some late))
 
 pub returns-in-Ok-Accepted-clause-unserved : goal.returns-in-Ok-Accepted-clause-unserved
-returns-in-Ok-Accepted-clause-unserved g c = λ other early. absurd (ends_late c.serve_links.result.status c.serve_links.ensures.statuses other early)
+returns-in-Ok-Accepted-clause-unserved g c = λ other early. absurd (ends_late c.serve_shown.result.status c.serve_shown.ensures.statuses other early)
 
 -- ---- what was refused
 
@@ -62,7 +62,7 @@ pub returns-in-Ok-Refused-clause-front : goal.returns-in-Ok-Refused-clause-front
 returns-in-Ok-Refused-clause-front g c = λ late.
     let r = c.refuse-in-Ok-Refused.ensures in
     offered_is (g.F.Files.told c.args.files.now) c.args.words.now (offer_as c.in-Some.offer) _ c.in-Some.ensures.offer
-    (refused_front (offer_as c.in-Some.offer) c.refuse-in-Ok-Refused.result.status _ _ ⊥ ⊥ (g.F.Files.told c.args.files.now) c.in-Ok-Refused.judged (rw c.in-Ok-Refused.field-0-is at c.in-Ok-Refused.ensures.judged) _ _ _ _ _ _ _ (record { none = r.none; left = refl; faults = refl }) (rw c.in-Ok-Refused.field-0-is at c.in-Ok-Refused.ensures.shown).text (r.front late))
+    (refused_front (offer_as c.in-Some.offer) c.refuse-in-Ok-Refused.result.status _ _ ⊥ ⊥ (g.F.Files.told c.args.files.now) c.in-Ok-Refused.judged (rw c.in-Ok-Refused.field-0-is at c.in-Ok-Refused.ensures.judged) _ _ _ _ _ _ _ _ (record { none = r.none.0; no_hub = r.none.1; left = refl; faults = refl }) (rw c.in-Ok-Refused.field-0-is at c.in-Ok-Refused.ensures.shown).text (r.front late))
 
 -- ---- the files that were asked for
 
@@ -71,8 +71,8 @@ returns-in_default-clause-files g c = no_files (g.F.Files.told c.args.files.now)
 
 pub returns-in-Ok-Accepted-clause-files : goal.returns-in-Ok-Accepted-clause-files
 returns-in-Ok-Accepted-clause-files g c =
-    shown_files (g.F.Files.told c.args.files.now) c.args.words.now (offer_as c.in-Some.offer) c.in-Some.ensures.offer c.in-Some.ensures.requests c.serve_links.result.status _ _
-    (rw c.in-Ok-Accepted.field-0-is at c.in-Ok-Accepted.ensures.asked) c.serve_links.ensures.statuses
+    shown_files (g.F.Files.told c.args.files.now) c.args.words.now (offer_as c.in-Some.offer) c.in-Some.ensures.offer c.in-Some.ensures.requests c.serve_shown.result.status _ _
+    (rw c.in-Ok-Accepted.field-0-is at c.in-Ok-Accepted.ensures.asked) c.serve_shown.ensures.statuses
 
 pub returns-in-Ok-Refused-clause-files : goal.returns-in-Ok-Refused-clause-files
 returns-in-Ok-Refused-clause-files g c =
@@ -101,7 +101,7 @@ returns-in_default-clause-kept g c =
 
 pub returns-in-Ok-Accepted-clause-kept : goal.returns-in-Ok-Accepted-clause-kept
 returns-in-Ok-Accepted-clause-kept g c =
-    served_grown _ _ _ _ _ _ _ _ _ _ c.in-Ok-Accepted.service c.serve_links.result.status (rw c.in-Ok-Accepted.field-0-is at c.in-Ok-Accepted.ensures.shown) c.serve_links.ensures.statuses c.serve_links.ensures.all c.serve_links.ensures.some
+    served_grown _ _ _ _ _ _ _ _ _ _ _ c.in-Some.offer.manner c.in-Ok-Accepted.service c.serve_shown.result.status (rw c.in-Ok-Accepted.field-0-is at c.in-Ok-Accepted.ensures.shown) c.serve_shown.ensures.statuses c.serve_shown.ensures.all c.serve_shown.ensures.some
 
 pub returns-in-Ok-Refused-clause-kept : goal.returns-in-Ok-Refused-clause-kept
 returns-in-Ok-Refused-clause-kept g c =

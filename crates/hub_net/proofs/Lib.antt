@@ -1,0 +1,7 @@
+mod Counting
+mod Gathering
+mod Visiting
+mod Writing
+mod Hubs
+mod Ending
+mod Sampled

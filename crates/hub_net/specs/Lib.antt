@@ -1,0 +1,4 @@
+pub mod Came
+pub mod Clients
+pub mod AtOnce
+pub mod Sample
