@@ -1,4 +1,4 @@
-//! Tests of links and doors in memory, of connections that are served over them, and of what a session shows.
+//! Tests of links and doors in memory, of connections and of a hub that are served over them, and of what a session shows.
 //!
 //! They stand apart from the crates that they test, since a crate with tests is proved twice: with them and without.
 #![tactic(auto)]
@@ -15,6 +15,8 @@ mod links;
 mod meeting;
 #[cfg(test)]
 mod running;
+#[cfg(test)]
+mod sharing;
 #[cfg(test)]
 mod shown;
 #[cfg(test)]

@@ -22,9 +22,11 @@ static REQUESTS: [&str; 5] = [
 #[derive(Drop)]
 pub struct Meeting {
     /// A turn is held, or was.
-    held: AtomicBool,
-    /// The link was polled again after it gave its second request.
-    polled: AtomicBool,
+    pub held: AtomicBool,
+    /// The link was polled again after it gave the request that is given while a turn is held.
+    pub polled: AtomicBool,
+    /// A client was told that the session is paused.
+    pub paused: AtomicBool,
     /// The gate held the turn no longer, though the link was not polled.
     gave_up: AtomicBool,
 }
@@ -34,6 +36,7 @@ impl Meeting {
         Meeting {
             held: AtomicBool::new(false),
             polled: AtomicBool::new(false),
+            paused: AtomicBool::new(false),
             gave_up: AtomicBool::new(false),
         }
     }
