@@ -176,6 +176,8 @@ class Commands(Client):
             self.go("continue")
 
     def do_wait(self, _):
+        while self.shares and not self.on.running and not self.on.notices and not self.press.pressed:
+            self.on.listen()
         self.settle()
         self.show()
 

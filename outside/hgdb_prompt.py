@@ -175,7 +175,8 @@ class Never:
 
 class Client:
     """The commands over a session, and what is known of it: breakpoints, the instance that was chosen, the place of the last stop, values
-    that were shown last, names and instances, expressions to show. `paint` gives a text its colour."""
+    that were shown last, names and instances, expressions to show. `paint` gives a text its colour; `shares` tells that other clients may lead the
+    session too."""
 
     def __init__(self, session, source=None, press=Never, paint=None):
         self.on, self.source, self.press = session, source or hgdb_source.Source(), press
@@ -185,7 +186,7 @@ class Client:
         self.known, self.names, self.paths, self.slots = {}, set(), set(), {}
         self.displays, self.shown_last, self.listsize, self.listed = {}, 0, LISTED, None
         self.listed_file = 0
-        self.failed, self.warned = False, False
+        self.failed, self.warned, self.shares = False, False, False
         # Tells of a stop that is left at once, so that no breakpoint is hit there.
         self.passing = lambda place: False
 
@@ -202,7 +203,7 @@ class Client:
 
     def catch_up(self):
         """Takes in the ends of runs that have come, and shows where it stands now."""
-        if self.on.running:
+        if self.on.running or self.shares:
             self.on.listen(0)
         while self.on.notices:
             self.come(self.on.notices.pop(0))
@@ -211,11 +212,14 @@ class Client:
     def come(self, notice):
         """Takes in the end of a run. A stop that all its breakpoints ignore goes on."""
         self.edge, self.place, self.hits, self.unshown = notice["notice"], None, [], True
+        other = notice.pop("other", False)
+        if other:
+            self.say("Another client led the session on")
         if self.edge == "stopped":
             self.stand(notice)
             if self.passing(notice):
                 return
-            ran = self.on.ran in ("continue", "reverse")
+            ran = self.on.ran in ("continue", "reverse") and not other
             found = self.points.fitting(notice, ran)
             self.hits = self.points.hit(found)
             if ran and found and not self.hits and not self.press.pressed:
@@ -236,9 +240,21 @@ class Client:
             elif self.press.pressed and not paused:
                 paused = True
                 self.paused(self.on.request("pause"))
+            elif self.shares:
+                self.on.listen(1)
+                self.seen()
             else:
                 self.on.listen()
         return self.edge == "stopped" and not self.press.pressed
+
+    def seen(self):
+        """Looks whether a run still goes on: where another client paused it, nobody else is told."""
+        if self.on.running and not self.on.notices:
+            reply = self.on.request("status")
+            if reply["ok"] and reply["mode"] == "idle" and not self.on.notices:
+                self.on.running = None
+                self.say("Another client paused the run")
+                self.paused(reply)
 
     def paused(self, reply):
         """Takes in the answer to a pause. Where the run had ended before, its notice tells where it stands."""
