@@ -176,10 +176,11 @@ class Commands(Client):
             self.go("continue")
 
     def do_wait(self, _):
-        while self.shares and not self.on.running and not self.on.notices and not self.press.pressed:
+        while self.shares and not (self.led or self.on.running or self.on.notices or self.press.pressed):
             self.on.listen()
         self.settle()
         self.show()
+        self.led = False
 
     def do_pause(self, _):
         reply = self.on.request("pause")
@@ -418,7 +419,8 @@ class Commands(Client):
         name, others = command_of(first)
         self.warned = False
         try:
-            self.catch_up()
+            if name != "wait":
+                self.catch_up()
             if name is None:
                 raise Failed(unknown(first, others))
             if form and (name not in ("print", "display") or form not in tuple("xdt")) or words and not COMMANDS[name][1]:

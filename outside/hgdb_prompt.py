@@ -176,7 +176,7 @@ class Never:
 class Client:
     """The commands over a session, and what is known of it: breakpoints, the instance that was chosen, the place of the last stop, values
     that were shown last, names and instances, expressions to show. `paint` gives a text its colour; `shares` tells that other clients may lead the
-    session too."""
+    session too, and `led` that one did since this one ran or waited; who types has seen that."""
 
     def __init__(self, session, source=None, press=Never, paint=None):
         self.on, self.source, self.press = session, source or hgdb_source.Source(), press
@@ -186,7 +186,7 @@ class Client:
         self.known, self.names, self.paths, self.slots = {}, set(), set(), {}
         self.displays, self.shown_last, self.listsize, self.listed = {}, 0, LISTED, None
         self.listed_file = 0
-        self.failed, self.warned, self.shares = False, False, False
+        self.failed, self.warned, self.shares, self.led = False, False, False, False
         # Tells of a stop that is left at once, so that no breakpoint is hit there.
         self.passing = lambda place: False
 
@@ -207,12 +207,14 @@ class Client:
             self.on.listen(0)
         while self.on.notices:
             self.come(self.on.notices.pop(0))
+            if self.shares:
+                self.on.listen(0)
         self.show()
 
     def come(self, notice):
         """Takes in the end of a run. A stop that all its breakpoints ignore goes on."""
         self.edge, self.place, self.hits, self.unshown = notice["notice"], None, [], True
-        other = notice.pop("other", False)
+        self.led = other = notice.pop("other", False)
         if other:
             self.say("Another client led the session on")
         if self.edge == "stopped":

@@ -16,7 +16,7 @@ import blocks, built, hgdb_prompt, websocket
 
 serve = built.other("serve")
 CLIENT = f"{built.HERE}/hgdb-client"
-WORDS = ("-w", "-x", "--replay", "--source", "--hgdb", "--record", "--help")
+WORDS = ("-w", "-x", "--name", "--replay", "--source", "--hgdb", "--record", "--help")
 SECONDS = 60
 # How a session begins, and each command behind that; `a` and `b` are the numbers of its breakpoints, and `d` that of its display. The
 # commands of `ALONE` ask the session nothing.

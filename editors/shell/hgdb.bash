@@ -20,7 +20,7 @@ _hgdb() {
   local word=${COMP_WORDS[COMP_CWORD]} kinds kind top=0
   COMPREPLY=()
   if [ "$COMP_CWORD" -eq 1 ]; then
-    COMPREPLY=($(compgen -W "trail compile symbols sim debug replay demo serve dap --help --version" -- "$word"))
+    COMPREPLY=($(compgen -W "trail compile symbols sim debug replay demo serve serveall dap --help --version" -- "$word"))
     return
   fi
   case ${COMP_WORDS[1]} in
@@ -28,6 +28,7 @@ _hgdb() {
     compile | symbols) kinds=(mode src top) ;;
     debug) kinds=(mode src stim req top) ;;
     serve) kinds=(mode src stim addr count top) ;;
+    serveall) kinds=(mode src stim addr clients top) ;;
     replay) kinds=(sym vcd scope req) ;;
     demo) kinds=(mode n req) ;;
     *) return ;;
@@ -43,6 +44,7 @@ _hgdb() {
     vcd) COMPREPLY=($(_hgdb_files "$word" vcd)) ;;
     addr) COMPREPLY=($(compgen -W "127.0.0.1:4711" -- "$word")) ;;
     count) COMPREPLY=($(compgen -W "1 2 3 4 5 6 7 8 9 10 11 12 13 14 15 16" -- "$word")) ;;
+    clients) COMPREPLY=($(compgen -W "1 2 3 4 5 6 7 8" -- "$word")) ;;
     top) COMPREPLY=($(compgen -W "$(_hgdb_modules "${COMP_WORDS[3]}")" -- "$word")) ;;
     parameter)
       if [ "$top" -gt 0 ]; then
@@ -62,7 +64,7 @@ _hgdb_client() {
     --source) COMPREPLY=($(compgen -d -- "$word")) ;;
     --replay) COMPREPLY=($(_hgdb_files "$word" json)) ;;
     *.json) COMPREPLY=($(_hgdb_files "$word" vcd)) ;;
-    *) COMPREPLY=($(compgen -W "-w -x --replay --source --hgdb --record --help 127.0.0.1:4711" -- "$word") $(_hgdb_files "$word" hg)) ;;
+    *) COMPREPLY=($(compgen -W "-w -x --name --replay --source --hgdb --record --help 127.0.0.1:4711" -- "$word") $(_hgdb_files "$word" hg)) ;;
   esac
   compopt -o filenames 2>/dev/null
 }
