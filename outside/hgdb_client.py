@@ -91,9 +91,9 @@ class Session:
     """What sessions of both kinds have. `record`, a file, is written each request behind a `>` and each line behind a `<`.
 
     `running` is the command of the run that is under way, and `ran` that of the last one. `notices` are the ends of runs that nobody
-    took yet; one whose run another client of the session began has `other`. `rows` are what listeners told. `waker`, where it is not None, ends a wait: it has a `fileno` that is readable once the
-    wait is to end, `drain`, which makes it silent again, and `late`, which is called where a reply is then still not there. Within `steady`
-    no request is given up."""
+    took yet; one whose run another client of the session began has `other`. `rows` are what listeners told. `waker`, where it is not None,
+    ends a wait: it has a `fileno` that is readable once the wait is to end, `drain`, which makes it silent again, and `late`, which is called
+    where a reply is then still not there. Within `steady` no request is given up."""
 
     def __init__(self, record=None):
         self.record, self.running, self.ran, self.notices, self.rows = record, None, None, [], []
